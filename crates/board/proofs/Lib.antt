@@ -1,0 +1,11 @@
+pub mod JournalLists
+pub mod Counts
+pub mod Facts
+pub mod LawSteps
+pub mod RuleSteps
+pub mod FirstState
+pub mod Differences
+pub mod NoteLists
+pub mod Backed
+pub mod SharedNotes
+pub mod Gathered

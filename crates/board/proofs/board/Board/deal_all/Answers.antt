@@ -1,0 +1,14 @@
+use Rattle.std.proofs.Common.{arith, ◌∙◌, ◌<◌}
+use Rattle.std.proofs.lemmas.Grind.{common_steps}
+use Rattle.board.proofs.Backed.{peel_blanks}
+use Rattle.board.proofs.board.Board.deal_all.Goals as goal
+
+pub loop-preserved : goal.loop-preserved
+loop-preserved g c =
+    let l = c.loop.invariant.left in let t = c.loop-test.true in let lt : 0 < l.0 = omega arith in
+    let p = peel_blanks c.args.self.now.plan l.0 c.loop.seat.me.0 c.deal.new.seat.me.0 l.2 lt c.in_ok-deal.ensures.ok.1 in
+    record {
+      left = (p.0, omega arith, p.2);
+      place = (c.deal.ensures.seat.0 ∙ c.loop.invariant.place.0, c.deal.ensures.seat.1);
+      made = grind (arith, common_steps);
+    }

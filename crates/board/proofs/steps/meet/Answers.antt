@@ -1,0 +1,11 @@
+use Rattle.std.proofs.Common.{rules}
+use Rattle.board.specs.Rule.{plan_of}
+use Rattle.board.proofs.RuleSteps.{allows_compare}
+use Rattle.board.proofs.steps.meet.Goals as goal
+
+pub load-requires : goal.load-requires
+load-requires c = (
+  search rules,
+  c.requires.size,
+  allows_compare (plan_of c.args.words.now.key) c.args.words.now.key.passes c.args.words.now.table_id.slots c.gather.new.seat.id c.gather.new.seat.me,
+)

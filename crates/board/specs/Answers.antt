@@ -1,0 +1,7 @@
+-- A fact for each answer of a delivery.
+use Rattle.board.specs.declared.answers.Readiness.{Readiness}
+use Rattle.board.specs.declared.answers.Readiness.TheVariants.{Ready, Waiting}
+
+abbrev pub MatchReadiness : Readiness → Type 0 → Type 0 → Type 0
+MatchReadiness Ready p q = p
+MatchReadiness Waiting p q = q

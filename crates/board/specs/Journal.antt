@@ -1,0 +1,89 @@
+-- What the journals of all passes say, counted. A node is a number, and its dependencies are the list at that place of the plan. An edge is a pair: a dependency, and the node that depends on it.
+use Rattle.std.specs.Prelude.{◌≡◌, ◌⊎◌, ℕ, zero, suc, ◌+◌, ◌≤◌, Bool, cond, eqb, List, [], ◌∷◌, length, slice_index, slice_index_or, Option, None, Some}
+use Rattle.board.specs.declared.journal.Journal.{Journal}
+
+-- how often x stands in the list
+abbrev pub times : ℕ → List ℕ → ℕ
+times x [] = 0
+times x (y ∷ ys) = cond (eqb x y) 1 0 + times x ys
+
+-- how often the edge from d to u does
+abbrev pub edge_times : ℕ → ℕ → List (ℕ × ℕ) → ℕ
+edge_times d u [] = 0
+edge_times d u (e ∷ es) = cond (eqb d e.0) (cond (eqb u e.1) 1 0) 0 + edge_times d u es
+
+-- how many of these edges lead into u
+abbrev pub edges_into : ℕ → List (ℕ × ℕ) → ℕ
+edges_into u [] = 0
+edges_into u (e ∷ es) = cond (eqb u e.1) 1 0 + edges_into u es
+
+-- f of each journal, added up
+abbrev pub tally : (Journal → ℕ) → List Journal → ℕ
+tally f [] = 0
+tally f (j ∷ js) = f j + tally f js
+
+-- P holds of each journal
+abbrev pub Each : (Journal → Type 0) → List Journal → Type 0
+Each P [] = Unit {0}
+Each P (j ∷ js) = P j × Each P js
+
+-- j is one of these journals
+abbrev pub Among : Journal → List Journal → Type 0
+Among j [] = ⊥
+Among j (k ∷ ks) = (k ≡ j) ⊎ Among j ks
+
+-- the dependencies of a node
+abbrev pub deps : List (List ℕ) → ℕ → List ℕ
+deps plan n = slice_index_or plan n []
+
+abbrev pub bit : Bool → ℕ
+bit b = cond b 1 0
+
+-- how often a node was started, readied or finished, an edge delivered, and the halt set, by all passes together
+abbrev pub starts : ℕ → List Journal → ℕ
+starts n js = tally (λ j. times n j.started) js
+
+abbrev pub readies : ℕ → List Journal → ℕ
+readies n js = tally (λ j. times n j.readied) js
+
+abbrev pub finishes : ℕ → List Journal → ℕ
+finishes n js = tally (λ j. times n j.finished) js
+
+abbrev pub delivers : ℕ → ℕ → List Journal → ℕ
+delivers d u js = tally (λ j. edge_times d u j.delivered) js
+
+abbrev pub sets : List Journal → ℕ
+sets js = tally (λ j. bit j.set) js
+
+-- how many edges into u were delivered, and how many nodes finished, by all passes together
+abbrev pub delivered_into : ℕ → List Journal → ℕ
+delivered_into u js = tally (λ j. edges_into u j.delivered) js
+
+abbrev pub finished_count : List Journal → ℕ
+finished_count js = tally (λ j. length j.finished) js
+
+-- how many of these dependencies of u have not delivered their edge
+abbrev pub missing : List Journal → ℕ → List ℕ → ℕ
+missing js u [] = 0
+missing js u (d ∷ ds) = cond (eqb (delivers d u js) 0) 1 0 + missing js u ds
+
+-- how many of the first k nodes are not finished
+abbrev pub unfinished : List Journal → ℕ → ℕ
+unfinished js zero = 0
+unfinished js (suc k) = cond (eqb (finishes k js) 0) 1 0 + unfinished js k
+
+-- n is at most the number that was seen, if one was
+abbrev pub AtMost : ℕ → Option ℕ → Type 0
+AtMost n None = Unit {0}
+AtMost n (Some k) = n ≤ k
+
+-- the word of a node that was started: the greatest of 64 bits
+abbrev pub mark : ℕ
+mark = 18446744073709551615
+
+-- a board has a word for each node, then the count, then the halt
+abbrev pub count_word : List (List ℕ) → List ℕ → ℕ
+count_word plan words = slice_index words (length plan)
+
+abbrev pub halt_word : List (List ℕ) → List ℕ → ℕ
+halt_word plan words = slice_index words (length plan + 1)

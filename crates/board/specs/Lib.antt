@@ -1,0 +1,6 @@
+pub mod Journal
+pub mod Lawful
+pub mod Rule
+pub mod Steps
+pub mod Answers
+pub mod Views

@@ -1,0 +1,35 @@
+//! Readiness words and result cells of a dependency graph, shared by threads.
+//!
+//! A [`Board`] is made from a plan, which gives each node's dependencies. It has one atomic word a
+//! node, which counts the edges that are missing and becomes a mark once the node is started; one
+//! word that counts unfinished nodes; one word for the halt; and a result cell a node, which is set
+//! once. Each thread works with a [`Pass`] of its own. What every contract speaks of is the pass's
+//! journal: what it started, delivered, readied, finished and saw. `specs/Lawful.antt` has the law
+//! that the words and the journals of all passes meet after every step.
+//!
+//! No call waits, and none is tried again. Memory is taken in `new` and `publish` alone.
+#![tactic(auto)]
+
+mod answers;
+mod board;
+mod closed;
+mod closing;
+mod copying;
+mod journal;
+mod laws;
+mod memory;
+mod opening;
+mod pass;
+mod plays;
+mod seats;
+mod steps;
+mod table;
+#[cfg(test)]
+mod tests;
+
+pub use answers::{NoMemory, NotReady, Readiness};
+pub use board::Board;
+pub use closed::Closed;
+pub use journal::Journal;
+pub use laws::counts_are_differences;
+pub use pass::{Pass, Published};

@@ -1,0 +1,159 @@
+//! What a pass knows of the cells' values.
+//!
+//! A note knows for contracts alone: it has no bytes and cannot be asked. So a flag for each cell
+//! says at run time whether its note knows. The model's invariant is that flags and notes agree.
+ghost use Rattle.std.specs.Prelude.{◌≢◌, IfSome, ◌≡◌, ◌<◌, ℕ, length, slice_index, Option, None, Some, MatchOption, IfOk, map, true};
+ghost use Rattle.once_cell.specs.Once.{cell_name, Agrees};
+ghost use Rattle.board.specs.Views.{Union, Same, Keeps, Agree, known_at, learned, is_known, cells_of, knowns_of, AgreeBelow};
+
+use crate::copying::copy_note;
+use once_cell::race::{Note, OnceBox};
+use std::alloc::{AllocError, Global};
+use std::marker::Model;
+
+/// A note for each cell, and a flag where it knows the value.
+#[derive(Drop)]
+pub struct Memory<V> {
+    notes: Vec<Note<V>>,
+    flags: Vec<bool>,
+}
+
+impl<V> Model for Memory<V> {
+    ghost use Rattle.std.specs.Prelude.{◌≡◌, map};
+    ghost use Rattle.board.specs.Views.{MemoryView, is_known};
+
+    ghost Value = { MemoryView V };
+
+    ghost view = { λ m. record { cells = map (λ n. n.cell) m.notes.items; known = map (λ n. n.known) m.notes.items } };
+
+    ghost invariant = { λ m. m.flags.items ≡ map (λ n. is_known n.known) m.notes.items };
+}
+
+impl<V> Memory<V> {
+    /// Whether the value of node `n` is known.
+    pub fn has(&self, n: usize) -> bool
+        requires { n < length self.now.known }
+        ensures { result ≡ is_known (known_at self.now n) }
+    {
+        self.flags[n]
+    }
+
+    /// The value in node `n`'s cell, which is known from then on. A known value is always there.
+    pub fn get<'a>(&mut self, cell: &'a OnceBox<V>, n: usize) -> Option<&'a V>
+        requires node { n < length self.old.known }
+        requires cell { slice_index self.old.cells n ≡ cell_name cell.now }
+        ensures value { MatchOption result ((known_at self.old n ≡ None) × (self.new ≡ self.old)) (λ v. Agrees (known_at self.old n) v.now × (self.new ≡ learned self.old n v.now)) }
+        ensures now { IfSome result (λ v. known_at self.new n ≡ Some v.now) }
+        ensures others { (k : ℕ) → k ≢ n → known_at self.new k ≡ known_at self.old k }
+        ensures keeps { Keeps (known_at self.old) (known_at self.new) }
+    {
+        match cell.get_as(&mut self.notes[n]) {
+            None => None,
+            Some(value) => {
+                self.flags[n] = true;
+                Some(value)
+            }
+        }
+    }
+
+    /// Takes a note that knows, of node `n`'s cell, in the place of the one there.
+    pub fn learn(&mut self, n: usize, note: Note<V>)
+        requires node { n < length self.old.known }
+        requires note { (slice_index self.old.cells n ≡ note.cell) × (is_known note.known ≡ true) }
+        ensures value { (v : V) → note.known ≡ Some v → (self.new ≡ learned self.old n v) × (known_at self.new n ≡ Some v) }
+        ensures others { (k : ℕ) → k ≢ n → known_at self.new k ≡ known_at self.old k }
+    {
+        self.notes[n] = note;
+        self.flags[n] = true;
+    }
+}
+
+/// Both as before. Where both know a value, it is the same.
+fn compare_all<V>(ours: &mut Vec<Note<V>>, theirs: &mut Vec<Note<V>>)
+    requires { cells_of theirs.old.items ≡ cells_of ours.old.items }
+    ensures same { (ours.new.items ≡ ours.old.items) × (theirs.new.items ≡ theirs.old.items) }
+    ensures agree { AgreeBelow (length ours.old.items) (knowns_of ours.old.items) (knowns_of theirs.old.items) }
+{
+    for i in 0..ours.len() {
+        let copy = theirs[i].again();
+        ours[i].compare(copy);
+    }
+}
+
+impl<V> Memory<V> {
+    /// What is known of the cell goes to `note`.
+    pub fn tell(&self, n: usize, note: &mut Note<V>)
+        requires { n < length self.now.known }
+        ensures { (note.new.cell ≡ slice_index self.now.cells n) × (note.new.known ≡ known_at self.now n) }
+    {
+        copy_note(&self.notes[n], note);
+    }
+
+    /// A note of node `n`'s cell.
+    fn another(&mut self, n: usize) -> Note<V>
+        requires { n < length self.old.known }
+        ensures { (self.new ≡ self.old) × (result.cell ≡ slice_index self.old.cells n) }
+    {
+        self.notes[n].again()
+    }
+
+    /// Where the note knows too, it knows the same.
+    fn check(&mut self, n: usize, note: Note<V>)
+        requires { (n < length self.old.known) × (slice_index self.old.cells n ≡ note.cell) }
+        ensures { (self.new ≡ self.old) × Same (known_at self.old n) note.known }
+    {
+        self.notes[n].compare(note);
+    }
+
+    /// What the other memory knows of node `n` is known here too.
+    fn add(&mut self, other: &Memory<V>, n: usize)
+        requires node { (n < length self.old.known) × (n < length other.now.known) }
+        requires cells { other.now.cells ≡ self.old.cells }
+        ensures cells { (self.new.cells ≡ self.old.cells) × (length self.new.known ≡ length self.old.known) }
+        ensures here { Union (known_at self.old n) (known_at other.now n) (known_at self.new n) }
+        ensures others { (k : ℕ) → k ≢ n → known_at self.new k ≡ known_at self.old k }
+    {
+        if other.has(n) {
+            let mut note = self.another(n);
+            other.tell(n, &mut note);
+            if self.has(n) {
+                self.check(n, note);
+            } else {
+                self.learn(n, note);
+            }
+        }
+    }
+
+    /// What either knew.
+    pub fn merge(&mut self, other: &Memory<V>)
+        requires { (other.now.cells ≡ self.old.cells) × (length other.now.known ≡ length self.old.known) }
+        ensures cells { (self.new.cells ≡ self.old.cells) × (length self.new.known ≡ length self.old.known) }
+        ensures known { (n : ℕ) → Union (known_at self.old n) (known_at other.now n) (known_at self.new n) }
+    {
+        for n in 0..self.flags.len() {
+            self.add(other, n);
+        }
+    }
+
+    /// Both as before. Where both know a value, it is the same.
+    pub fn compare(&mut self, other: &mut Memory<V>)
+        requires { other.old.cells ≡ self.old.cells }
+        ensures same { (self.new ≡ self.old) × (other.new ≡ other.old) }
+        ensures agree { Agree (known_at self.old) (known_at other.old) }
+    {
+        compare_all(&mut self.notes, &mut other.notes);
+    }
+}
+
+/// A note that knows nothing for each cell.
+pub fn fresh<V>(alloc: Global, cells: &[OnceBox<V>]) -> Result<Memory<V>, AllocError>
+    ensures { IfOk result (λ m. (m.cells ≡ map cell_name cells.now) × (m.known ≡ map (λ _. None) cells.now)) }
+{
+    let mut notes = Vec::new(alloc);
+    let mut flags = Vec::new(alloc);
+    for cell in cells {
+        notes.push(cell.note())?;
+        flags.push(false)?;
+    }
+    Ok(Memory { notes, flags })
+}

@@ -1,0 +1,5 @@
+pub mod Keys
+pub mod Skip
+pub mod Turns
+pub mod Same
+pub mod TypeLemmas

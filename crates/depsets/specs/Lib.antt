@@ -1,0 +1,12 @@
+pub mod Rose
+pub mod Keys
+pub mod Flat
+pub mod Own
+pub mod Elements
+pub mod Orders
+pub mod Refusals
+pub mod Trees
+pub mod Falls
+pub mod Skip
+pub mod Listed
+pub mod Walker

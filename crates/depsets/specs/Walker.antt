@@ -1,0 +1,8 @@
+-- What a walker has seen.
+use Rattle.depsets.specs.Skip.{Walk}
+use Rattle.depsets.specs.declared.depset.Id.{Id}
+use Rattle.depsets.specs.declared.element.Element.{Element}
+use Rattle.depsets.specs.declared.listing.Walker.{Walker}
+
+abbrev pub walk_of : Walker → Walk Id Element
+walk_of w = record { seen = w.seen.keys; items = w.items.keys; steps = w.cursor.steps }

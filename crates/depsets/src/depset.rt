@@ -1,0 +1,306 @@
+//! Depsets as shared trees.
+//!
+//! A depset is one counted node, which has its children as a list by place, so a second name of it costs
+//! a count, and a depset over others costs its direct elements and its children. What the tests of a new
+//! depset ask of the whole tree below is kept in each node: its levels, and the type of the elements.
+ghost use Rattle.std.specs.Prelude.{◌≡◌, ◌<◌, ◌≤◌, ◌+◌, ◌↔◌, ◌⊎◌, Bool, true, false, None, Some, [], IfOk, IsTrue, MatchResult};
+ghost use Rattle.depsets.specs.Rose.{children, label, node, roses, depth, depths};
+ghost use Rattle.depsets.specs.Orders.{fits, all_fit};
+ghost use Rattle.depsets.specs.Elements.{elements, elements_of, is_uniform, first_type, goes_on, type_after, joined};
+ghost use Rattle.depsets.specs.Refusals.{refusal};
+ghost use Rattle.depsets.specs.Orders.{is_preorder};
+
+use crate::{Element, ElementType};
+use plain::Text;
+use std::alloc::{AllocError, Global};
+use std::marker::Model;
+use std::sync::Arc;
+use thiserror::Error;
+
+/// How many levels a depset has at most: one without children has one. (This project's own limit.)
+pub const LEVELS: u32 = 1000;
+
+/// What tells depsets apart: who made it, and its number among those of that maker.
+///
+/// The owner is the path of the file or the label of the target whose evaluation made the depset.
+#[derive(PartialEq, Eq, Hash, Drop)]
+pub struct Id {
+    pub owner: Text,
+    pub serial: u64,
+}
+
+impl Id {
+    /// Another name of the same id. Its text is shared and not copied.
+    pub fn share(&self) -> Result<Id, AllocError>
+        ensures { IfOk result (λ i. i ≡ self.now) }
+    {
+        let owner = self.owner.share()?;
+        Ok(Id {
+            owner,
+            serial: self.serial,
+        })
+    }
+}
+
+/// The order of a depset's listing (Bazel's documentation of depsets, "Order").
+#[derive(Clone, Copy, PartialEq, Eq, Debug)]
+pub enum Order {
+    /// Listed as `Postorder`, and goes with both others. (Bazel leaves this order open.)
+    Default,
+    /// The children's elements from left to right, and then the direct ones.
+    Postorder,
+    /// The direct elements, and then the children's from left to right.
+    Preorder,
+}
+
+impl Order {
+    /// Whether the direct elements come before those of the children.
+    pub fn is_preorder(self) -> bool
+        ensures { result ≡ is_preorder self }
+    {
+        matches!(self, Order::Preorder)
+    }
+
+    /// Whether a depset of this order may have a child of that one: they are equal, or one is the default.
+    pub fn fits(self, child: Order) -> bool
+        ensures { result ≡ fits self child }
+    {
+        self == child || self == Order::Default || child == Order::Default
+    }
+}
+
+/// Why a depset is not made.
+#[derive(PartialEq, Eq, Debug, Drop, Error)]
+pub enum DepsetError {
+    /// Two elements, at it or below it, have different types.
+    #[error("the elements of a depset are of one type")]
+    Mixed,
+    /// A child's order is another, and neither is the default.
+    #[error("the orders of a depset and of its child do not go together")]
+    Order,
+    /// It would have more than 1,000 levels.
+    #[error("a depset has at most 1,000 levels")]
+    Deep,
+    /// Memory for the node was refused.
+    #[error("no memory")]
+    NoMemory,
+}
+
+/// A depset, whose parts may be shared.
+#[derive(Drop)]
+#[cycle(depset)]
+pub struct Depset {
+    node: Arc<Node>,
+}
+
+#[derive(Drop)]
+#[cycle(depset)]
+struct Node {
+    id: Id,
+    order: Order,
+    direct: Vec<Element>,
+    children: Vec<Depset>,
+    levels: u32,
+    element_type: Option<ElementType>,
+}
+
+impl Model for Depset {
+    ghost use Rattle.depsets.specs.Rose.{Rose, coded_rose, weight};
+    ghost use Rattle.depsets.specs.Own.{Own, own_code};
+
+    ghost Value = { Rose Own };
+
+    ghost coded = { coded_rose own_code };
+
+    ghost use Rattle.depsets.specs.Trees.{tree_of, IsKept};
+
+    ghost view = { λ d. tree_of d.node.value };
+
+    ghost invariant = { λ d. IsKept d.node.value };
+
+    ghost size = { weight };
+
+    ghost use Rattle.depsets.specs.Falls.{deep_le-weight};
+
+    ghost size_decreases = { λ d h. deep_le-weight d.node.value };
+}
+
+impl Depset {
+    /// A depset of these parts. It costs the direct elements and the children, and nothing below them.
+    ///
+    /// # Errors
+    ///
+    /// The first that applies of `Mixed`, `Order` and `Deep`; `NoMemory` may stand in place of any answer.
+    pub fn new(
+        alloc: Global,
+        id: Id,
+        order: Order,
+        direct: Vec<Element>,
+        children: Vec<Depset>,
+    ) -> Result<Depset, DepsetError>
+        ensures { let tree = node (record { id = id; order = order; direct = direct.items }) (roses children.items) in
+            MatchResult result (λ d. (d ≡ tree) × (refusal tree ≡ None)) (λ e. (e ≡ DepsetError.NoMemory) ⊎ (refusal tree ≡ Some e)) }
+    {
+        let known = match type_of_direct(direct.as_slice()) {
+            Ok(known) => known,
+            Err(mixed) => return Err(mixed),
+        };
+        let element_type = match type_with_children(known, children.as_slice()) {
+            Ok(element_type) => element_type,
+            Err(mixed) => return Err(mixed),
+        };
+        if !children_fit(order, children.as_slice()) {
+            return Err(DepsetError::Order);
+        }
+        let below = most_levels(children.as_slice());
+        if below >= LEVELS {
+            return Err(DepsetError::Deep);
+        }
+        let node = Node {
+            id,
+            order,
+            direct,
+            children,
+            levels: below + 1,
+            element_type,
+        };
+        match Arc::new(alloc, node) {
+            Ok(node) => Ok(Depset { node }),
+            Err(_) => Err(DepsetError::NoMemory),
+        }
+    }
+
+    /// Another name of the same depset: one count more, and no copy.
+    pub fn share(&self) -> Result<Depset, AllocError>
+        ensures { IfOk result (λ d. d ≡ self.now) }
+    {
+        let node = Arc::try_clone(&self.node)?;
+        Ok(Depset { node })
+    }
+
+    /// Its id.
+    pub fn id(&self) -> &Id
+        ensures { result.now ≡ (label self.now).id }
+    {
+        &self.node.id
+    }
+
+    /// The order that it was made with.
+    pub fn order(&self) -> Order
+        ensures { result ≡ (label self.now).order }
+    {
+        self.node.order
+    }
+
+    /// Its own elements, without those of its children.
+    pub fn direct(&self) -> &[Element]
+        ensures { result.now ≡ (label self.now).direct }
+    {
+        self.node.direct.as_slice()
+    }
+
+    /// The depsets directly below it.
+    pub fn children(&self) -> &[Depset]
+        ensures { result.now ≡ children self.now }
+    {
+        self.node.children.as_slice()
+    }
+
+    /// How many levels it has: one without children has one.
+    pub fn levels(&self) -> u32
+        ensures levels { result ≡ depth self.now }
+        ensures bounded { result ≤ LEVELS }
+    {
+        self.node.levels
+    }
+
+    /// The type of all elements at it and below it, or None where there is none.
+    pub fn element_type(&self) -> Option<ElementType>
+        ensures first { result ≡ first_type (elements self.now) }
+        ensures uniform { is_uniform (elements self.now) ≡ true }
+    {
+        self.node.element_type
+    }
+
+    /// Whether neither it nor a depset below it has an element.
+    pub fn is_empty(&self) -> bool
+        ensures { IsTrue result ↔ (elements self.now ≡ []) }
+    {
+        self.element_type().is_none()
+    }
+}
+
+/// The type of these elements, as far as they have one.
+fn type_of_direct(direct: &[Element]) -> Result<Option<ElementType>, DepsetError>
+    ensures { MatchResult result (λ t. (is_uniform direct.now ≡ true) × (t ≡ first_type direct.now)) (λ e. (e ≡ DepsetError.Mixed) × (is_uniform direct.now ≡ false)) }
+{
+    let mut known = None;
+    for element in direct {
+        match joined(known, Some(element.element_type())) {
+            Ok(both) => known = both,
+            Err(mixed) => return Err(mixed),
+        }
+    }
+    Ok(known)
+}
+
+/// The type of elements of the type that is known, if any, and of all elements of the children.
+fn type_with_children(
+    known: Option<ElementType>,
+    children: &[Depset],
+) -> Result<Option<ElementType>, DepsetError>
+    ensures { MatchResult result (λ t. (goes_on known (elements_of (roses children.now)) ≡ true) × (t ≡ type_after known (elements_of (roses children.now)))) (λ e. (e ≡ DepsetError.Mixed) × (goes_on known (elements_of (roses children.now)) ≡ false)) }
+{
+    let mut known = known;
+    for child in children {
+        match joined(known, child.element_type()) {
+            Ok(both) => known = both,
+            Err(mixed) => return Err(mixed),
+        }
+    }
+    Ok(known)
+}
+
+/// The type of both, where neither or only one has elements or their types are the same.
+fn joined(
+    known: Option<ElementType>,
+    next: Option<ElementType>,
+) -> Result<Option<ElementType>, DepsetError>
+    ensures { MatchResult result (λ t. joined known next ≡ Some t) (λ e. (e ≡ DepsetError.Mixed) × (joined known next ≡ None)) }
+{
+    match (known, next) {
+        (None, _) => Ok(next),
+        (Some(_), None) => Ok(known),
+        (Some(a), Some(b)) => {
+            if a == b {
+                Ok(known)
+            } else {
+                Err(DepsetError::Mixed)
+            }
+        }
+    }
+}
+
+/// Whether each child may stand under the order.
+fn children_fit(order: Order, children: &[Depset]) -> bool
+    ensures { result ≡ all_fit order (roses children.now) }
+{
+    for child in children {
+        if !order.fits(child.order()) {
+            return false;
+        }
+    }
+    true
+}
+
+/// The most levels that one of these has, 0 where there is none.
+fn most_levels(children: &[Depset]) -> u32
+    ensures levels { result ≡ depths (roses children.now) }
+    ensures bounded { result ≤ LEVELS }
+{
+    let mut most = 0;
+    for child in children {
+        most = most.max(child.levels());
+    }
+    most
+}

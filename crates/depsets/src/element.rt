@@ -1,0 +1,74 @@
+//! What a depset may hold: strings, whole numbers, bools, labels and Files, all plain data.
+ghost use Rattle.std.specs.Prelude.{◌≡◌, IfOk};
+ghost use Rattle.depsets.specs.Elements.{type_of, same_element};
+
+use plain::Text;
+use std::alloc::AllocError;
+
+/// A file: its path, and the label of the target or of the source file that it belongs to.
+///
+/// Two are equal where path and owner are.
+#[derive(PartialEq, Eq, Hash, Drop)]
+pub struct FileRef {
+    pub path: Text,
+    pub owner: Text,
+}
+
+impl FileRef {
+    /// Another name of the same file. Its texts are shared and not copied.
+    pub fn share(&self) -> Result<FileRef, AllocError>
+        ensures { IfOk result (λ f. f ≡ self.now) }
+    {
+        let path = self.path.share()?;
+        let owner = self.owner.share()?;
+        Ok(FileRef { path, owner })
+    }
+}
+
+/// An element of a depset. A label is its text.
+#[derive(PartialEq, Eq, Hash, Drop)]
+pub enum Element {
+    Text(Text),
+    Number(i64),
+    Truth(bool),
+    Label(Text),
+    File(FileRef),
+}
+
+/// The type of an element: all elements of a depset and of those below it have one.
+#[derive(Clone, Copy, PartialEq, Eq, Debug)]
+pub enum ElementType {
+    Text,
+    Number,
+    Truth,
+    Label,
+    File,
+}
+
+impl Element {
+    /// Another name of the same element. Its texts are shared and not copied.
+    pub fn share(&self) -> Result<Element, AllocError>
+        ensures { IfOk result (λ e. e ≡ self.now) }
+    {
+        match self {
+            Element::Text(text) => Ok(Element::Text(text.share()?)),
+            Element::Number(number) => Ok(Element::Number(*number)),
+            Element::Truth(truth) => Ok(Element::Truth(*truth)),
+            Element::Label(text) => Ok(Element::Label(text.share()?)),
+            Element::File(file) => Ok(Element::File(file.share()?)),
+        }
+    }
+
+    /// Its type.
+    pub fn element_type(&self) -> ElementType
+        ensures { result ≡ type_of self.now }
+    {
+        match self {
+            Element::Text(_) => ElementType::Text,
+            Element::Number(_) => ElementType::Number,
+            Element::Truth(_) => ElementType::Truth,
+            Element::Label(_) => ElementType::Label,
+            Element::File(_) => ElementType::File,
+        }
+    }
+}

@@ -1,0 +1,22 @@
+//! The syntax of `BUILD` files and modules: from the bytes of a text to its logical lines, or to its first fault.
+//!
+//! Three passes, each over the whole text: its characters ([`characters`]), its tokens ([`begins`] says what begins at
+//! a byte, [`scan`] goes from one to the next), its brackets and columns ([`layout`]). [`lines`] joins them. Tokens are
+//! places in the text and own no memory.
+#![tactic(auto)]
+
+mod begins;
+mod characters;
+mod fault;
+mod layout;
+mod lines;
+mod numbers;
+mod scan;
+mod stack;
+mod strings;
+mod token;
+mod words;
+
+pub use fault::{FaultKind, ParseStop, SyntaxFault};
+pub use lines::{Lines, logical_lines};
+pub use token::{Kind, Mark, Span, Token, Word};

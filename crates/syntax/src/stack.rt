@@ -1,0 +1,56 @@
+//! A stack, seen from its top.
+
+ghost use Rattle.std.specs.Prelude.{◌≡◌, ◌<◌, List, [], ◌∷◌, length, reverse, IfOk, MatchOption};
+
+use std::alloc::{AllocError, Global};
+use std::marker::Model;
+
+/// A stack of plain values; the list that a clause sees has its top first.
+#[derive(Drop)]
+pub(crate) struct Stack<T: Copy> {
+    items: Vec<T>,
+}
+
+impl<T: Copy> Model for Stack<T> {
+    ghost use Rattle.std.specs.Prelude.{List, reverse};
+
+    ghost Value = { List T };
+
+    ghost view = { λ s. reverse s.items.items };
+}
+
+impl<T: Copy> Stack<T> {
+    pub(crate) fn new(alloc: Global) -> Self
+        ensures { result ≡ [] }
+    {
+        Stack {
+            items: Vec::new(alloc),
+        }
+    }
+
+    pub(crate) fn len(&self) -> usize
+        ensures { result ≡ length self.now }
+    {
+        self.items.len()
+    }
+
+    pub(crate) fn push(&mut self, item: T) -> Result<(), AllocError>
+        ensures { IfOk result (λ _. self.new ≡ item ∷ self.old) }
+    {
+        self.items.push(item)?;
+        Ok(())
+    }
+
+    /// The item at the top.
+    pub(crate) fn top(&self) -> Option<T>
+        ensures { MatchOption result (self.now ≡ []) (λ x. (rest : List T) × (self.now ≡ x ∷ rest)) }
+    {
+        self.items.last().copied()
+    }
+
+    pub(crate) fn pop(&mut self) -> Option<T>
+        ensures { MatchOption result ((self.old ≡ []) × (self.new ≡ [])) (λ x. self.old ≡ x ∷ self.new) }
+    {
+        self.items.pop()
+    }
+}
