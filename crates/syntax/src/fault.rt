@@ -1,6 +1,8 @@
 //! Why a text is refused.
 
 use std::alloc::{AllocError, AllocFailed};
+use std::error::Error;
+use std::fmt;
 
 /// The pass that finds a fault. Each pass goes over the whole text, in this order; the first one that finds a fault
 /// decides, and within it the first place in the text.
@@ -33,6 +35,35 @@ pub enum ParseStop {
     /// Memory was refused; the text may have a fault or none.
     NoMemory,
 }
+
+impl fmt::Display for FaultKind {
+    fn fmt<W: fmt::Write>(&self, f: &mut fmt::Formatter<W>) -> fmt::Result {
+        f.write_str(match self {
+            FaultKind::Character => "character",
+            FaultKind::Token => "token",
+            FaultKind::Indent => "indent",
+            FaultKind::Statement => "statement",
+            FaultKind::Scope => "scope",
+        })
+    }
+}
+
+impl fmt::Display for SyntaxFault {
+    fn fmt<W: fmt::Write>(&self, f: &mut fmt::Formatter<W>) -> fmt::Result {
+        write!(f, "syntax {} at line {}", self.kind, self.line)
+    }
+}
+
+impl fmt::Display for ParseStop {
+    fn fmt<W: fmt::Write>(&self, f: &mut fmt::Formatter<W>) -> fmt::Result {
+        match self {
+            ParseStop::Fault(fault) => write!(f, "{fault}"),
+            ParseStop::NoMemory => f.write_str("no memory"),
+        }
+    }
+}
+
+impl Error for ParseStop {}
 
 impl From<AllocError> for ParseStop {
     ghost use Rattle.std.specs.Prelude.{◌≡◌};

@@ -20,3 +20,6 @@ mod words;
 pub use fault::{FaultKind, ParseStop, SyntaxFault};
 pub use lines::{Lines, logical_lines};
 pub use token::{Kind, Mark, Span, Token, Word};
+
+#[cfg(test)]
+mod tests;
