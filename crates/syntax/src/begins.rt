@@ -7,7 +7,8 @@ ghost use Rattle.syntax.specs.Begins.{begins, is_word_byte, run_length, number_a
 ghost use Rattle.syntax.specs.Marks.{pair_mark, punctuation, operator};
 ghost use Rattle.syntax.specs.Seen.{beginning_seen, token_seen, bytes_of, EndsWithin};
 
-use crate::numbers::{digits_after, goes_on, is_digit, is_letter, is_word_byte, value_of};
+use crate::classes::{is_digit, is_letter, is_word_byte};
+use crate::numbers::{digits_after, goes_on, value_of};
 use crate::strings::{body_length, is_quote};
 use crate::token::{Kind, Mark, Span, Word};
 use crate::words::{expression_word, is_reserved, statement_word};

@@ -7,6 +7,7 @@
 
 mod begins;
 mod characters;
+mod classes;
 mod fault;
 mod layout;
 mod lines;

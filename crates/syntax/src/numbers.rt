@@ -1,28 +1,12 @@
 //! Numbers: the digits that belong to one, and its value.
 
 ghost use Rattle.std.specs.Prelude.{◌≡◌, ◌≤◌, length, ◌∷◌, None, Some, nat_lt, if◌then◌else◌};
-ghost use Rattle.syntax.specs.Begins.{is_digit, is_word_byte, is_letter, goes_on, digits_after, value_after, greatest_number, run_length};
+ghost use Rattle.syntax.specs.Begins.{is_digit, goes_on, digits_after, value_after, greatest_number, run_length};
+
+use crate::classes::{is_digit, is_word_byte};
 
 /// The greatest number that can be written.
 const GREATEST: u64 = 9_223_372_036_854_775_807;
-
-pub(crate) fn is_digit(b: u8) -> bool
-    ensures { result ≡ is_digit b }
-{
-    matches!(b, b'0'..=b'9')
-}
-
-pub(crate) fn is_letter(b: u8) -> bool
-    ensures { result ≡ is_letter b }
-{
-    matches!(b, b'a'..=b'z' | b'A'..=b'Z' | b'_')
-}
-
-pub(crate) fn is_word_byte(b: u8) -> bool
-    ensures { result ≡ is_word_byte b }
-{
-    is_letter(b) || is_digit(b)
-}
 
 fn digits_length(rest: &[u8]) -> usize
     ensures value { result ≡ run_length is_digit rest.now }
