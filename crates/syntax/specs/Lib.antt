@@ -8,5 +8,6 @@ pub mod Scan
 pub mod Stops
 pub mod Seen
 pub mod Cursor
+pub mod FaultText
 pub mod Layout
 pub mod Lines

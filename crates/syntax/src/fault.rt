@@ -37,6 +37,11 @@ pub enum ParseStop {
 }
 
 impl fmt::Display for FaultKind {
+    ghost use Rattle.std.specs.Prelude.{Some};
+    ghost use Rattle.syntax.specs.FaultText.{kind_text};
+
+    ghost output = { λ x. Some (kind_text x) };
+
     fn fmt<W: fmt::Write>(&self, f: &mut fmt::Formatter<W>) -> fmt::Result {
         f.write_str(match self {
             FaultKind::Character => "character",
@@ -49,12 +54,22 @@ impl fmt::Display for FaultKind {
 }
 
 impl fmt::Display for SyntaxFault {
+    ghost use Rattle.std.specs.Prelude.{Some};
+    ghost use Rattle.syntax.specs.FaultText.{fault_text};
+
+    ghost output = { λ x. Some (fault_text x) };
+
     fn fmt<W: fmt::Write>(&self, f: &mut fmt::Formatter<W>) -> fmt::Result {
         write!(f, "syntax {} at line {}", self.kind, self.line)
     }
 }
 
 impl fmt::Display for ParseStop {
+    ghost use Rattle.std.specs.Prelude.{Some};
+    ghost use Rattle.syntax.specs.FaultText.{stop_text};
+
+    ghost output = { λ x. Some (stop_text x) };
+
     fn fmt<W: fmt::Write>(&self, f: &mut fmt::Formatter<W>) -> fmt::Result {
         match self {
             ParseStop::Fault(fault) => write!(f, "{fault}"),

@@ -216,3 +216,20 @@ fn hostile_texts_are_refused_by_name(rt: HostRuntime) -> Result<(), Fail> {
     expect_none(&rt, alloc, &[minus.as_str()]);
     Ok(())
 }
+
+#[test]
+fn faults_are_named_by_their_pass(rt: HostRuntime) -> Result<(), Fail> {
+    let alloc = rt.alloc();
+    let rows = [
+        ("\t", "syntax character at line 1"),
+        ("\n$", "syntax token at line 2"),
+        ("x\n\n  y", "syntax indent at line 3"),
+    ];
+    for (text, want) in rows {
+        let Err(stop) = logical_lines(alloc, text) else {
+            panic!(rt; "{text:?} has a fault");
+        };
+        assert_eq!(rt; format!(in alloc; "{stop}")?.as_str(), want);
+    }
+    Ok(())
+}
