@@ -1,6 +1,6 @@
 //! A graph with the users of each node beside its dependencies. The lists may come from anywhere:
 //! that they fit each other is tested once, so no proof about how they are made is needed.
-ghost use Rattle.std.specs.Prelude.{◌≡◌, ◌<◌, length, map};
+ghost use Rattle.std.specs.Prelude.{◌≡◌, ◌<◌, length, map, IfSome};
 ghost use Rattle.board.specs.Journal.{deps};
 ghost use Rattle.board_bench.specs.Graph.{IsGraph};
 
@@ -27,7 +27,9 @@ impl Model for Graph {
 
 impl Graph {
     /// The graph of these lists, if they fit each other.
-    pub fn of(plan: Vec<Vec<usize>>, users: Vec<Vec<usize>>) -> Option<Graph> {
+    pub fn of(plan: Vec<Vec<usize>>, users: Vec<Vec<usize>>) -> Option<Graph>
+        ensures { IfSome result (λ g. g.plan ≡ map (λ l. l.items) plan.items) }
+    {
         let fits = plan.len() == users.len()
             && all_ascending(plan.as_slice())
             && all_ascending(users.as_slice())

@@ -40,6 +40,7 @@ pub fn is_below(list: &[usize], limit: usize) -> bool
     true
 }
 
+/// Whether each list is ascending.
 pub fn all_ascending(lists: &[Vec<usize>]) -> bool
     ensures { OnTrue result (AllDistinct (map (λ l. l.items) lists.now)) }
 {
@@ -51,6 +52,7 @@ pub fn all_ascending(lists: &[Vec<usize>]) -> bool
     true
 }
 
+/// Whether the lists have numbers of lists alone.
 pub fn all_inside(lists: &[Vec<usize>]) -> bool
     ensures { OnTrue result (AllInside (map (λ l. l.items) lists.now)) }
 {
@@ -75,6 +77,7 @@ fn all_have(lists: &[Vec<usize>], numbers: &[usize], n: usize) -> bool
     true
 }
 
+/// Whether the other list of each number in a list has that list's number.
 pub fn mirrors(lists: &[Vec<usize>], others: &[Vec<usize>]) -> bool
     ensures { OnTrue result (Mirrors (map (λ l. l.items) lists.now) (map (λ l. l.items) others.now)) }
 {

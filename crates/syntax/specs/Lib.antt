@@ -11,3 +11,6 @@ pub mod Cursor
 pub mod FaultText
 pub mod Layout
 pub mod Lines
+pub mod Fits
+pub mod Parts
+pub mod LaidOut

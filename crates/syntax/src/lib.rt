@@ -9,6 +9,7 @@ mod begins;
 mod characters;
 mod classes;
 mod fault;
+mod laws;
 mod layout;
 mod lines;
 mod numbers;
@@ -19,6 +20,10 @@ mod token;
 mod words;
 
 pub use fault::{FaultKind, ParseStop, SyntaxFault};
+pub use laws::{
+    at_most_one_reading, reads_what_is_laid_out, tokens_are_the_longest_that_fit,
+    tokens_are_those_of_the_parts,
+};
 pub use lines::{Lines, logical_lines};
 pub use token::{Kind, Mark, Span, Token, Word};
 

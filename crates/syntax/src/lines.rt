@@ -1,6 +1,7 @@
 //! The logical lines of a text: the three lower passes, one after the other.
 
 ghost use Rattle.std.specs.Prelude.{◌≡◌, ◌<◌, Ok, Err, IfOk, List, length, map, slice_get, Some};
+ghost use Rattle.syntax.specs.LaidOut.{IsReading};
 ghost use Rattle.syntax.specs.Lines.{reading};
 
 use crate::characters::character_fault;
@@ -71,6 +72,7 @@ fn read(alloc: Global, text: &[u8]) -> Result<Lines<'_>, ParseStop>
 pub fn logical_lines(alloc: Global, text: &str) -> Result<Lines<'_>, ParseStop>
     ensures text { IfOk result (λ read. read.text ≡ text.now) }
     ensures lines { IfOk result (λ read. reading text.now ≡ Ok read.lines) }
+    ensures laid_out { IfOk result (λ read. IsReading text.now read.lines) }
     ensures fault { (f : SyntaxFault) → result ≡ Err (ParseStop.Fault f) → reading text.now ≡ Err f }
 {
     read(alloc, text.as_bytes())
