@@ -14,3 +14,4 @@ pub mod Lines
 pub mod Fits
 pub mod Parts
 pub mod LaidOut
+pub mod Form

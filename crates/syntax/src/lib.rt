@@ -9,6 +9,7 @@ mod begins;
 mod characters;
 mod classes;
 mod fault;
+mod forms;
 mod laws;
 mod layout;
 mod lines;
@@ -20,6 +21,7 @@ mod token;
 mod words;
 
 pub use fault::{FaultKind, ParseStop, SyntaxFault};
+pub use forms::{BuildForm, FileKind, FirstForm, ModuleForm, NoMemory, form};
 pub use laws::{
     at_most_one_reading, reads_what_is_laid_out, tokens_are_the_longest_that_fit,
     tokens_are_those_of_the_parts,
@@ -27,5 +29,7 @@ pub use laws::{
 pub use lines::{Lines, logical_lines};
 pub use token::{Kind, Mark, Span, Token, Word};
 
+#[cfg(test)]
+mod form_tests;
 #[cfg(test)]
 mod tests;

@@ -1,14 +1,16 @@
 //! The logical lines of a text: the three lower passes, one after the other.
 
-ghost use Rattle.std.specs.Prelude.{◌≡◌, ◌<◌, Ok, Err, IfOk, List, length, map, slice_get, Some};
+ghost use Rattle.std.specs.Prelude.{◌≡◌, ◌<◌, ℕ, Ok, Err, IfOk, List, length, map, slice_get, slice_index, slice_range, Some};
+ghost use Rattle.std.specs.Str.{IsAscii};
 ghost use Rattle.syntax.specs.LaidOut.{IsReading};
-ghost use Rattle.syntax.specs.Lines.{reading};
+ghost use Rattle.syntax.specs.Lines.{lines_at, reading};
+ghost use Rattle.syntax.specs.Seen.{bytes_of, seen};
 
 use crate::characters::character_fault;
 use crate::fault::{FaultKind, ParseStop, SyntaxFault};
 use crate::layout::line_starts;
 use crate::scan::tokens;
-use crate::token::Token;
+use crate::token::{Span, Token};
 use std::alloc::Global;
 use std::marker::Model;
 
@@ -31,6 +33,75 @@ impl<'t> Model for Lines<'t> {
     ghost use Rattle.syntax.specs.Lines.{lines_at};
 
     ghost view = { λ a. record { text = a.text.now; lines = lines_at a.starts.items (map (seen a.text.now) a.tokens.items) } };
+
+    ghost use Rattle.std.specs.Str.{IsAscii};
+
+    ghost invariant = { λ a. IsAscii a.text.now };
+}
+
+/// The items from one place on, up to the one before another; no item where these places have none between them.
+fn between<T>(items: &[T], start: usize, end: usize) -> &[T]
+    ensures { result.now ≡ slice_range items.now start end }
+{
+    let end = end.min(items.len());
+    &items[start.min(end)..end]
+}
+
+fn start_at(starts: &[usize], place: usize) -> usize
+    requires { place < length starts.now }
+    ensures { result ≡ slice_index starts.now place }
+{
+    starts[place]
+}
+
+/// The tokens of the line at a place, which go up to where the next line begins.
+fn line_at<'l>(tokens: &'l [Token], starts: &[usize], place: usize) -> &'l [Token]
+    requires { place < length starts.now }
+    ensures { (text : List ℕ) → slice_get (lines_at starts.now (map (seen text) tokens.now)) place ≡ Some (map (seen text) result.now) }
+{
+    let start = start_at(starts, place);
+    let next = place + 1;
+    if next < starts.len() {
+        let end = start_at(starts, next);
+        return between(tokens, start, end);
+    }
+    between(tokens, start, tokens.len())
+}
+
+impl<'t> Lines<'t> {
+    /// How many logical lines the text has.
+    pub fn len(&self) -> usize
+        ensures { result ≡ length self.now.lines }
+    {
+        self.starts.len()
+    }
+
+    /// The tokens of the logical line at this place.
+    pub fn line(&self, place: usize) -> &[Token]
+        requires { place < length self.now.lines }
+        ensures { slice_get self.now.lines place ≡ Some (map (seen self.now.text) result.now) }
+    {
+        line_at(self.tokens.as_slice(), self.starts.as_slice(), place)
+    }
+
+    /// A part of the text, as the tokens name it.
+    pub fn part(&self, span: Span) -> &str
+        ensures part { result.now ≡ bytes_of self.now.text span }
+        ensures ascii { IsAscii result.now }
+    {
+        as_text(between(self.text, span.start, span.end))
+    }
+}
+
+/// Bytes of ASCII as a text.
+fn as_text(bytes: &[u8]) -> &str
+    requires { IsAscii bytes.now }
+    ensures { result.now ≡ bytes.now }
+{
+    match str::from_utf8(bytes) {
+        Ok(text) => text,
+        Err(_) => "",
+    }
 }
 
 /// The logical lines of a text that is given as its bytes.

@@ -5,6 +5,7 @@ use Rattle.syntax.specs.declared.fault.ParseStop.TheVariants.{Fault}
 use Rattle.syntax.specs.Layout.{line_starts, at_start}
 use Rattle.syntax.specs.Seen.{seen}
 use Rattle.syntax.proofs.ReadingLemmas.{fault_of_characters, fault_of_tokens, fault_of_layout, read_as}
+use Rattle.syntax.proofs.LineLemmas.{characters_small}
 use Rattle.syntax.proofs.lines.read.Goals as goal
 
 pub returns-in-Some-clause-fault : goal.returns-in-Some-clause-fault
@@ -34,3 +35,6 @@ returns-clause-lines c =
     let text = c.args.text.now in
     read_as text (map (seen text) c.in-Ok.tokens.items) c.in-Ok-line_starts.starts.items c.in-None.ensures c.in-Ok.ensures.value
     (ap (λ ts. line_starts 0 at_start (map (seen text) ts)) (sym c.as_slice.ensures.value) ∙ c.in-Ok-line_starts.ensures.value text)
+
+pub invariant_of-result : goal.invariant_of-result
+invariant_of-result c = characters_small c.args.text.now c.in-None.ensures
