@@ -234,12 +234,15 @@ module _ (plan : List (List ℕ)) (passes slots id : ℕ) (me : Mine) (one : IsO
         loads s r at_ n (with_seen n h) (looked s r at_ (with_seen n h) (λ _. refl) (λ _. refl) (λ _. refl) (λ _ _. refl) refl fit) refl,
         (refl, record { started = λ _. refl; unstarted = λ ne. absurd (ne m) }),
       ))
-      (λ nm. (
+      (λ nm.
+      let none_yet : starts n (hs s r at_) ≡ 0 = no_pos (starts n (hs s r at_)) (λ p. nm (law.marked n lt p)) in
+      let mine_not : times n h.started ≡ 0 = let a = tally_at (λ y. times n y.started) s.views id h (at s r at_) in omega arith in
+      let unseen : times n h.seen ≡ 0 = no_pos (times n h.seen) (λ p. let b = f.seen n p in omega arith) in (
         h ∷ [],
         keeps,
         tt,
         loads s r at_ n h (looked s r at_ h (λ _. refl) (λ _. refl) (λ _. refl) (λ _ _. refl) refl f) refl,
-        (refl, record { started = λ m. absurd (nm m); unstarted = λ _. refl }),
+        (refl, record { started = λ m. absurd (nm m); unstarted = λ _. (refl, mine_not, unseen) }),
       ))
 
 -- the views are cut and joined otherwise, and the journals stay

@@ -80,10 +80,10 @@ pub record HeardHalt (found : ℕ) (j : Journal) (w : List Journal) : Type 0 whe
   pub is_set : found ≡ 1 → w ≡ with_saw j ∷ []
   pub unset : found ≢ 1 → (w ≡ j ∷ []) × (j.set ≡ false) × (j.saw ≡ false)
 
--- a node's word was the mark or not
+-- a node's word was the mark or not, and then this pass had neither started the node nor seen it started
 pub record LookedAt (n found : ℕ) (j : Journal) (w : List Journal) : Type 0 where
   pub started : found ≡ mark → w ≡ with_seen n j ∷ []
-  pub unstarted : found ≢ mark → w ≡ j ∷ []
+  pub unstarted : found ≢ mark → (w ≡ j ∷ []) × (times n j.started ≡ 0) × (times n j.seen ≡ 0)
 
 -- each kind of step, as the table's steps tell it
 abbrev pub starting : Step (Unit {0}) → Mine → ℕ → Mine → Type 0

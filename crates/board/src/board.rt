@@ -157,7 +157,7 @@ impl<V> Board<V> {
         ensures keeps { Keeps (knows pass.old) (knows pass.new) }
         ensures stays { pass.new.journal ≡ record pass.old.journal { seen = pass.new.journal.seen } }
         ensures pass { let j = pass.old.journal in MatchOption result
-            ((knows pass.old n ≡ None) × ((pass.new ≡ pass.old) ⊎ (pass.new ≡ with_journal pass.old (with_seen n j))))
+            ((knows pass.old n ≡ None) × (((pass.new ≡ pass.old) × (times n j.started ≡ 0) × (times n j.seen ≡ 0)) ⊎ (pass.new ≡ with_journal pass.old (with_seen n j))))
             (λ v. Agrees (knows pass.old n) v.now × ((pass.new ≡ with_known pass.old n v.now) ⊎ (pass.new ≡ with_known (with_journal pass.old (with_seen n j)) n v.now))) }
     {
         if !pass.memory.has(n) && !steps::look(&self.table.shared, &mut pass.seat, n) {

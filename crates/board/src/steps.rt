@@ -135,7 +135,7 @@ pub fn look(words: &Words, seat: &mut BoardSeat, n: usize) -> bool
     requires place { (seat.old.table_id ≡ words.now.table_id) × IsOne seat.old.me.0 }
     requires node { (n < length (plan_of words.now.key)) × (words.now.table_id.words ≡ length (plan_of words.now.key) + 2) }
     ensures place { (seat.new.table_id ≡ seat.old.table_id) × IsOne seat.new.me.0 × (seat.new.me.1 ≡ seat.old.me.1) }
-    ensures journal { let h = first_journal seat.old.me.0 in let k = first_journal seat.new.me.0 in MatchBool result (k ≡ with_seen n h) (k ≡ h) }
+    ensures journal { let h = first_journal seat.old.me.0 in let k = first_journal seat.new.me.0 in MatchBool result (k ≡ with_seen n h) ((k ≡ h) × (times n h.started ≡ 0) × (times n h.seen ≡ 0)) }
 {
     words.load::<Looking>(seat, n) == MARK
 }

@@ -1,5 +1,5 @@
 //! Texts and their verdicts, as tables: the fault that each text has, or none of the three passes.
-use crate::{FaultKind, ParseStop, SyntaxFault, logical_lines};
+use crate::{FaultKind, Kind, Mark, ParseStop, Span, SyntaxFault, Token, Word, logical_lines};
 use std::alloc::Global;
 use std::process::Abort;
 use std::test::Fail;
@@ -231,5 +231,35 @@ fn faults_are_named_by_their_pass(rt: HostRuntime) -> Result<(), Fail> {
         };
         assert_eq!(rt; format!(in alloc; "{stop}")?.as_str(), want);
     }
+    Ok(())
+}
+
+fn token(kind: Kind, line: usize, column: usize) -> Token {
+    Token { kind, line, column }
+}
+
+#[test]
+fn tokens_have_their_lines_and_columns(rt: HostRuntime) -> Result<(), Fail> {
+    let read = logical_lines(rt.alloc(), "\nif x >= 10:\n    y = 'a\\'b'  # c")?;
+    assert_eq!(rt; read.len(), 2);
+    let x = Span { start: 4, end: 5 };
+    let head = [
+        token(Kind::Word(Word::If), 2, 0),
+        token(Kind::Name(x), 2, 3),
+        token(Kind::Mark(Mark::GreaterEqual), 2, 5),
+        token(Kind::Number(10), 2, 8),
+        token(Kind::Mark(Mark::Colon), 2, 10),
+    ];
+    assert!(rt; read.line(0) == head.as_slice());
+    let y = Span { start: 17, end: 18 };
+    let body = Span { start: 22, end: 26 };
+    let line = [
+        token(Kind::Name(y), 3, 4),
+        token(Kind::Mark(Mark::Assign), 3, 6),
+        token(Kind::Str(body), 3, 8),
+    ];
+    assert!(rt; read.line(1) == line.as_slice());
+    assert_eq!(rt; read.part(x), "x");
+    assert_eq!(rt; read.part(body), "a\\'b");
     Ok(())
 }
