@@ -40,7 +40,7 @@ fn by_one<R: Clock>(
         return Ok(None);
     };
     let start = Instant::now(rt)?;
-    let a = work_through(&board, a, graph, 0, 1);
+    let (a, _) = work_through(&board, a, graph, graph.nodes());
     let time = start.elapsed(rt)?;
     passes.push(a)?;
     Ok(Some((board.close(passes), time)))
@@ -66,11 +66,11 @@ fn by_four<R: Clock + Threads + Sync>(
         return Ok(None);
     };
     let start = Instant::now(rt)?;
-    let (one, other) = in_four(rt, &board, graph, (a, b), (c, d));
+    let ((a, b), (c, d)) = in_four(rt, &board, graph, (a, b), (c, d), graph.nodes());
     let time = start.elapsed(rt)?;
     let mut back = Vec::new(alloc);
-    give_back(&board, &mut back, one)?;
-    give_back(&board, &mut back, other)?;
+    give_back(&board, &mut back, (a.0, b.0))?;
+    give_back(&board, &mut back, (c.0, d.0))?;
     Ok(Some((board.close(back), time)))
 }
 

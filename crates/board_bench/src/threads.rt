@@ -1,11 +1,11 @@
 //! Passes at work in threads of their own.
-ghost use Rattle.std.specs.Prelude.{◌≡◌, ◌+◌, ◌<◌, length, IfSome, OnOk};
+ghost use Rattle.std.specs.Prelude.{◌≡◌, ◌+◌, ◌≤◌, length, IfSome, OnOk};
 ghost use Rattle.std.specs.Option.{option_to_list};
 ghost use Rattle.std.specs.List.{All};
 ghost use Rattle.board.specs.Views.{IsPassOf};
 
 use crate::graph::Graph;
-use crate::worker::work_through;
+use crate::worker::{Worked, work_through};
 use board::{Board, Pass};
 use std::alloc::AllocError;
 use std::thread;
@@ -40,60 +40,61 @@ pub fn give_back(
     Ok(())
 }
 
-/// Two passes, each with every fourth node.
-fn in_two<R: Threads + Sync>(
+/// Two passes in two threads, at the nodes below `end`.
+pub fn in_two<R: Threads + Sync>(
     rt: &R,
     board: &Board<u64>,
     graph: &Graph,
     a: Pass<u64>,
     b: Pass<u64>,
-    first: usize,
-) -> (Pass<u64>, Pass<u64>)
+    end: usize,
+) -> (Worked, Worked)
     requires passes { IsPassOf board.now a × IsPassOf board.now b × (board.now.plan ≡ graph.now.plan) }
-    requires first { first < 3 }
-    ensures { IsPassOf board.now result.0 × IsPassOf board.now result.1 }
+    requires end { end ≤ length graph.now.plan }
+    ensures { IsPassOf board.now result.0.0 × IsPassOf board.now result.1.0 }
 {
     thread::join(
         rt,
-        move || -> Pass<u64>
-            requires { IsPassOf board.now a × (board.now.plan ≡ graph.now.plan) }
-            ensures { IsPassOf board.entry.now result }
-        { work_through(board, a, graph, first, 4) },
-        move || -> Pass<u64>
-            requires { IsPassOf board.now b × (board.now.plan ≡ graph.now.plan) × (first < 3) }
-            ensures { IsPassOf board.entry.now result }
-        { work_through(board, b, graph, first + 1, 4) },
+        move || -> Worked
+            requires { IsPassOf board.now a × (board.now.plan ≡ graph.now.plan) × (end ≤ length graph.now.plan) }
+            ensures { IsPassOf board.entry.now result.0 }
+        { work_through(board, a, graph, end) },
+        move || -> Worked
+            requires { IsPassOf board.now b × (board.now.plan ≡ graph.now.plan) × (end ≤ length graph.now.plan) }
+            ensures { IsPassOf board.entry.now result.0 }
+        { work_through(board, b, graph, end) },
     )
 }
 
-/// Four passes, in four threads.
+/// Four passes in four threads, at the nodes below `end`.
 pub fn in_four<R: Threads + Sync>(
     rt: &R,
     board: &Board<u64>,
     graph: &Graph,
-    a: (Pass<u64>, Pass<u64>),
-    b: (Pass<u64>, Pass<u64>),
-) -> ((Pass<u64>, Pass<u64>), (Pass<u64>, Pass<u64>))
-    requires left { IsPassOf board.now a.0 × IsPassOf board.now a.1 × (board.now.plan ≡ graph.now.plan) }
-    requires right { IsPassOf board.now b.0 × IsPassOf board.now b.1 }
-    ensures left { IsPassOf board.now result.0.0 × IsPassOf board.now result.0.1 }
-    ensures right { IsPassOf board.now result.1.0 × IsPassOf board.now result.1.1 }
+    one: (Pass<u64>, Pass<u64>),
+    other: (Pass<u64>, Pass<u64>),
+    end: usize,
+) -> ((Worked, Worked), (Worked, Worked))
+    requires one { IsPassOf board.now one.0 × IsPassOf board.now one.1 × (board.now.plan ≡ graph.now.plan) }
+    requires other { IsPassOf board.now other.0 × IsPassOf board.now other.1 × (end ≤ length graph.now.plan) }
+    ensures one { IsPassOf board.now result.0.0.0 × IsPassOf board.now result.0.1.0 }
+    ensures other { IsPassOf board.now result.1.0.0 × IsPassOf board.now result.1.1.0 }
 {
     thread::join(
         rt,
-        move || -> (Pass<u64>, Pass<u64>)
-            requires { IsPassOf board.now a.0 × IsPassOf board.now a.1 × (board.now.plan ≡ graph.now.plan) }
-            ensures { IsPassOf board.entry.now result.0 × IsPassOf board.entry.now result.1 }
+        move || -> (Worked, Worked)
+            requires { IsPassOf board.now one.0 × IsPassOf board.now one.1 × (board.now.plan ≡ graph.now.plan) × (end ≤ length graph.now.plan) }
+            ensures { IsPassOf board.entry.now result.0.0 × IsPassOf board.entry.now result.1.0 }
         {
-            let (one, two) = a;
-            in_two(rt, board, graph, one, two, 0)
+            let (a, b) = one;
+            in_two(rt, board, graph, a, b, end)
         },
-        move || -> (Pass<u64>, Pass<u64>)
-            requires { IsPassOf board.now b.0 × IsPassOf board.now b.1 × (board.now.plan ≡ graph.now.plan) }
-            ensures { IsPassOf board.entry.now result.0 × IsPassOf board.entry.now result.1 }
+        move || -> (Worked, Worked)
+            requires { IsPassOf board.now other.0 × IsPassOf board.now other.1 × (board.now.plan ≡ graph.now.plan) × (end ≤ length graph.now.plan) }
+            ensures { IsPassOf board.entry.now result.0.0 × IsPassOf board.entry.now result.1.0 }
         {
-            let (one, two) = b;
-            in_two(rt, board, graph, one, two, 2)
+            let (a, b) = other;
+            in_two(rt, board, graph, a, b, end)
         },
     )
 }

@@ -1,13 +1,13 @@
 //! One pass at work on the nodes of a graph.
-ghost use Rattle.std.specs.Prelude.{◌≡◌, ℕ, ◌<◌, length, None};
+ghost use Rattle.std.specs.Prelude.{◌≡◌, ℕ, ◌<◌, ◌≤◌, length, None};
 ghost use Rattle.board.specs.Journal.{times, edge_times, deps};
 ghost use Rattle.board.specs.Views.{IsPassOf, IsHeld, IsUnsent, knows};
 
 use crate::graph::Graph;
 use board::{Board, NoMemory, Pass, Published};
 
-/// How often a node is tried before a worker gives up.
-const TRIES: usize = 100_000_000;
+/// How often a worker goes over the nodes before it gives up.
+const TURNS: usize = 1_000_000;
 
 /// One more than the sum of the dependencies' values, modulo 2^64. A node's own value, and one that
 /// isn't there yet, count for nothing.
@@ -95,39 +95,36 @@ pub fn work(
     Ok(true)
 }
 
-/// Tries a node until it is done, up to a limit of tries. Sets the halt where that fails.
-fn work_when_ready(board: &Board<u64>, pass: &mut Pass<u64>, graph: &Graph, n: usize) -> bool
+/// The nodes below `end`, each tried once. How many were done.
+fn turn(board: &Board<u64>, pass: &mut Pass<u64>, graph: &Graph, end: usize) -> usize
     requires pass { IsPassOf board.now pass.old × (board.now.plan ≡ graph.now.plan) }
-    requires node { n < length graph.now.plan }
+    requires end { end ≤ length graph.now.plan }
     ensures { IsPassOf board.now pass.new }
 {
-    for _ in 0..TRIES {
-        match work(board, pass, graph, n) {
-            Ok(true) => return true,
-            Ok(false) if !board.halted(pass) => {}
-            _ => break,
+    let mut done = 0usize;
+    for n in 0..end {
+        if let Ok(true) = work(board, pass, graph, n) {
+            done = done.saturating_add(1);
         }
     }
-    board.halt(pass);
-    false
+    done
 }
 
-/// Every `step`-th node from `first` on, in order.
-pub fn work_through(
-    board: &Board<u64>,
-    mut pass: Pass<u64>,
-    graph: &Graph,
-    first: usize,
-    step: usize,
-) -> Pass<u64>
+/// A pass, and how many nodes it did.
+pub type Worked = (Pass<u64>, usize);
+
+/// The nodes below `end`, again and again until all of them are finished. At most `TURNS` times.
+pub fn work_through(board: &Board<u64>, mut pass: Pass<u64>, graph: &Graph, end: usize) -> Worked
     requires pass { IsPassOf board.now pass × (board.now.plan ≡ graph.now.plan) }
-    requires step { 0 < step }
-    ensures { IsPassOf board.now result }
+    requires end { end ≤ length graph.now.plan }
+    ensures { IsPassOf board.now result.0 }
 {
-    for n in 0..graph.nodes() {
-        if n % step == first && !work_when_ready(board, &mut pass, graph, n) {
+    let mut done = 0usize;
+    for _ in 0..TURNS {
+        done = done.saturating_add(turn(board, &mut pass, graph, end));
+        if board.left(&mut pass) <= (graph.nodes() - end) as u64 {
             break;
         }
     }
-    pass
+    (pass, done)
 }

@@ -1,5 +1,5 @@
 use Rattle.board.specs.Views.{IsPassOf}
 use Rattle.board_bench.proofs.worker.work_through.Given as goal
 
-abbrev pub invariant-loop-n : goal.invariant-loop-n
-invariant-loop-n l = IsPassOf l.board l.pass
+abbrev pub invariant-loop : goal.invariant-loop
+invariant-loop l = IsPassOf l.board l.pass

@@ -1,5 +1,5 @@
 use Rattle.board.specs.Views.{IsPassOf}
-use Rattle.board_bench.proofs.tests.turn.Given as goal
+use Rattle.board_bench.proofs.worker.turn.Given as goal
 
 abbrev pub invariant-loop-n : goal.invariant-loop-n
 invariant-loop-n l = IsPassOf l.board l.pass
