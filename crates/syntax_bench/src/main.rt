@@ -67,7 +67,13 @@ fn least_time(rt: &impl Clock, alloc: Global, text: &str) -> Result<u128> {
     Ok(least)
 }
 
-fn report<R: Print + Clock>(rt: &R, alloc: Global, name: &str, piece: &str, timed: bool) -> Result<()> {
+fn report<R: Print + Clock>(
+    rt: &R,
+    alloc: Global,
+    name: &str,
+    piece: &str,
+    timed: bool,
+) -> Result<()> {
     let text = text_of(alloc, piece)?;
     let found = verdict(alloc, text.as_str());
     if !timed {
@@ -77,7 +83,11 @@ fn report<R: Print + Clock>(rt: &R, alloc: Global, name: &str, piece: &str, time
     let bytes = text.len() as u128;
     if bytes > 0 {
         let tenths = least_time(rt, alloc, text.as_str())?.saturating_mul(10) / bytes;
-        println!(rt; "{name}: {found}, {}.{} ns a byte", tenths / 10, tenths % 10)?;
+        println!(rt;
+            "{name}: {found}, {}.{} ns a byte",
+            tenths / 10,
+            tenths % 10
+        )?;
     }
     Ok(())
 }
@@ -92,7 +102,13 @@ fn main(rt: HostRuntime) -> Result<()> {
     report(&rt, alloc, "strings", "\"a\" ", timed)?;
     report(&rt, alloc, "names", "ab ", timed)?;
     report(&rt, alloc, "newlines", "\n", timed)?;
-    report(&rt, alloc, "comment", "# one comment that never ends ", timed)?;
+    report(
+        &rt,
+        alloc,
+        "comment",
+        "# one comment that never ends ",
+        timed,
+    )?;
     report(&rt, alloc, "statements", "x\n", timed)?;
     Ok(())
 }
