@@ -15,3 +15,14 @@ pub mod Fits
 pub mod Parts
 pub mod LaidOut
 pub mod Form
+pub mod Tree
+pub mod Levels
+pub mod Spelling
+pub mod Front
+pub mod Reading
+pub mod Statements
+pub mod FormReading
+pub mod Depth
+pub mod Places
+pub mod Blocks
+pub mod Bare

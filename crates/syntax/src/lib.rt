@@ -10,6 +10,7 @@ mod characters;
 mod classes;
 mod fault;
 mod forms;
+pub mod grammar_laws;
 mod laws;
 mod layout;
 mod lines;
