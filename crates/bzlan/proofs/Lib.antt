@@ -1,0 +1,7 @@
+pub mod DeviceLemmas
+pub mod LabelLemmas
+pub mod WorkspaceLemmas
+pub mod NumberLemmas
+pub mod CommandLemmas
+pub mod AskedLemmas
+pub mod InputLemmas

@@ -1,0 +1,9 @@
+pub mod Paths
+pub mod Labels
+pub mod Devices
+pub mod Closing
+pub mod Workspaces
+pub mod Files
+pub mod CommandLine
+pub mod Asked
+pub mod Input

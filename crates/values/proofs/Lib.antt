@@ -1,3 +1,0 @@
-pub mod CellLemmas
-pub mod SeeLemmas
-pub mod EqualLemmas
