@@ -1,0 +1,3 @@
+pub mod CellLemmas
+pub mod SeeLemmas
+pub mod EqualLemmas

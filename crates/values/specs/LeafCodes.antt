@@ -1,0 +1,225 @@
+-- Codes of leaves, keys and providers.
+use Rattle.std.specs.Prelude.{◌≡◌, ℤ, ℕ, Bool, List, ◌⊎◌, refl}
+use Rattle.std.specs.Coded.{Coded, coded×, coded⊎, coded_ℤ, coded_ℕ, coded_bool, code_by}
+use Rattle.std.proofs.Common.{inl, inr}
+use base.Stored.{coded_unit}
+use Rattle.depsets.specs.Rose.{Rose, coded_rose}
+use Rattle.depsets.specs.Own.{Own, own_code, text_code}
+use Rattle.depsets.specs.declared.element.FileRef.{FileRef}
+use Rattle.values.specs.declared.leaf.FunctionRef.{FunctionRef}
+use Rattle.values.specs.declared.leaf.Exported.{Exported}
+use Rattle.values.specs.declared.leaf.ExportName.{ExportName}
+use Rattle.values.specs.declared.leaf.ExportName.TheVariants as export
+use Rattle.values.specs.declared.leaf.ProviderRef.{ProviderRef}
+use Rattle.values.specs.declared.leaf.ProviderRef.TheVariants as provider
+use Rattle.values.specs.declared.leaf.AttributeKind.{AttributeKind}
+use Rattle.values.specs.declared.leaf.AttributeKind.TheVariants as attribute
+use Rattle.values.specs.declared.leaf.AttributeRef.{AttributeRef}
+use Rattle.values.specs.declared.leaf.Object.{Object}
+use Rattle.values.specs.declared.leaf.Object.TheVariants as object
+use Rattle.values.specs.declared.leaf.Leaf.{Leaf}
+use Rattle.values.specs.declared.leaf.Leaf.TheVariants as plain
+use Rattle.values.specs.declared.leaf.Key.{Key}
+use Rattle.values.specs.declared.leaf.Key.TheVariants as key
+
+abbrev pub file_code : Coded FileRef
+file_code = code_by (List ℕ × List ℕ) (coded× text_code text_code) (λ f. (f.path, f.owner)) (λ p. record { path = p.0; owner = p.1 }) (λ _. refl)
+
+abbrev pub function_code : Coded FunctionRef
+function_code =
+    code_by (List ℕ × (List ℕ × ℕ)) (coded× text_code (coded× text_code coded_ℕ)) (λ f. (f.path, (f.name, f.number)))
+    (λ p. record { path = p.0; name = p.1.0; number = p.1.1 }) (λ _. refl)
+
+abbrev pub ExportNameSum : Type 0
+ExportNameSum = (List ℕ) ⊎ ℕ
+
+abbrev pub split_export_name : ExportName → ExportNameSum
+split_export_name (export.Global x) = inl x
+split_export_name (export.Making x) = inr x
+
+abbrev pub join_export_name : ExportNameSum → ExportName
+join_export_name (inl x) = export.Global x
+join_export_name (inr x) = export.Making x
+
+pub join_export_name-split_export_name : (x : ExportName) → join_export_name (split_export_name x) ≡ x
+join_export_name-split_export_name (export.Global x) = refl
+join_export_name-split_export_name (export.Making x) = refl
+
+abbrev pub export_name_code : Coded ExportName
+export_name_code =
+    code_by ExportNameSum
+    (coded⊎ text_code coded_ℕ)
+    split_export_name join_export_name join_export_name-split_export_name
+
+abbrev pub exported_code : Coded Exported
+exported_code = code_by (List ℕ × ExportName) (coded× text_code export_name_code) (λ e. (e.path, e.name)) (λ p. record { path = p.0; name = p.1 }) (λ _. refl)
+
+abbrev pub ProviderSum : Type 0
+ProviderSum = (Unit {0}) ⊎ Exported
+
+abbrev pub split_provider : ProviderRef → ProviderSum
+split_provider provider.DefaultInfo = inl tt
+split_provider (provider.Exported x) = inr x
+
+abbrev pub join_provider : ProviderSum → ProviderRef
+join_provider (inl u) = provider.DefaultInfo
+join_provider (inr x) = provider.Exported x
+
+pub join_provider-split_provider : (x : ProviderRef) → join_provider (split_provider x) ≡ x
+join_provider-split_provider provider.DefaultInfo = refl
+join_provider-split_provider (provider.Exported x) = refl
+
+abbrev pub provider_code : Coded ProviderRef
+provider_code =
+    code_by ProviderSum
+    (coded⊎ coded_unit exported_code)
+    split_provider join_provider join_provider-split_provider
+
+abbrev pub KindSum : Type 0
+KindSum = (Unit {0}) ⊎ ((Unit {0}) ⊎ ((Unit {0}) ⊎ ((Unit {0}) ⊎ ((Unit {0}) ⊎ (Unit {0})))))
+
+abbrev pub split_kind : AttributeKind → KindSum
+split_kind attribute.String = inl tt
+split_kind attribute.Int = inr (inl tt)
+split_kind attribute.Bool = inr (inr (inl tt))
+split_kind attribute.StringList = inr (inr (inr (inl tt)))
+split_kind attribute.Label = inr (inr (inr (inr (inl tt))))
+split_kind attribute.LabelList = inr (inr (inr (inr (inr tt))))
+
+abbrev pub join_kind : KindSum → AttributeKind
+join_kind (inl u) = attribute.String
+join_kind (inr (inl u)) = attribute.Int
+join_kind (inr (inr (inl u))) = attribute.Bool
+join_kind (inr (inr (inr (inl u)))) = attribute.StringList
+join_kind (inr (inr (inr (inr (inl u))))) = attribute.Label
+join_kind (inr (inr (inr (inr (inr u))))) = attribute.LabelList
+
+pub join_kind-split_kind : (x : AttributeKind) → join_kind (split_kind x) ≡ x
+join_kind-split_kind attribute.String = refl
+join_kind-split_kind attribute.Int = refl
+join_kind-split_kind attribute.Bool = refl
+join_kind-split_kind attribute.StringList = refl
+join_kind-split_kind attribute.Label = refl
+join_kind-split_kind attribute.LabelList = refl
+
+abbrev pub kind_code : Coded AttributeKind
+kind_code =
+    code_by KindSum
+    (coded⊎ coded_unit (coded⊎ coded_unit (coded⊎ coded_unit (coded⊎ coded_unit (coded⊎ coded_unit coded_unit)))))
+    split_kind join_kind join_kind-split_kind
+
+abbrev pub attribute_code : Coded AttributeRef
+attribute_code =
+    code_by (AttributeKind × (List ℕ × ℕ)) (coded× kind_code (coded× text_code coded_ℕ)) (λ a. (a.kind, (a.path, a.number)))
+    (λ p. record { kind = p.0; path = p.1.0; number = p.1.1 }) (λ _. refl)
+
+abbrev pub ObjectSum : Type 0
+ObjectSum = (Unit {0}) ⊎ ((Unit {0}) ⊎ ((Unit {0}) ⊎ ((Unit {0}) ⊎ (Unit {0}))))
+
+abbrev pub split_object : Object → ObjectSum
+split_object object.Attr = inl tt
+split_object object.Context = inr (inl tt)
+split_object object.ContextAttr = inr (inr (inl tt))
+split_object object.ContextFiles = inr (inr (inr (inl tt)))
+split_object object.ContextActions = inr (inr (inr (inr tt)))
+
+abbrev pub join_object : ObjectSum → Object
+join_object (inl u) = object.Attr
+join_object (inr (inl u)) = object.Context
+join_object (inr (inr (inl u))) = object.ContextAttr
+join_object (inr (inr (inr (inl u)))) = object.ContextFiles
+join_object (inr (inr (inr (inr u)))) = object.ContextActions
+
+pub join_object-split_object : (x : Object) → join_object (split_object x) ≡ x
+join_object-split_object object.Attr = refl
+join_object-split_object object.Context = refl
+join_object-split_object object.ContextAttr = refl
+join_object-split_object object.ContextFiles = refl
+join_object-split_object object.ContextActions = refl
+
+abbrev pub object_code : Coded Object
+object_code =
+    code_by ObjectSum
+    (coded⊎ coded_unit (coded⊎ coded_unit (coded⊎ coded_unit (coded⊎ coded_unit coded_unit))))
+    split_object join_object join_object-split_object
+
+abbrev pub LeafSum : Type 0
+LeafSum = (Unit {0}) ⊎ (Bool ⊎ (ℤ ⊎ ((List ℕ) ⊎ ((List ℕ) ⊎ (FileRef ⊎ ((Rose Own) ⊎ (FunctionRef ⊎ ((List ℕ) ⊎ (ProviderRef ⊎ (Exported ⊎ (AttributeRef ⊎ (ℕ ⊎ Object))))))))))))
+
+abbrev pub split_leaf : Leaf → LeafSum
+split_leaf plain.None = inl tt
+split_leaf (plain.Truth x) = inr (inl x)
+split_leaf (plain.Number x) = inr (inr (inl x))
+split_leaf (plain.Text x) = inr (inr (inr (inl x)))
+split_leaf (plain.Label x) = inr (inr (inr (inr (inl x))))
+split_leaf (plain.File x) = inr (inr (inr (inr (inr (inl x)))))
+split_leaf (plain.Depset x) = inr (inr (inr (inr (inr (inr (inl x))))))
+split_leaf (plain.Function x) = inr (inr (inr (inr (inr (inr (inr (inl x)))))))
+split_leaf (plain.BuiltIn x) = inr (inr (inr (inr (inr (inr (inr (inr (inl x))))))))
+split_leaf (plain.Provider x) = inr (inr (inr (inr (inr (inr (inr (inr (inr (inl x)))))))))
+split_leaf (plain.Rule x) = inr (inr (inr (inr (inr (inr (inr (inr (inr (inr (inl x))))))))))
+split_leaf (plain.Attribute x) = inr (inr (inr (inr (inr (inr (inr (inr (inr (inr (inr (inl x)))))))))))
+split_leaf (plain.Target x) = inr (inr (inr (inr (inr (inr (inr (inr (inr (inr (inr (inr (inl x))))))))))))
+split_leaf (plain.Object x) = inr (inr (inr (inr (inr (inr (inr (inr (inr (inr (inr (inr (inr x))))))))))))
+
+abbrev pub join_leaf : LeafSum → Leaf
+join_leaf (inl u) = plain.None
+join_leaf (inr (inl x)) = plain.Truth x
+join_leaf (inr (inr (inl x))) = plain.Number x
+join_leaf (inr (inr (inr (inl x)))) = plain.Text x
+join_leaf (inr (inr (inr (inr (inl x))))) = plain.Label x
+join_leaf (inr (inr (inr (inr (inr (inl x)))))) = plain.File x
+join_leaf (inr (inr (inr (inr (inr (inr (inl x))))))) = plain.Depset x
+join_leaf (inr (inr (inr (inr (inr (inr (inr (inl x)))))))) = plain.Function x
+join_leaf (inr (inr (inr (inr (inr (inr (inr (inr (inl x))))))))) = plain.BuiltIn x
+join_leaf (inr (inr (inr (inr (inr (inr (inr (inr (inr (inl x)))))))))) = plain.Provider x
+join_leaf (inr (inr (inr (inr (inr (inr (inr (inr (inr (inr (inl x))))))))))) = plain.Rule x
+join_leaf (inr (inr (inr (inr (inr (inr (inr (inr (inr (inr (inr (inl x)))))))))))) = plain.Attribute x
+join_leaf (inr (inr (inr (inr (inr (inr (inr (inr (inr (inr (inr (inr (inl x))))))))))))) = plain.Target x
+join_leaf (inr (inr (inr (inr (inr (inr (inr (inr (inr (inr (inr (inr (inr x))))))))))))) = plain.Object x
+
+pub join_leaf-split_leaf : (x : Leaf) → join_leaf (split_leaf x) ≡ x
+join_leaf-split_leaf plain.None = refl
+join_leaf-split_leaf (plain.Truth x) = refl
+join_leaf-split_leaf (plain.Number x) = refl
+join_leaf-split_leaf (plain.Text x) = refl
+join_leaf-split_leaf (plain.Label x) = refl
+join_leaf-split_leaf (plain.File x) = refl
+join_leaf-split_leaf (plain.Depset x) = refl
+join_leaf-split_leaf (plain.Function x) = refl
+join_leaf-split_leaf (plain.BuiltIn x) = refl
+join_leaf-split_leaf (plain.Provider x) = refl
+join_leaf-split_leaf (plain.Rule x) = refl
+join_leaf-split_leaf (plain.Attribute x) = refl
+join_leaf-split_leaf (plain.Target x) = refl
+join_leaf-split_leaf (plain.Object x) = refl
+
+abbrev pub leaf_code : Coded Leaf
+leaf_code =
+    code_by LeafSum
+    (coded⊎ coded_unit (coded⊎ coded_bool (coded⊎ coded_ℤ (coded⊎ text_code (coded⊎ text_code (coded⊎ file_code (coded⊎ (coded_rose own_code) (coded⊎ function_code (coded⊎ text_code (coded⊎ provider_code (coded⊎ exported_code (coded⊎ attribute_code (coded⊎ coded_ℕ object_code)))))))))))))
+    split_leaf join_leaf join_leaf-split_leaf
+
+abbrev pub KeySum : Type 0
+KeySum = (List ℕ) ⊎ (ℤ ⊎ Bool)
+
+abbrev pub split_key : Key → KeySum
+split_key (key.Text x) = inl x
+split_key (key.Number x) = inr (inl x)
+split_key (key.Truth x) = inr (inr x)
+
+abbrev pub join_key : KeySum → Key
+join_key (inl x) = key.Text x
+join_key (inr (inl x)) = key.Number x
+join_key (inr (inr x)) = key.Truth x
+
+pub join_key-split_key : (x : Key) → join_key (split_key x) ≡ x
+join_key-split_key (key.Text x) = refl
+join_key-split_key (key.Number x) = refl
+join_key-split_key (key.Truth x) = refl
+
+abbrev pub key_code : Coded Key
+key_code =
+    code_by KeySum
+    (coded⊎ text_code (coded⊎ coded_ℤ coded_bool))
+    split_key join_key join_key-split_key

@@ -1,0 +1,13 @@
+pub mod Tree
+pub mod Leaves
+pub mod LeafCodes
+pub mod View
+pub mod Falls
+pub mod ValueCodes
+pub mod Keyed
+pub mod Ticking
+pub mod Cells
+pub mod CellCodes
+pub mod Shape
+pub mod Seeing
+pub mod Equal

@@ -1,0 +1,37 @@
+-- What the views of a value show.
+use Rattle.std.specs.Prelude.{List, map, true, false, Option, Some, None}
+use Rattle.values.specs.Shape.{Shape, atom, items, entries, fields, nothing, value_of, zip}
+use Rattle.values.specs.declared.leaf.Key.{Key}
+use Rattle.values.specs.declared.value.Value.{Value}
+use Rattle.values.specs.declared.sees.Item.{Item}
+use Rattle.values.specs.declared.sees.Item.TheVariants as item
+use Rattle.values.specs.declared.sees.Group.{Group}
+use Rattle.values.specs.declared.sees.Group.TheVariants as group
+use Rattle.values.specs.declared.sees.Table.{Table}
+use Rattle.values.specs.declared.sees.Table.TheVariants as table
+use Rattle.values.specs.declared.sees.Seen.{Seen}
+use Rattle.values.specs.declared.sees.Seen.TheVariants as see
+
+abbrev pub item_value : Item → Value
+item_value (item.Value v) = v.now
+item_value (item.Tree t) = value_of t.now
+
+abbrev pub option_value : Option Item → Option Value
+option_value (Some i) = Some (item_value i)
+option_value None = None
+
+abbrev pub group_items : Group → List Value
+group_items (group.Values s) = s.now
+group_items (group.Trees s) = map value_of s.now
+
+abbrev pub table_entries : Table → List (Key × Value)
+table_entries (table.Values e) = e.now
+table_entries (table.Trees ks ts) = zip ks.now.keys ts.now
+
+abbrev pub seen : Seen → Shape
+seen (see.Leaf l) = atom l.now
+seen (see.List g) = items true (group_items g)
+seen (see.Tuple g) = items false (group_items g)
+seen (see.Dict t) = entries (table_entries t)
+seen (see.Instance p t) = fields p.now (table_entries t)
+seen see.Nothing = nothing

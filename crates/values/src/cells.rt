@@ -1,0 +1,161 @@
+//! The cells of a heap: what names share. Their items and entries are lists to a contract.
+ghost use Rattle.indexmap.specs.IndexMap.{insert_entry};
+ghost use Rattle.std.specs.Map.{lookup};
+ghost use Rattle.values.specs.Leaves.{same_key};
+ghost use Rattle.values.specs.Keyed.{has_key};
+ghost use Rattle.std.specs.Prelude.{◌≡◌, ◌++◌, ◌∷◌, [], ◌<◌, IfOk, IfSome, OnOk, OnErr, length, slice_get, slice_set, option_copied, MatchOption, ◌≤◌, Some};
+
+use crate::{Key, ProviderRef, Value};
+use indexmap::IndexMap;
+use std::alloc::{AllocError, Global};
+use std::marker::Model;
+
+/// How many parts a list, a tuple or a dict has at most. (This project's own limit.)
+pub const LARGEST: usize = 1_048_576;
+
+/// A cell: a list or a dict with the number of walks over it that go on, or a tuple or an instance, which
+/// never changes. The fields of an instance are entries whose keys are their names.
+#[derive(Drop)]
+pub enum Cell {
+    List(Items, u64),
+    Tuple(Items),
+    Dict(Entries, u64),
+    Instance(ProviderRef, Entries),
+}
+
+/// The items of a list or a tuple.
+#[derive(Drop)]
+pub struct Items {
+    items: Vec<Value>,
+}
+
+impl Model for Items {
+    ghost use Rattle.std.specs.Prelude.{List};
+    ghost use Rattle.values.specs.declared.value.Value.{Value as Held};
+    ghost use Rattle.values.specs.ValueCodes.{items_code};
+
+    ghost Value = { List Held };
+
+    ghost coded = { items_code };
+
+    ghost view = { λ i. i.items.items };
+}
+
+impl Items {
+    /// No items.
+    pub fn new(alloc: Global) -> Items
+        ensures { result ≡ [] }
+    {
+        Items {
+            items: Vec::new(alloc),
+        }
+    }
+
+    /// How many there are.
+    pub fn len(&self) -> usize
+        ensures { result ≡ length self.now }
+    {
+        self.items.len()
+    }
+
+    /// All of them, in order.
+    pub fn as_slice(&self) -> &[Value]
+        ensures { result.now ≡ self.now }
+    {
+        self.items.as_slice()
+    }
+
+    /// Puts the items of another after these. After a refusal of memory these are as they were.
+    pub fn append(&mut self, more: Items) -> Result<(), AllocError>
+        ensures ok { OnOk result (self.new ≡ self.old ++ more) }
+        ensures err { OnErr result (self.new ≡ self.old) }
+    {
+        let mut more = more.items;
+        self.items.append(&mut more)?;
+        Ok(())
+    }
+
+    /// Sets the item at a place.
+    pub fn set(&mut self, place: usize, value: Value)
+        requires { place < length self.old }
+        ensures { self.new ≡ slice_set self.old place value }
+    {
+        self.items[place] = value;
+    }
+
+    /// Puts an item last. After a refusal of memory they are as they were.
+    pub fn push(&mut self, value: Value) -> Result<(), AllocError>
+        ensures ok { OnOk result (self.new ≡ self.old ++ value ∷ []) }
+        ensures err { OnErr result (self.new ≡ self.old) }
+    {
+        self.items.push(value)?;
+        Ok(())
+    }
+}
+
+/// The entries of a dict, or the fields of an instance, in order of insertion, with hashed looks.
+#[derive(Drop)]
+pub struct Entries {
+    map: IndexMap<Key, Value>,
+}
+
+impl Model for Entries {
+    ghost use Rattle.std.specs.Prelude.{List};
+    ghost use Rattle.values.specs.declared.value.Value.{Value as Held};
+    ghost use Rattle.values.specs.declared.leaf.Key.{Key as Index};
+    ghost use Rattle.values.specs.ValueCodes.{entries_code};
+
+    ghost Value = { List (Index × Held) };
+
+    ghost coded = { entries_code };
+
+    ghost view = { λ e. e.map.entries };
+}
+
+impl Entries {
+    /// No entries.
+    pub fn new(alloc: Global) -> Entries
+        ensures { result ≡ [] }
+    {
+        Entries {
+            map: IndexMap::new(alloc),
+        }
+    }
+
+    /// Gives the key the value: a key that is there keeps its place. After a refusal of memory they are as they were.
+    pub fn put(&mut self, key: Key, value: Value) -> Result<(), AllocError>
+        ensures ok { OnOk result (self.new ≡ insert_entry same_key self.old key value) }
+        ensures err { OnErr result (self.new ≡ self.old) }
+    {
+        self.map.insert(key, value)?;
+        Ok(())
+    }
+
+    /// The value of the key, if there is one.
+    pub fn get(&self, key: &Key) -> Option<&Value>
+        ensures { option_copied result ≡ lookup (same_key key.now) self.now }
+    {
+        self.map.get(key)
+    }
+
+    /// Whether the key is there.
+    pub fn has(&self, key: &Key) -> bool
+        ensures { result ≡ has_key self.now key.now }
+    {
+        self.map.get(key).is_some()
+    }
+
+    /// The key and the value at a place, by order of insertion.
+    pub fn at(&self, place: usize) -> Option<(&Key, &Value)>
+        ensures { MatchOption result (length self.now ≤ place) (λ e. slice_get self.now place ≡ Some (e.0.now, e.1.now)) }
+    {
+        self.map.get_index(place)
+    }
+
+    /// How many there are.
+    pub fn len(&self) -> usize
+        ensures { result ≡ length self.now }
+    {
+        self.map.len()
+    }
+}

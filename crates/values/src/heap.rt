@@ -1,0 +1,453 @@
+//! The heap: numbered cells that names share, and all that changes them.
+//!
+//! A change is refused by the first of `type`, `frozen`, `iterating`, `index` and `large`, and a refused
+//! change leaves the heap as it was. Each change finds its cell, and has the one cell changed.
+ghost use Rattle.std.specs.Prelude.{◌≡◌, ◌+◌, ◌-◌, ◌++◌, ◌∷◌, [], ◌<◌, Ok, Some, None, length, slice_get, option_copied, IfOk, IfSome, OnErr, MatchResult};
+ghost use Rattle.values.specs.Ticking.{FaultOr};
+ghost use Rattle.values.specs.Cells.{made, pushed_items, joined_items, indexed_items, keyed_entries, pushed, joined, indexed, keyed, walk_begun, walk_over, place_of, list_changed, dict_changed, walk_changed, IsWalked};
+ghost use Rattle.values.specs.declared.cells.Cell.{Cell as Kept};
+ghost use Rattle.values.specs.declared.ticks.Kind.{Kind as Fault};
+ghost use Rattle.std.specs.Prelude.{Result};
+
+use crate::{Broken, Cell, Entries, Items, Key, Kind, LARGEST, ProviderRef, Value};
+use std::alloc::{AllocError, Global};
+use std::marker::Model;
+
+/// Numbered cells. To a contract it is the list of them.
+#[derive(Drop)]
+pub struct Heap {
+    cells: Vec<Cell>,
+}
+
+impl Model for Heap {
+    ghost use Rattle.std.specs.Prelude.{List};
+    ghost use Rattle.values.specs.declared.cells.Cell.{Cell as Numbered};
+    ghost use Rattle.values.specs.CellCodes.{cells_code};
+
+    ghost Value = { List Numbered };
+
+    ghost coded = { cells_code };
+
+    ghost view = { λ h. h.cells.items };
+}
+
+impl Heap {
+    /// No cells.
+    pub fn new(alloc: Global) -> Heap
+        ensures { result ≡ [] }
+    {
+        Heap {
+            cells: Vec::new(alloc),
+        }
+    }
+
+    /// The cell of this number, if there is one.
+    pub fn cell(&self, number: usize) -> Option<&Cell>
+        ensures { option_copied result ≡ slice_get self.now number }
+    {
+        self.cells.get(number)
+    }
+
+    /// A new list in the next cell, or `large`.
+    pub fn new_list(&mut self, items: Items) -> Result<Value, Broken>
+        ensures { MatchResult result (λ v. made self.old (Cell.List items 0) (length items) ≡ Ok (v, self.new)) (λ e. (self.new ≡ self.old) × FaultOr (made self.old (Cell.List items 0) (length items)) e) }
+    {
+        let parts = items.len();
+        self.add(Cell::List(items, 0), parts)
+    }
+
+    /// A new tuple in the next cell, or `large`.
+    pub fn new_tuple(&mut self, items: Items) -> Result<Value, Broken>
+        ensures { MatchResult result (λ v. made self.old (Cell.Tuple items) (length items) ≡ Ok (v, self.new)) (λ e. (self.new ≡ self.old) × FaultOr (made self.old (Cell.Tuple items) (length items)) e) }
+    {
+        let parts = items.len();
+        self.add(Cell::Tuple(items), parts)
+    }
+
+    /// A new dict in the next cell, or `large`.
+    pub fn new_dict(&mut self, entries: Entries) -> Result<Value, Broken>
+        ensures { MatchResult result (λ v. made self.old (Cell.Dict entries 0) (length entries) ≡ Ok (v, self.new)) (λ e. (self.new ≡ self.old) × FaultOr (made self.old (Cell.Dict entries 0) (length entries)) e) }
+    {
+        let parts = entries.len();
+        self.add(Cell::Dict(entries, 0), parts)
+    }
+
+    /// A new instance of the provider in the next cell. It has as many fields as were given.
+    pub fn new_instance(&mut self, provider: ProviderRef, fields: Entries) -> Result<Value, Broken>
+        ensures { MatchResult result (λ v. made self.old (Cell.Instance provider fields) 0 ≡ Ok (v, self.new)) (λ e. (self.new ≡ self.old) × FaultOr (made self.old (Cell.Instance provider fields) 0) e) }
+    {
+        self.add(Cell::Instance(provider, fields), 0)
+    }
+
+    /// A new cell of so many parts.
+    fn add(&mut self, cell: Cell, parts: usize) -> Result<Value, Broken>
+        ensures { MatchResult result (λ v. made self.old cell parts ≡ Ok (v, self.new)) (λ e. (self.new ≡ self.old) × FaultOr (made self.old cell parts) e) }
+    {
+        if parts > LARGEST {
+            return Err(Broken::Kind(Kind::Large));
+        }
+        let number = self.cells.len();
+        match self.cells.push(cell) {
+            Ok(()) => Ok(Value::Cell(number)),
+            Err(_) => Err(Broken::NoMemory),
+        }
+    }
+
+    /// Puts an item last in a list: refused by `type`, `frozen`, `iterating` and `large`, in this order.
+    pub fn append(&mut self, list: &Value, item: &Value) -> Result<(), Broken>
+        ensures { MatchResult result (λ _. list_changed (pushed item.now) self.old list.now ≡ Ok self.new) (λ e. (self.new ≡ self.old) × FaultOr (list_changed (pushed item.now) self.old list.now) e) }
+    {
+        let number = match self.list_cell(list) {
+            Ok(number) => number,
+            Err(refused) => return Err(refused),
+        };
+        let cell = &mut self.cells[number];
+        if let Err(broken) = push_to(cell, item) {
+            return Err(broken);
+        }
+        Ok(())
+    }
+
+    /// Puts items last in a list, in place: refused as `append` is.
+    pub fn extend(&mut self, list: &Value, items: Items) -> Result<(), Broken>
+        ensures { MatchResult result (λ _. list_changed (joined items) self.old list.now ≡ Ok self.new) (λ e. (self.new ≡ self.old) × FaultOr (list_changed (joined items) self.old list.now) e) }
+    {
+        let number = match self.list_cell(list) {
+            Ok(number) => number,
+            Err(refused) => return Err(refused),
+        };
+        let cell = &mut self.cells[number];
+        if let Err(broken) = join_to(cell, items) {
+            return Err(broken);
+        }
+        Ok(())
+    }
+
+    /// Sets the item of a list at an index, from the end where it is negative: refused by `type`, `frozen`,
+    /// `iterating` and `index`, in this order.
+    pub fn set_index(&mut self, list: &Value, index: i64, item: &Value) -> Result<(), Broken>
+        ensures { MatchResult result (λ _. list_changed (indexed index item.now) self.old list.now ≡ Ok self.new) (λ e. (self.new ≡ self.old) × FaultOr (list_changed (indexed index item.now) self.old list.now) e) }
+    {
+        let number = match self.list_cell(list) {
+            Ok(number) => number,
+            Err(refused) => return Err(refused),
+        };
+        let cell = &mut self.cells[number];
+        if let Err(broken) = set_in(cell, index, item) {
+            return Err(broken);
+        }
+        Ok(())
+    }
+
+    /// Gives a key of a dict the value; a key that is there keeps its place. Refused by `type`, `frozen`,
+    /// `iterating` and, for a new key, `large`, in this order.
+    pub fn set_key(&mut self, dict: &Value, key: &Key, item: &Value) -> Result<(), Broken>
+        ensures { MatchResult result (λ _. dict_changed (keyed key.now item.now) self.old dict.now ≡ Ok self.new) (λ e. (self.new ≡ self.old) × FaultOr (dict_changed (keyed key.now item.now) self.old dict.now) e) }
+    {
+        let number = match self.dict_cell(dict) {
+            Ok(number) => number,
+            Err(refused) => return Err(refused),
+        };
+        let cell = &mut self.cells[number];
+        if let Err(broken) = put_in(cell, key, item) {
+            return Err(broken);
+        }
+        Ok(())
+    }
+
+    /// A walk over a list, a tuple or a dict begins: until it is over, a list or a dict isn't changed.
+    /// All else is `type`. Of a frozen value nothing is counted.
+    pub fn begin_walk(&mut self, walked: &Value) -> Result<(), Broken>
+        ensures { MatchResult result (λ _. walk_changed walk_begun self.old walked.now ≡ Ok self.new) (λ e. (self.new ≡ self.old) × FaultOr (walk_changed walk_begun self.old walked.now) e) }
+    {
+        let number = match self.walked_cell(walked) {
+            Ok(Some(number)) => number,
+            Ok(None) => return Ok(()),
+            Err(refused) => return Err(refused),
+        };
+        let cell = &mut self.cells[number];
+        if let Err(broken) = begin_in(cell) {
+            return Err(broken);
+        }
+        Ok(())
+    }
+
+    /// A walk that was begun is over.
+    pub fn end_walk(&mut self, walked: &Value) -> Result<(), Broken>
+        ensures { MatchResult result (λ _. walk_changed walk_over self.old walked.now ≡ Ok self.new) (λ e. (self.new ≡ self.old) × FaultOr (walk_changed walk_over self.old walked.now) e) }
+    {
+        let number = match self.walked_cell(walked) {
+            Ok(Some(number)) => number,
+            Ok(None) => return Ok(()),
+            Err(refused) => return Err(refused),
+        };
+        let cell = &mut self.cells[number];
+        if let Err(broken) = end_in(cell) {
+            return Err(broken);
+        }
+        Ok(())
+    }
+
+    /// The number of the cell that a change of a list changes, or why there is none.
+    fn list_cell(&self, list: &Value) -> Result<usize, Broken>
+        ensures { MatchResult result (λ n. (n < length self.now) × (list.now ≡ Value.Cell n)) (λ e. (f : Kept → Result Kept Fault) → FaultOr (list_changed f self.now list.now) e) }
+    {
+        match list {
+            Value::Leaf(_) => Err(Broken::Kind(Kind::Wrong)),
+            Value::Frozen(tree) => Err(Broken::Kind(if tree.is_list() {
+                Kind::Frozen
+            } else {
+                Kind::Wrong
+            })),
+            Value::Cell(number) => {
+                if *number < self.cells.len() {
+                    Ok(*number)
+                } else {
+                    Err(Broken::Kind(Kind::Wrong))
+                }
+            }
+        }
+    }
+
+    /// The number of the cell that a change of a dict changes, or why there is none.
+    fn dict_cell(&self, dict: &Value) -> Result<usize, Broken>
+        ensures { MatchResult result (λ n. (n < length self.now) × (dict.now ≡ Value.Cell n)) (λ e. (f : Kept → Result Kept Fault) → FaultOr (dict_changed f self.now dict.now) e) }
+    {
+        match dict {
+            Value::Leaf(_) => Err(Broken::Kind(Kind::Wrong)),
+            Value::Frozen(tree) => Err(Broken::Kind(if tree.is_dict() {
+                Kind::Frozen
+            } else {
+                Kind::Wrong
+            })),
+            Value::Cell(number) => {
+                if *number < self.cells.len() {
+                    Ok(*number)
+                } else {
+                    Err(Broken::Kind(Kind::Wrong))
+                }
+            }
+        }
+    }
+
+    /// The number of the cell that a walk counts in, None where it counts in none, or why it is refused.
+    fn walked_cell(&self, walked: &Value) -> Result<Option<usize>, Broken>
+        ensures { MatchResult result (IsWalked self.now walked.now) (λ e. (f : Kept → Result Kept Fault) → FaultOr (walk_changed f self.now walked.now) e) }
+    {
+        match walked {
+            Value::Leaf(_) => Err(Broken::Kind(Kind::Wrong)),
+            Value::Frozen(tree) => {
+                if tree.is_walkable() {
+                    Ok(None)
+                } else {
+                    Err(Broken::Kind(Kind::Wrong))
+                }
+            }
+            Value::Cell(number) => {
+                if *number < self.cells.len() {
+                    Ok(Some(*number))
+                } else {
+                    Err(Broken::Kind(Kind::Wrong))
+                }
+            }
+        }
+    }
+}
+
+/// Puts an item last in the list of a cell.
+fn push_to(cell: &mut Cell, item: &Value) -> Result<(), Broken>
+    ensures { MatchResult result (λ _. pushed item.now cell.old ≡ Ok cell.new) (λ e. (cell.new ≡ cell.old) × FaultOr (pushed item.now cell.old) e) }
+{
+    match cell {
+        Cell::List(parts, walks) => {
+            if *walks > 0 {
+                return Err(Broken::Kind(Kind::Iterating));
+            }
+            if let Err(broken) = push(parts, item) {
+                return Err(broken);
+            }
+            Ok(())
+        }
+        _ => Err(Broken::Kind(Kind::Wrong)),
+    }
+}
+
+/// Puts items last in the list of a cell.
+fn join_to(cell: &mut Cell, more: Items) -> Result<(), Broken>
+    ensures { MatchResult result (λ _. joined more cell.old ≡ Ok cell.new) (λ e. (cell.new ≡ cell.old) × FaultOr (joined more cell.old) e) }
+{
+    match cell {
+        Cell::List(parts, walks) => {
+            if *walks > 0 {
+                return Err(Broken::Kind(Kind::Iterating));
+            }
+            if let Err(broken) = join(parts, more) {
+                return Err(broken);
+            }
+            Ok(())
+        }
+        _ => Err(Broken::Kind(Kind::Wrong)),
+    }
+}
+
+/// Sets an item of the list of a cell.
+fn set_in(cell: &mut Cell, index: i64, item: &Value) -> Result<(), Broken>
+    ensures { MatchResult result (λ _. indexed index item.now cell.old ≡ Ok cell.new) (λ e. (cell.new ≡ cell.old) × FaultOr (indexed index item.now cell.old) e) }
+{
+    match cell {
+        Cell::List(parts, walks) => {
+            if *walks > 0 {
+                return Err(Broken::Kind(Kind::Iterating));
+            }
+            if let Err(broken) = set(parts, index, item) {
+                return Err(broken);
+            }
+            Ok(())
+        }
+        _ => Err(Broken::Kind(Kind::Wrong)),
+    }
+}
+
+/// Gives a key of the dict of a cell the value.
+fn put_in(cell: &mut Cell, key: &Key, item: &Value) -> Result<(), Broken>
+    ensures { MatchResult result (λ _. keyed key.now item.now cell.old ≡ Ok cell.new) (λ e. (cell.new ≡ cell.old) × FaultOr (keyed key.now item.now cell.old) e) }
+{
+    match cell {
+        Cell::Dict(parts, walks) => {
+            if *walks > 0 {
+                return Err(Broken::Kind(Kind::Iterating));
+            }
+            if let Err(broken) = put(parts, key, item) {
+                return Err(broken);
+            }
+            Ok(())
+        }
+        _ => Err(Broken::Kind(Kind::Wrong)),
+    }
+}
+
+/// Puts an item last, unless there are as many as a list may have.
+fn push(items: &mut Items, item: &Value) -> Result<(), Broken>
+    ensures { MatchResult result (λ _. pushed_items item.now items.old ≡ Ok items.new) (λ e. (items.new ≡ items.old) × FaultOr (pushed_items item.now items.old) e) }
+{
+    if items.len() >= LARGEST {
+        return Err(Broken::Kind(Kind::Large));
+    }
+    let item = item.share()?;
+    items.push(item)?;
+    Ok(())
+}
+
+/// Puts items last, unless there would be more than a list may have.
+fn join(items: &mut Items, more: Items) -> Result<(), Broken>
+    ensures { MatchResult result (λ _. joined_items more items.old ≡ Ok items.new) (λ e. (items.new ≡ items.old) × FaultOr (joined_items more items.old) e) }
+{
+    if items.len().saturating_add(more.len()) > LARGEST {
+        return Err(Broken::Kind(Kind::Large));
+    }
+    match items.append(more) {
+        Ok(()) => Ok(()),
+        Err(_) => Err(Broken::NoMemory),
+    }
+}
+
+/// Sets the item that an index means, if it means one.
+fn set(items: &mut Items, index: i64, item: &Value) -> Result<(), Broken>
+    ensures { MatchResult result (λ _. indexed_items index item.now items.old ≡ Ok items.new) (λ e. (items.new ≡ items.old) × FaultOr (indexed_items index item.now items.old) e) }
+{
+    match place_of(index, items.len()) {
+        None => Err(Broken::Kind(Kind::Index)),
+        Some(place) => {
+            let item = item.share()?;
+            items.set(place, item);
+            Ok(())
+        }
+    }
+}
+
+/// Gives a key the value, unless it would be one more than a dict may have.
+fn put(entries: &mut Entries, key: &Key, item: &Value) -> Result<(), Broken>
+    ensures { MatchResult result (λ _. keyed_entries key.now item.now entries.old ≡ Ok entries.new) (λ e. (entries.new ≡ entries.old) × FaultOr (keyed_entries key.now item.now entries.old) e) }
+{
+    if !entries.has(key) && entries.len() >= LARGEST {
+        return Err(Broken::Kind(Kind::Large));
+    }
+    let key = key.share()?;
+    let item = item.share()?;
+    entries.put(key, item)?;
+    Ok(())
+}
+
+/// Counts a walk over a cell.
+fn begin_in(cell: &mut Cell) -> Result<(), Broken>
+    ensures { MatchResult result (λ _. walk_begun cell.old ≡ Ok cell.new) (λ e. (cell.new ≡ cell.old) × FaultOr (walk_begun cell.old) e) }
+{
+    match cell {
+        Cell::List(_, walks) => {
+            if let Err(refused) = count_up(walks) {
+                return Err(refused);
+            }
+            Ok(())
+        }
+        Cell::Dict(_, walks) => {
+            if let Err(refused) = count_up(walks) {
+                return Err(refused);
+            }
+            Ok(())
+        }
+        Cell::Tuple(_) => Ok(()),
+        Cell::Instance(_, _) => Err(Broken::Kind(Kind::Wrong)),
+    }
+}
+
+/// One walk more. More than a `u64` counts are answered as want of memory.
+fn count_up(walks: &mut u64) -> Result<(), Broken>
+    ensures { MatchResult result (λ _. walks.new ≡ walks.old + 1) (λ e. (walks.new ≡ walks.old) × (e ≡ Broken.NoMemory)) }
+{
+    match walks.checked_add(1) {
+        Some(more) => {
+            *walks = more;
+            Ok(())
+        }
+        None => Err(Broken::NoMemory),
+    }
+}
+
+/// Takes a walk over a cell from the count.
+fn end_in(cell: &mut Cell) -> Result<(), Broken>
+    ensures { MatchResult result (λ _. walk_over cell.old ≡ Ok cell.new) (λ e. (cell.new ≡ cell.old) × FaultOr (walk_over cell.old) e) }
+{
+    match cell {
+        Cell::List(_, walks) => {
+            count_down(walks);
+            Ok(())
+        }
+        Cell::Dict(_, walks) => {
+            count_down(walks);
+            Ok(())
+        }
+        Cell::Tuple(_) => Ok(()),
+        Cell::Instance(_, _) => Err(Broken::Kind(Kind::Wrong)),
+    }
+}
+
+/// One walk less, where there is one.
+fn count_down(walks: &mut u64)
+    ensures { walks.new ≡ walks.old - 1 }
+{
+    *walks = walks.saturating_sub(1);
+}
+
+/// The place that an index means among so many items: a negative one counts from the end.
+pub fn place_of(index: i64, items: usize) -> Option<usize>
+    ensures place { result ≡ place_of index items }
+    ensures within { IfSome result (λ place. place < items) }
+{
+    if index >= 0 {
+        let place = index as usize;
+        if place < items { Some(place) } else { None }
+    } else {
+        let back = index.unsigned_abs() as usize;
+        items.checked_sub(back)
+    }
+}

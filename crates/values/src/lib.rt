@@ -1,0 +1,35 @@
+//! Values of the language: the heap, frozen values and equality.
+//!
+//! A value is a leaf (`leaf`), the number of a cell of a heap, or a frozen value (`value`). Cells are what
+//! names share (`heap`): lists, tuples, dicts and provider instances, with a count of the walks that go on.
+//! A frozen value is a tree whose parts are shared by a count each, also between threads (`frozen`).
+//! Equality looks at both through one view (`sees`, `equals`), and counts ticks (`ticks`).
+//!
+//! To a contract all of these are plain data: `specs/` says what, and what each call gives.
+#![tactic(auto)]
+
+mod cells;
+mod equals;
+mod frozen;
+mod heap;
+mod leaf;
+mod sees;
+mod ticks;
+mod value;
+
+pub use cells::{Cell, Entries, Items, LARGEST};
+pub use depsets::{
+    Depset, DepsetError, Element, ElementType, FileRef, Id, ListError, Listing, Order,
+};
+pub use equals::{VISITED_LEVELS, equal};
+pub use frozen::Frozen;
+pub use heap::{Heap, place_of};
+pub use leaf::{
+    AttributeKind, AttributeRef, ExportName, Exported, FunctionRef, Key, Leaf, Object, ProviderRef,
+};
+pub use sees::{Group, Item, Seen, Table};
+pub use ticks::{Broken, Kind, Ticks};
+pub use value::Value;
+
+#[cfg(test)]
+mod tests;

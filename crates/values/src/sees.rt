@@ -1,0 +1,209 @@
+//! One view of values, in the heap and frozen alike: what equality looks at.
+//!
+//! Nothing is shared or copied to look: a view borrows the heap and the value.
+ghost use Rattle.std.specs.Prelude.{◌≡◌, ◌<◌, ◌≤◌, length, slice_get, Some, MatchOption, map};
+ghost use Rattle.std.specs.Map.{lookup};
+ghost use Rattle.values.specs.Leaves.{same_key};
+ghost use Rattle.values.specs.Shape.{shape, cell_shape, value_of, zip};
+ghost use Rattle.values.specs.Seeing.{item_value, option_value, group_items, table_entries, seen};
+
+use crate::{Cell, Entries, Frozen, Heap, Key, Leaf, ProviderRef, Value};
+use indexmap::IndexSet;
+
+/// A value, or a frozen value as one.
+#[derive(Clone, Copy)]
+pub enum Item<'a> {
+    Value(&'a Value),
+    Tree(&'a Frozen),
+}
+
+/// The items of a list or tuple, wherever they stand.
+#[derive(Clone, Copy)]
+pub enum Group<'a> {
+    Values(&'a [Value]),
+    Trees(&'a [Frozen]),
+}
+
+/// The entries of a dict or the fields of an instance, wherever they stand, in order.
+#[derive(Clone, Copy)]
+pub enum Table<'a> {
+    Values(&'a Entries),
+    Trees(&'a IndexSet<Key>, &'a [Frozen]),
+}
+
+/// What a value shows.
+#[derive(Clone, Copy)]
+pub enum Seen<'a> {
+    Leaf(&'a Leaf),
+    List(Group<'a>),
+    Tuple(Group<'a>),
+    Dict(Table<'a>),
+    Instance(&'a ProviderRef, Table<'a>),
+    /// The number of a cell that the heap doesn't have.
+    Nothing,
+}
+
+impl<'a> Group<'a> {
+    /// How many items there are.
+    pub fn len(&self) -> usize
+        ensures { result ≡ length (group_items self.now) }
+    {
+        match self {
+            Group::Values(values) => values.len(),
+            Group::Trees(trees) => trees.len(),
+        }
+    }
+
+    /// The item at a place.
+    pub fn item(&self, place: usize) -> Item<'a>
+        requires { place < length (group_items self.now) }
+        ensures { slice_get (group_items self.now) place ≡ Some (item_value result) }
+    {
+        match self {
+            Group::Values(values) => value_at(values, place),
+            Group::Trees(trees) => tree_at(trees, place),
+        }
+    }
+}
+
+fn value_at<'a>(values: &'a [Value], place: usize) -> Item<'a>
+    requires { place < length values.now }
+    ensures { slice_get values.now place ≡ Some (item_value result) }
+{
+    Item::Value(&values[place])
+}
+
+fn tree_at<'a>(trees: &'a [Frozen], place: usize) -> Item<'a>
+    requires { place < length trees.now }
+    ensures { slice_get (map value_of trees.now) place ≡ Some (item_value result) }
+{
+    Item::Tree(&trees[place])
+}
+
+impl<'a> Table<'a> {
+    /// How many entries there are.
+    pub fn len(&self) -> usize
+        ensures { result ≡ length (table_entries self.now) }
+    {
+        match self {
+            Table::Values(entries) => entries.len(),
+            Table::Trees(keys, values) => keys.len().min(values.len()),
+        }
+    }
+
+    /// The key and the value at a place.
+    pub fn at(&self, place: usize) -> Option<(&'a Key, Item<'a>)>
+        ensures { MatchOption result (length (table_entries self.now) ≤ place) (λ e. slice_get (table_entries self.now) place ≡ Some (e.0.now, item_value e.1)) }
+    {
+        match self {
+            Table::Values(entries) => entry_at(entries, place),
+            Table::Trees(keys, values) => pair_at(keys, values, place),
+        }
+    }
+
+    /// The value of a key, by its hash.
+    pub fn get(&self, key: &Key) -> Option<Item<'a>>
+        ensures { option_value result ≡ lookup (same_key key.now) (table_entries self.now) }
+    {
+        match self {
+            Table::Values(entries) => value_of_key(entries, key),
+            Table::Trees(keys, values) => tree_of_key(keys, values, key),
+        }
+    }
+}
+
+fn entry_at<'a>(entries: &'a Entries, place: usize) -> Option<(&'a Key, Item<'a>)>
+    ensures { MatchOption result (length entries.now ≤ place) (λ e. slice_get entries.now place ≡ Some (e.0.now, item_value e.1)) }
+{
+    match entries.at(place) {
+        Some((key, value)) => Some((key, Item::Value(value))),
+        None => None,
+    }
+}
+
+fn pair_at<'a>(
+    keys: &'a IndexSet<Key>,
+    values: &'a [Frozen],
+    place: usize,
+) -> Option<(&'a Key, Item<'a>)>
+    ensures { MatchOption result (length (zip keys.now.keys values.now) ≤ place) (λ e. slice_get (zip keys.now.keys values.now) place ≡ Some (e.0.now, item_value e.1)) }
+{
+    if place >= keys.len() {
+        return None;
+    }
+    if place >= values.len() {
+        return None;
+    }
+    Some((key_at(keys, place), tree_at(values, place)))
+}
+
+fn key_at(keys: &IndexSet<Key>, place: usize) -> &Key
+    requires { place < length keys.now.keys }
+    ensures { slice_get keys.now.keys place ≡ Some result.now }
+{
+    &keys.as_slice()[place]
+}
+
+fn value_of_key<'a>(entries: &'a Entries, key: &Key) -> Option<Item<'a>>
+    ensures { option_value result ≡ lookup (same_key key.now) entries.now }
+{
+    match entries.get(key) {
+        Some(value) => Some(Item::Value(value)),
+        None => None,
+    }
+}
+
+fn tree_of_key<'a>(keys: &'a IndexSet<Key>, values: &'a [Frozen], key: &Key) -> Option<Item<'a>>
+    ensures { option_value result ≡ lookup (same_key key.now) (zip keys.now.keys values.now) }
+{
+    match keys.get_index_of(key) {
+        Some(place) => {
+            if place < values.len() {
+                Some(tree_at(values, place))
+            } else {
+                None
+            }
+        }
+        None => None,
+    }
+}
+
+impl Heap {
+    /// What a value shows.
+    pub fn see<'a>(&'a self, value: &'a Value) -> Seen<'a>
+        ensures { seen result ≡ shape self.now value.now }
+    {
+        match value {
+            Value::Leaf(leaf) => Seen::Leaf(leaf),
+            Value::Frozen(tree) => tree.see(),
+            Value::Cell(number) => match self.cell(*number) {
+                Some(cell) => cell.see(),
+                None => Seen::Nothing,
+            },
+        }
+    }
+
+    /// What an item shows.
+    pub fn see_item<'a>(&'a self, item: Item<'a>) -> Seen<'a>
+        ensures { seen result ≡ shape self.now (item_value item.entry) }
+    {
+        match item {
+            Item::Value(value) => self.see(value),
+            Item::Tree(tree) => tree.see(),
+        }
+    }
+}
+
+impl Cell {
+    /// What a value of this cell shows.
+    pub fn see(&self) -> Seen<'_>
+        ensures { seen result ≡ cell_shape (Some self.now) }
+    {
+        match self {
+            Cell::List(items, _) => Seen::List(Group::Values(items.as_slice())),
+            Cell::Tuple(items) => Seen::Tuple(Group::Values(items.as_slice())),
+            Cell::Dict(entries, _) => Seen::Dict(Table::Values(entries)),
+            Cell::Instance(provider, entries) => Seen::Instance(provider, Table::Values(entries)),
+        }
+    }
+}

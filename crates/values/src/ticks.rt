@@ -1,0 +1,122 @@
+//! Ticks, the kinds of fault, and what a visit costs.
+ghost use Rattle.std.specs.Prelude.{◌≡◌, ◌+◌, ◌≤◌, ◌<◌, Ok, Err, MatchResult};
+ghost use Rattle.values.specs.Ticking.{ticked, entered, FaultOr};
+
+use plain::Text;
+use std::alloc::AllocError;
+use std::marker::Model;
+
+/// The kinds of fault of an evaluation, named as a report prints them.
+#[derive(PartialEq, Eq, Drop)]
+pub enum Kind {
+    /// No such field or method.
+    Name,
+    /// A name is read before it is set.
+    Unset,
+    /// `type`: an operation isn't for values of this type.
+    Wrong,
+    /// A frozen list or dict would change.
+    Frozen,
+    /// A list or dict would change while it is walked.
+    Iterating,
+    /// An index is outside.
+    Index,
+    /// A key is missing, or there twice.
+    Key,
+    /// A result is outside 64 bits.
+    Overflow,
+    /// A divisor is zero.
+    Zero,
+    /// The tick that is one more than the limit.
+    Steps,
+    /// A function is called while it is active.
+    Recursion,
+    /// The arguments or the items don't fit in number.
+    Arity,
+    /// A string, list, tuple or dict would be too large.
+    Large,
+    /// A value, a depset or the active functions would be too deep.
+    Deep,
+    /// The orders of depsets don't go together.
+    Order,
+    /// A call stands where it may not.
+    Place,
+    /// `fail`, with its text.
+    Fail(Text),
+}
+
+/// A fault, or want of memory.
+#[derive(PartialEq, Eq, Drop)]
+pub enum Broken {
+    Kind(Kind),
+    NoMemory,
+}
+
+impl From<AllocError> for Broken {
+    ghost use Rattle.values.specs.declared.ticks.Broken.TheVariants.{NoMemory};
+
+    ghost from_gives = { λ _ b. b ≡ NoMemory };
+
+    fn from(_error: AllocError) -> Broken {
+        Broken::NoMemory
+    }
+}
+
+/// Ticks used, of a limit.
+#[derive(Drop)]
+pub struct Ticks {
+    limit: u64,
+    used: u64,
+}
+
+impl Model for Ticks {
+    ghost use Rattle.std.specs.Prelude.{◌≤◌};
+    ghost use Rattle.values.specs.Ticking.{Count};
+
+    ghost Value = { Count };
+
+    ghost view = { λ t. record { limit = t.limit; used = t.used } };
+
+    ghost invariant = { λ t. t.used ≤ t.limit };
+}
+
+impl Ticks {
+    /// No tick used, of this limit.
+    pub fn new(limit: u64) -> Ticks
+        ensures { result ≡ record { limit = limit; used = 0 } }
+    {
+        Ticks { limit, used: 0 }
+    }
+
+    /// How many are used.
+    pub fn used(&self) -> u64
+        ensures { result ≡ self.now.used }
+    {
+        self.used
+    }
+
+    /// One tick more, or the fault `steps` where the limit is used up.
+    pub fn tick(&mut self) -> Result<(), Broken>
+        ensures { MatchResult result (λ _. ticked self.old ≡ Ok self.new) (λ e. (e ≡ Broken.Kind Kind.Steps) × (ticked self.old ≡ Err Kind.Steps)) }
+    {
+        if self.used < self.limit {
+            self.used += 1;
+            Ok(())
+        } else {
+            Err(Broken::Kind(Kind::Steps))
+        }
+    }
+
+    /// A visit of a value with this many levels left: a tick, and then the fault `deep` where none is left.
+    pub fn enter(&mut self, left: u32) -> Result<(), Broken>
+        ensures { MatchResult result (λ _. (entered left self.old ≡ Ok self.new) × (0 < left)) (λ e. FaultOr (entered left self.old) e) }
+    {
+        if let Err(broken) = self.tick() {
+            return Err(broken);
+        }
+        if left == 0 {
+            return Err(Broken::Kind(Kind::Deep));
+        }
+        Ok(())
+    }
+}
