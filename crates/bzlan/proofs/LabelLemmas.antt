@@ -12,6 +12,7 @@ use Rattle.std.specs.Prelude.{MatchOption, option_map, nat_le, if◌then◌else�
 use Rattle.std.specs.List.{list_any, slice_split, onto_first, starts_with, suffix_len}
 use Rattle.std.specs.Str.Pattern.{RFindsChar}
 use Rattle.bzlan.specs.Paths.{are_segments, is_path, is_segment, is_slash}
+use Rattle.bzlan.specs.FileKinds.{package_of}
 use Rattle.bzlan.specs.Labels.{is_colon, is_label, label_parts, last_segment, relative_name, whole_parts}
 
 -- a text that no colon begins is a name as it stands
@@ -32,19 +33,24 @@ whole_parts-package rest none = rw (no_colon rest none) refl
 is_other : (b : ℕ) → b ≢ 47 → not (is_slash b) ≡ true
 is_other b other = not_from_false (is_slash b) (ne_eqb b 47 other)
 
--- a text without slashes is one segment
-pub last_segment-one : (text : List ℕ) → ((i : ℕ) → i < length text → get_or text i 0 ≢ 47) → text ≡ last_segment text
-last_segment-one text none =
-    let tail = suffix_len_is (λ b. not (is_slash b)) text 0 0 (omega arith) (λ k _ lt. is_other (get_or text k 0) (none k lt)) (λ (lt : 0 < 0). absurd (omega (arith, lt))) in
-    let start : length text - suffix_len (λ b. not (is_slash b)) text ≡ 0 = omega (arith, tail) in
-    rw start refl
+-- how many bytes stand before the last segment
+abbrev pub segment_start : List ℕ → ℕ
+segment_start text = length text - suffix_len (λ b. not (is_slash b)) text
 
--- what follows the last slash
-pub last_segment-cut : (text : List ℕ) (r : Option (Bor (List ℕ) × Bor (List ℕ)))
-    → MatchOption r (RFindsChar 47 text None) (λ x. (i : ℕ) × (j : ℕ) × RFindsChar 47 text (Some (i, j)) × (x.0.now ≡ take i text) × (x.1.now ≡ drop j text) × (i ≤ j) × (length x.0.now ≡ i) × (length x.1.now + j ≡ length text))
-    → MatchOption r (text ≡ last_segment text) (λ x. x.1.now ≡ last_segment text)
-last_segment-cut text None none = last_segment-one text (λ i lt. NoCharPasses-char 47 text i none (lit< tt) lt)
-last_segment-cut text (Some x) h =
+-- in a text without slashes, none
+pub segment_start-one : (text : List ℕ) → ((i : ℕ) → i < length text → get_or text i 0 ≢ 47) → segment_start text ≡ 0
+segment_start-one text none =
+    let tail = suffix_len_is (λ b. not (is_slash b)) text 0 0 (omega arith) (λ k _ lt. is_other (get_or text k 0) (none k lt)) (λ (lt : 0 < 0). absurd (omega (arith, lt))) in
+    omega (arith, tail)
+
+-- what `rsplit_once` says of the last slash
+abbrev pub Cut : List ℕ → Bor (List ℕ) × Bor (List ℕ) → Type 0
+Cut text x =
+    (i : ℕ) × (j : ℕ) × RFindsChar 47 text (Some (i, j)) × (x.0.now ≡ take i text) × (x.1.now ≡ drop j text) × (i ≤ j) × (length x.0.now ≡ i) × (length x.1.now + j ≡ length text)
+
+-- the last segment begins behind the last slash
+pub segment_start-cut : (text : List ℕ) (x : Bor (List ℕ) × Bor (List ℕ)) (h : Cut text x) → (segment_start text ≡ h.1) × (h.1 ≡ h.0 + 1)
+segment_start-cut text x h =
     let i = h.0 in
     let j = h.1 in
     let at = h.2.1 in
@@ -58,8 +64,30 @@ last_segment-cut text (Some x) h =
     let before : j - 1 ≡ i = omega (arith, next) in
     let tail = suffix_len_is (λ b. not (is_slash b)) text j 0 within (λ k ge lt. is_other (get_or text k 0) (clear k ge lt))
     (λ _. not_from_true (is_slash (get_or text (j - 1) 0)) (eq-eqb _ 47 (ap (λ (m : ℕ). get_or text m 0) before ∙ here))) in
-    let start : length text - suffix_len (λ b. not (is_slash b)) text ≡ j = omega (arith, tail, within) in
-    h.4 ∙ ap (λ (m : ℕ). drop m text) (sym start)
+    (omega (arith, tail, within), next)
+
+-- a text without slashes is one segment
+pub last_segment-one : (text : List ℕ) → ((i : ℕ) → i < length text → get_or text i 0 ≢ 47) → text ≡ last_segment text
+last_segment-one text none = ap (λ (m : ℕ). drop m text) (sym (segment_start-one text none))
+
+-- what follows the last slash
+pub last_segment-cut : (text : List ℕ) (r : Option (Bor (List ℕ) × Bor (List ℕ)))
+    → MatchOption r (RFindsChar 47 text None) (Cut text)
+    → MatchOption r (text ≡ last_segment text) (λ x. x.1.now ≡ last_segment text)
+last_segment-cut text None none = last_segment-one text (λ i lt. NoCharPasses-char 47 text i none (lit< tt) lt)
+last_segment-cut text (Some x) h = h.4 ∙ ap (λ (m : ℕ). drop m text) (sym (segment_start-cut text x h).0)
+
+-- what stands before it
+pub package_of-cut : (text : List ℕ) (r : Option (Bor (List ℕ) × Bor (List ℕ)))
+    → MatchOption r (RFindsChar 47 text None) (Cut text)
+    → MatchOption r ([] ≡ package_of text) (λ x. x.0.now ≡ package_of text)
+package_of-cut text None none =
+    let start = segment_start-one text (λ i lt. NoCharPasses-char 47 text i none (lit< tt) lt) in
+    rw start refl
+package_of-cut text (Some x) h =
+    let start = segment_start-cut text x h in
+    let place : segment_start text - 1 ≡ h.0 = omega (arith, start.0, start.1) in
+    h.3 ∙ ap (λ (m : ℕ). take m text) (sym place)
 
 -- a text that begins with `//`
 pub label_parts-whole : (text rest : List ℕ) (package_given : Option (List ℕ)) → text ≡ codes "//" ++ rest

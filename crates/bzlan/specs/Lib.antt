@@ -7,3 +7,15 @@ pub mod Files
 pub mod CommandLine
 pub mod Asked
 pub mod Input
+pub mod FileKinds
+pub mod Outcomes
+pub mod ReportText
+pub mod Answer
+pub mod FirstForm
+pub mod Served
+pub mod Reports
+pub mod Seen
+pub mod FirstAnswer
+pub mod Asking
+pub mod Requests
+pub mod RequestReports

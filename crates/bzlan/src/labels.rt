@@ -43,7 +43,7 @@ pub enum LabelRefused {
 }
 
 /// What stands after the last slash of a text, or all of it where it has none.
-fn last_segment(text: &str) -> &str
+pub(crate) fn last_segment(text: &str) -> &str
     ensures { result.now ≡ last_segment text.now }
 {
     match text.rsplit_once('/') {
@@ -86,7 +86,7 @@ fn label_parts<'a>(text: &'a str, package: Option<&'a str>) -> Option<(&'a str, 
 }
 
 /// Whether a package and a name make a label.
-fn is_label(package: &str, name: &str) -> bool
+pub(crate) fn is_label(package: &str, name: &str) -> bool
     ensures { result ≡ is_label (record { «package» = «package».now; name = name.now }) }
 {
     is_path(name)

@@ -1,0 +1,20 @@
+-- A report that was made: its bytes, and whether it is loud.
+use Rattle.std.specs.Prelude.{◌≡◌, ℕ, List}
+use Rattle.bzlan.specs.declared.engine.Report.{Report}
+use Rattle.bzlan.specs.Answer.{Answer, answer_text, is_loud}
+use Rattle.bzlan.specs.Labels.{LabelParts}
+use Rattle.bzlan.specs.Served.{Answers}
+use Rattle.bzlan.specs.Workspaces.{Pair}
+
+-- a report says just what the answer is
+pub record Reports (workspace : List Pair) (labels : List LabelParts) (limit : ℕ) (r : Report) : Type 0 where
+  pub answer : Answer
+  pub answers : Answers workspace labels limit answer
+  pub told : r.bytes.items ≡ answer_text answer
+  pub loud : r.loud ≡ is_loud answer
+
+-- bytes that are the answer's
+pub record AnswersIn (workspace : List Pair) (labels : List LabelParts) (limit : ℕ) (bytes : List ℕ) : Type 0 where
+  pub answer : Answer
+  pub answers : Answers workspace labels limit answer
+  pub told : bytes ≡ answer_text answer

@@ -1,0 +1,57 @@
+//! The texts of a report.
+
+ghost use Rattle.std.specs.Prelude.{◌≡◌, ◌∷◌, [], IfOk, string_bytes};
+ghost use Rattle.bzlan.specs.Outcomes.{done, with_default_info};
+ghost use Rattle.bzlan.specs.ReportText.{outcome_text};
+ghost use Rattle.bzlan.specs.Seen.{instance_seen};
+
+use crate::labels::Label;
+use std::alloc::{AllocError, Global};
+use std::fmt;
+
+/// An instance of a module's provider, with a number in its one field.
+#[derive(Clone, Copy)]
+pub(crate) struct Instance<'a> {
+    /// The path of the module.
+    pub(crate) module: &'a str,
+    /// The provider's name there.
+    pub(crate) provider: &'a str,
+    /// The field.
+    pub(crate) field: &'a str,
+    /// The number in the field.
+    pub(crate) number: u64,
+}
+
+/// The line of the provider.
+impl fmt::Display for Instance<'_> {
+    ghost use Rattle.std.specs.Prelude.{Some};
+    ghost use Rattle.bzlan.specs.ReportText.{provider_line};
+    ghost use Rattle.bzlan.specs.Seen.{instance_seen};
+
+    ghost output = { λ i. Some (provider_line (instance_seen i)) };
+
+    fn fmt<W: fmt::Write>(&self, f: &mut fmt::Formatter<W>) -> fmt::Result {
+        let Instance {
+            module,
+            provider,
+            field,
+            number,
+        } = *self;
+        writeln!(f, "  provider {module}%{provider} {field}={number}")
+    }
+}
+
+/// The lines of a target that is done and whose function returned this instance; a `DefaultInfo` without files is put
+/// first.
+pub(crate) fn done_text(
+    alloc: Global,
+    label: &Label,
+    returned: Instance<'_>,
+) -> Result<String, AllocError>
+    ensures { IfOk result (λ s. string_bytes s ≡ outcome_text label.now (done (with_default_info (instance_seen returned.entry ∷ [])) [])) }
+{
+    let label = label.text();
+    format!(in alloc;
+        "target {label} ok\n  provider DefaultInfo files=depset(default, [])\n{returned}"
+    )
+}

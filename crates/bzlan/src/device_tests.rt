@@ -1,0 +1,60 @@
+//! Reading and writing over devices that give and take little, or fail at any of their calls.
+
+use crate::devices::{InputStop, WriteFailed, read_input, write_all};
+use crate::memory::{Failing, Page, Tape, long_text};
+use std::test::Fail;
+
+#[test]
+fn inputs_are_read_whole_or_fail(rt: HostRuntime) -> Result<(), Fail> {
+    let alloc = rt.alloc();
+    for piece in [1, 3, 10_000] {
+        let mut tape = Tape::new(b"an input", piece, None);
+        let Ok(input) = read_input(alloc, &mut tape) else {
+            panic!(rt; "pieces of {piece}")
+        };
+        assert!(rt;
+            input.as_slice() == b"an input".as_slice(),
+            "pieces of {piece}"
+        );
+        let calls = tape.calls;
+        for call in 0..calls {
+            let mut tape = Tape::new(b"an input", piece, Some(call));
+            let stop = read_input(alloc, &mut tape).err();
+            assert!(rt; stop == Some(InputStop::Read), "call {call} of {calls}");
+        }
+    }
+    let mut longest = long_text(alloc, 4096)?.repeat(alloc, 4096)?;
+    let mut tape = Tape::new(longest.as_bytes(), 4096, None);
+    assert!(rt; read_input(alloc, &mut tape).is_ok());
+    longest.push_str("yz")?;
+    let mut tape = Tape::new(longest.as_bytes(), 4096, None);
+    assert!(rt; read_input(alloc, &mut tape).err() == Some(InputStop::TooLong));
+    assert!(rt; tape.left == b"z".as_slice());
+    Ok(())
+}
+
+#[test]
+fn texts_are_written_whole_or_fail(rt: HostRuntime) {
+    let alloc = rt.alloc();
+    for piece in [1, 3, 10_000] {
+        let mut page = Page::new(alloc, piece, None, Failing::Interrupted);
+        assert!(rt; write_all(&mut page, b"a report").is_ok());
+        assert!(rt;
+            page.bytes.as_slice() == b"a report".as_slice(),
+            "pieces of {piece}"
+        );
+        let calls = page.calls;
+        for call in 0..calls {
+            let mut page = Page::new(alloc, piece, Some(call), Failing::Interrupted);
+            let answer = write_all(&mut page, b"a report");
+            assert!(rt; answer == Err(WriteFailed), "call {call} of {calls}");
+            assert!(rt; b"a report".starts_with(page.bytes.as_slice()));
+        }
+        for call in 0..calls.saturating_sub(1) {
+            let mut page = Page::new(alloc, piece, Some(call), Failing::Stalled);
+            let answer = write_all(&mut page, b"a report");
+            assert!(rt; answer == Err(WriteFailed), "write {call} of {calls}");
+            assert!(rt; b"a report".starts_with(page.bytes.as_slice()));
+        }
+    }
+}

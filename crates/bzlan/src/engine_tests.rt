@@ -1,0 +1,309 @@
+//! Workspaces of the first form with their reports, and others that are answered `Later`.
+use crate::{AnalyseStop, Label, NoGate, Workspace, analyse};
+use std::alloc::Global;
+use std::str;
+use std::sync::Wait;
+use std::test::Fail;
+use std::thread::Threads;
+
+/// The module that the documents' example has.
+const RULES: &str =
+    "I = provider(fields = [\"n\"])\ndef _r(ctx):\n    return [I(n = 1)]\nr = rule(implementation = _r)\n";
+
+/// Its `BUILD` file.
+const BUILD: &str = "load(\":i.bzl\", \"r\")\nr(name = \"x\")\n";
+
+/// And the report on its target.
+const REPORT: &str =
+    "target //a:x ok\n  provider DefaultInfo files=depset(default, [])\n  provider a/i.bzl%I n=1\n";
+
+/// The report, or the name of the stop.
+fn answered<R: Threads + Wait + Sync>(
+    rt: &R,
+    alloc: Global,
+    files: &[(&str, &str)],
+    labels: &[&str],
+    workers: u64,
+    limit: u64,
+) -> Result<String, Fail> {
+    let Ok(workspace) = Workspace::new(alloc, files) else {
+        return Err(Fail::from("a workspace is made"));
+    };
+    let mut asked = Vec::new(alloc);
+    for text in labels {
+        let Ok(label) = Label::read(alloc, text, None) else {
+            return Err(Fail::from("a label is read"));
+        };
+        asked.push(label)?;
+    }
+    let stop = match analyse(
+        rt,
+        alloc,
+        &workspace,
+        asked.as_slice(),
+        workers,
+        limit,
+        &NoGate,
+    ) {
+        Ok(bytes) => match str::from_utf8(bytes.as_slice()) {
+            Ok(text) => return Ok(String::from_str(alloc, text)?),
+            Err(_) => return Err(Fail::from("a report is a text")),
+        },
+        Err(stop) => stop,
+    };
+    let name = match stop {
+        AnalyseStop::Workers => "workers",
+        AnalyseStop::TooMany => "too many",
+        AnalyseStop::NoMemory => "no memory",
+        AnalyseStop::NoThread => "no thread",
+        AnalyseStop::Later => "later",
+    };
+    Ok(String::from_str(alloc, name)?)
+}
+
+#[test]
+fn one_target_for_any_workers_and_labels(rt: HostRuntime) -> Result<(), Fail> {
+    let alloc = rt.alloc();
+    let files = [("a/i.bzl", RULES), ("a/BUILD", BUILD)];
+    let turned = [("a/BUILD", BUILD), ("a/i.bzl", RULES)];
+    let once = ["//a:x"];
+    let twice = ["//a:x", "//a:x"];
+    let nothing: [&str; 0] = [];
+    let other = ["//a:y"];
+    let file = ["//a:i.bzl"];
+    let also = ["//a:x", "//:x"];
+    for (labels, workers, limit, want) in [
+        (once.as_slice(), 1u64, 1_000_000u64, REPORT),
+        (&once, 2, 1_000_000, REPORT),
+        (&once, 64, 1_000_000, REPORT),
+        (&once, 0, 1_000_000, "workers"),
+        (&once, 65, 1_000_000, "workers"),
+        (&other, 65, 99, "workers"),
+        (&twice, 2, 1_000_000, REPORT),
+        (&nothing, 2, 1_000_000, ""),
+        (&once, 2, 100, REPORT),
+        (&once, 2, 99, "later"),
+        (&nothing, 2, 99, "later"),
+        (&once, 2, u64::MAX, REPORT),
+        (&other, 2, 1_000_000, "later"),
+        (&file, 2, 1_000_000, "later"),
+        (&also, 2, 1_000_000, "later"),
+    ] {
+        let found = answered(&rt, alloc, &files, labels, workers, limit)?;
+        assert_eq!(rt; found.as_str(), want, "{workers} {limit}");
+        let found = answered(&rt, alloc, &turned, labels, workers, limit)?;
+        assert_eq!(rt; found.as_str(), want, "{workers} {limit}");
+    }
+    Ok(())
+}
+
+#[test]
+fn no_files(rt: HostRuntime) -> Result<(), Fail> {
+    let alloc = rt.alloc();
+    for (labels, workers, want) in [
+        ([].as_slice(), 1u64, ""),
+        ([].as_slice(), 0, "workers"),
+        (["//a:x"].as_slice(), 1, "later"),
+    ] {
+        let found = answered(&rt, alloc, &[], labels, workers, 1)?;
+        assert_eq!(rt; found.as_str(), want, "{workers}");
+    }
+    Ok(())
+}
+
+#[test]
+fn workspaces_of_the_first_form(rt: HostRuntime) -> Result<(), Fail> {
+    let alloc = rt.alloc();
+    for (module_path, module, build_path, build, label, want) in [
+        // other names and no spaces
+        (
+            "pkg/sub/rules.bzl",
+            "Count=provider(fields=['count'])\ndef impl(c):\n return[Count(count=7)]\ngo=rule(implementation=impl)",
+            "pkg/sub/BUILD",
+            "load(':rules.bzl','go')\ngo(name='t')",
+            "//pkg/sub:t",
+            "target //pkg/sub:t ok\n  provider DefaultInfo files=depset(default, [])\n  provider pkg/sub/rules.bzl%Count count=7\n",
+        ),
+        // the root package
+        (
+            "i.bzl",
+            RULES,
+            "BUILD",
+            BUILD,
+            "//:x",
+            "target //:x ok\n  provider DefaultInfo files=depset(default, [])\n  provider i.bzl%I n=1\n",
+        ),
+        // comments, empty lines, other columns
+        (
+            "a/i.bzl",
+            "# a\n\nI = provider(fields = ['n']) # b\n\n\ndef _r(ctx):\n# c\n  # d\n\n         return [I(n = 1)]  # e\n\nr = rule(implementation = _r)\n\n",
+            "a/BUILD",
+            "\n# a\nload(\n \":i.bzl\",\n\"r\"\n  ) # b\n\nr(\n      name = 'x'\n)\n\n# c",
+            "//a:x",
+            REPORT,
+        ),
+        // the least and the greatest number
+        (
+            "a/i.bzl",
+            "I = provider(fields = [\"n\"])\ndef _r(ctx):\n    return [I(n = 0)]\nr = rule(implementation = _r)\n",
+            "a/BUILD",
+            BUILD,
+            "//a:x",
+            "target //a:x ok\n  provider DefaultInfo files=depset(default, [])\n  provider a/i.bzl%I n=0\n",
+        ),
+        (
+            "a/i.bzl",
+            "I = provider(fields = [\"n\"])\ndef _r(ctx):\n    return [I(n = 9223372036854775807)]\nr = rule(implementation = _r)\n",
+            "a/BUILD",
+            BUILD,
+            "//a:x",
+            "target //a:x ok\n  provider DefaultInfo files=depset(default, [])\n  provider a/i.bzl%I n=9223372036854775807\n",
+        ),
+        // a name of two segments, and one that is a number's
+        (
+            "a/i.bzl",
+            RULES,
+            "a/BUILD",
+            "load(\":i.bzl\", \"r\")\nr(name = \"b/10.x-y\")\n",
+            "//a:b/10.x-y",
+            "target //a:b/10.x-y ok\n  provider DefaultInfo files=depset(default, [])\n  provider a/i.bzl%I n=1\n",
+        ),
+        // the target is asked for by the package alone, and hides a file
+        (
+            "a/i.bzl",
+            RULES,
+            "a/BUILD",
+            "load(\":i.bzl\", \"r\")\nr(name = \"a\")\n",
+            "//a",
+            "target //a:a ok\n  provider DefaultInfo files=depset(default, [])\n  provider a/i.bzl%I n=1\n",
+        ),
+        (
+            "a/i.bzl",
+            RULES,
+            "a/BUILD",
+            "load(\":i.bzl\", \"r\")\nr(name = \"BUILD\")\n",
+            "//a:BUILD",
+            "target //a:BUILD ok\n  provider DefaultInfo files=depset(default, [])\n  provider a/i.bzl%I n=1\n",
+        ),
+        // a module with the shortest name, and names that look like others
+        (
+            "a/.bzl",
+            "__ = provider(fields = [\"__name\"])\ndef Rule(name):\n    return [__(__name = 65536)]\nrule_ = rule(implementation = Rule)\n",
+            "a/BUILD",
+            "load(\":.bzl\", \"rule_\")\nrule_(name = \"name\")\n",
+            "//a:name",
+            "target //a:name ok\n  provider DefaultInfo files=depset(default, [])\n  provider a/.bzl%__ __name=65536\n",
+        ),
+        (
+            "BUILD/BUILD.bzl",
+            RULES,
+            "BUILD/BUILD",
+            "load(\":BUILD.bzl\", \"r\")\nr(name = \"x\")\n",
+            "//BUILD:x",
+            "target //BUILD:x ok\n  provider DefaultInfo files=depset(default, [])\n  provider BUILD/BUILD.bzl%I n=1\n",
+        ),
+    ] {
+        let found = answered(
+            &rt,
+            alloc,
+            &[(module_path, module), (build_path, build)],
+            &[label],
+            3,
+            1_000_000,
+        )?;
+        assert_eq!(rt; found.as_str(), want, "{module_path} {build}");
+    }
+    Ok(())
+}
+
+#[test]
+fn workspaces_of_other_forms(rt: HostRuntime) -> Result<(), Fail> {
+    let alloc = rt.alloc();
+    for (module_path, module, build_path, build) in [
+        // a rule with attributes
+        (
+            "a/w.bzl",
+            "def _w(ctx):\n    o = ctx.actions.declare_file(ctx.label.name + \".txt\")\n    ctx.actions.write(o, ctx.attr.text)\n    return [DefaultInfo(files = depset([o]))]\nw = rule(implementation = _w, attrs = {\"text\": attr.string(), \"deps\": attr.label_list()})\n",
+            "a/BUILD",
+            "load(\":w.bzl\", \"w\")\nw(name = \"x\", text = \"hi\")\n",
+        ),
+        // another file, the module in other words, another rule
+        (
+            "a/i.bzl",
+            RULES,
+            "a/BUILD",
+            "load(\":j.bzl\", \"r\")\nr(name = \"x\")\n",
+        ),
+        (
+            "a/i.bzl",
+            RULES,
+            "a/BUILD",
+            "load(\"//a:i.bzl\", \"r\")\nr(name = \"x\")\n",
+        ),
+        (
+            "a/i.bzl",
+            RULES,
+            "a/BUILD",
+            "load(\"//:a/i.bzl\", \"r\")\nr(name = \"x\")\n",
+        ),
+        (
+            "a/i.bzl",
+            RULES,
+            "a/BUILD",
+            "load(\"i.bzl\", \"r\")\nr(name = \"x\")\n",
+        ),
+        (
+            "a/i.bzl",
+            RULES,
+            "a/BUILD",
+            "load(\"//a/i.bzl\", \"r\")\nr(name = \"x\")\n",
+        ),
+        (
+            "a/i.bzl",
+            RULES,
+            "a/BUILD",
+            "load(\":i.bzl\", \"s\")\ns(name = \"x\")\n",
+        ),
+        // an illegal name
+        (
+            "a/i.bzl",
+            RULES,
+            "a/BUILD",
+            "load(\":i.bzl\", \"r\")\nr(name = \":x\")\n",
+        ),
+        (
+            "a/i.bzl",
+            RULES,
+            "a/BUILD",
+            "load(\":i.bzl\", \"r\")\nr(name = \"\")\n",
+        ),
+        // other packages, no module, no `BUILD` file
+        (
+            "b/i.bzl",
+            RULES,
+            "a/BUILD",
+            "load(\"//b:i.bzl\", \"r\")\nr(name = \"x\")\n",
+        ),
+        (
+            "a/b/i.bzl",
+            RULES,
+            "a/BUILD",
+            "load(\":b/i.bzl\", \"r\")\nr(name = \"x\")\n",
+        ),
+        ("a/i.txt", RULES, "a/BUILD", BUILD),
+        ("a/i.bzl", RULES, "a/BUILD.bazel", BUILD),
+        ("a/i.bzl", RULES, "a/j.bzl", BUILD),
+        // the texts turned round
+        ("a/i.bzl", BUILD, "a/BUILD", RULES),
+    ] {
+        let files = [(module_path, module), (build_path, build)];
+        let found = answered(&rt, alloc, &files, &["//a:x"], 1, 1_000_000)?;
+        assert_eq!(rt; found.as_str(), "later", "{module_path} {build}");
+    }
+    let more = [("a/i.bzl", RULES), ("a/BUILD", BUILD), ("a/s.txt", "")];
+    let found = answered(&rt, alloc, &more, &["//a:x"], 1, 1_000_000)?;
+    assert_eq!(rt; found.as_str(), "later");
+    let found = answered(&rt, alloc, &more[..1], &["//a:x"], 1, 1_000_000)?;
+    assert_eq!(rt; found.as_str(), "later");
+    Ok(())
+}
