@@ -3,3 +3,4 @@ pub mod Skip
 pub mod Turns
 pub mod Same
 pub mod TypeLemmas
+pub mod Walked

@@ -1,5 +1,5 @@
 -- The words of the listing's contracts.
-use Rattle.std.specs.Prelude.{ℕ, Bool, cond, ◌&&◌, List, nat_eq}
+use Rattle.std.specs.Prelude.{ℕ, Bool, cond, ◌&&◌, List, [], nat_eq}
 use Rattle.std.specs.Str.{bytes_eq}
 use Rattle.depsets.specs.Rose.{Rose, roses, children, label}
 use Rattle.depsets.specs.Own.{Own, own_id, own_direct}
@@ -42,3 +42,7 @@ abbrev pub inside : Bool → Rose Own → Walk Id Element → Walk Id Element
 inside pre d s =
     cond pre (visited_all pre (children d) (took (label d).direct (label d) s))
     (took (label d).direct (label d) (visited_all pre (children d) s))
+
+-- The items of the walk that visits no id twice. Of a coherent depset they are its listing.
+abbrev pub walked : Rose Own → List Element
+walked d = (visited (is_preorder (label d).order) d (record { seen = []; items = []; steps = 1 })).items

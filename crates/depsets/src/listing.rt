@@ -10,7 +10,7 @@ ghost use Rattle.depsets.specs.Rose.{children, label, node, roses};
 ghost use Rattle.depsets.specs.Walker.{walk_of};
 ghost use Rattle.depsets.specs.Keys.{keep};
 ghost use Rattle.depsets.specs.Elements.{same_element};
-ghost use Rattle.depsets.specs.Listed.{visited, visited_all, inside, took, same_id, flat, work, IsCoherent};
+ghost use Rattle.depsets.specs.Listed.{visited, visited_all, inside, took, same_id, flat, work, walked, IsCoherent};
 
 use crate::{Depset, Element, Id};
 use indexmap::IndexSet;
@@ -45,12 +45,13 @@ impl Depset {
     ///
     /// It takes as many steps as there is work: 1, and over the distinct ids the direct elements and the
     /// links to children. What it promises of items and steps speaks of coherent depsets: those where any
-    /// two parts with one id are the same tree.
+    /// two parts with one id are the same tree. Of others the items are still those of the walk.
     ///
     /// # Errors
     ///
     /// `AllocError` where memory for the items was refused, or where the steps pass the greatest `u64`.
     pub fn list_whole(&self, alloc: Global) -> Result<Listing, AllocError>
+        ensures walk { IfOk result (λ l. l.items.keys ≡ walked self.now) }
         ensures items { IfOk result (λ l. IsCoherent self.now → l.items.keys ≡ flat self.now) }
         ensures steps { IfOk result (λ l. IsCoherent self.now → l.steps ≡ work self.now) }
     {

@@ -63,50 +63,50 @@ abbrev mutual
   bare (index f a) = subscript (bare f) (bare a)
   bare (call f ms) = invokes (bare f) (plain_of ms) (keywords_of ms)
 
-  alone_of : Members → Option Tree
+  pub alone_of : Members → Option Tree
   alone_of no_members = None
   alone_of (last_member m) = Some (alone m)
   alone_of (next_member m ms) = None
 
   -- one member; in brackets alone it is an item
-  alone : Member → Tree
+  pub alone : Member → Tree
   alone (plain a) = bare a
   alone (keyword x a) = bare a
   alone (entry k v) = bare v
 
-  each_member : Member → Rest → Tree
+  pub each_member : Member → Rest → Tree
   each_member (plain a) r = each (bare a) r
   each_member (keyword x a) r = each (bare a) r
   each_member (entry k v) r = each_entry (bare k) (bare v) r
 
-  with_plain : Member → Trees → Trees
+  pub with_plain : Member → Trees → Trees
   with_plain (plain a) ts = more_trees (bare a) ts
   with_plain _ ts = ts
 
-  with_keyword : Member → Keywords → Keywords
+  pub with_keyword : Member → Keywords → Keywords
   with_keyword (keyword x a) ks = more_keywords x (bare a) ks
   with_keyword _ ks = ks
 
-  with_entry : Member → Entries → Entries
+  pub with_entry : Member → Entries → Entries
   with_entry (entry k v) es = more_entries (bare k) (bare v) es
   with_entry _ es = es
 
-  plain_of : Members → Trees
+  pub plain_of : Members → Trees
   plain_of no_members = no_trees
   plain_of (last_member m) = with_plain m no_trees
   plain_of (next_member m ms) = with_plain m (plain_of ms)
 
-  keywords_of : Members → Keywords
+  pub keywords_of : Members → Keywords
   keywords_of no_members = no_keywords
   keywords_of (last_member m) = with_keyword m no_keywords
   keywords_of (next_member m ms) = with_keyword m (keywords_of ms)
 
-  entries_of : Members → Entries
+  pub entries_of : Members → Entries
   entries_of no_members = no_entries
   entries_of (last_member m) = with_entry m no_entries
   entries_of (next_member m ms) = with_entry m (entries_of ms)
 
-  rest_of : Clauses → Rest
+  pub rest_of : Clauses → Rest
   rest_of no_clauses = done
   rest_of (for_clause x xs a cs) = for_each x xs (bare a) (rest_of cs)
   rest_of (if_clause a cs) = only_if (bare a) (rest_of cs)

@@ -11,3 +11,8 @@ pub mod CellCodes
 pub mod Shape
 pub mod Seeing
 pub mod Equal
+pub mod Visits
+pub mod Freeze
+pub mod Revisit
+pub mod Texts
+pub mod KindText

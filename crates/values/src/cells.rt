@@ -3,10 +3,11 @@ ghost use Rattle.indexmap.specs.IndexMap.{insert_entry};
 ghost use Rattle.std.specs.Map.{lookup};
 ghost use Rattle.values.specs.Leaves.{same_key};
 ghost use Rattle.values.specs.Keyed.{has_key};
+ghost use Rattle.values.specs.Visits.{keys_of};
 ghost use Rattle.std.specs.Prelude.{◌≡◌, ◌++◌, ◌∷◌, [], ◌<◌, IfOk, IfSome, OnOk, OnErr, length, slice_get, slice_set, option_copied, MatchOption, ◌≤◌, Some};
 
 use crate::{Key, ProviderRef, Value};
-use indexmap::IndexMap;
+use indexmap::{IndexMap, IndexSet};
 use std::alloc::{AllocError, Global};
 use std::marker::Model;
 
@@ -157,5 +158,21 @@ impl Entries {
         ensures { result ≡ length self.now }
     {
         self.map.len()
+    }
+
+    /// The keys alone, in order.
+    pub fn keys(&self, alloc: Global) -> Result<IndexSet<Key>, AllocError>
+        ensures { IfOk result (λ s. s.keys ≡ keys_of self.now) }
+    {
+        let entries = self.map.as_slice();
+        let mut keys = IndexSet::new(alloc);
+        for i in 0..entries.len() {
+            let Some((key, _)) = entries.get_index(i) else {
+                return Ok(keys);
+            };
+            let key = key.share()?;
+            keys.insert(key)?;
+        }
+        Ok(keys)
     }
 }

@@ -2,7 +2,7 @@
 //!
 //! A leaf is held as it is, and every other frozen value is one counted node that has its parts by place,
 //! so a second name of it costs a count, also from another thread, and nothing below it is copied.
-ghost use Rattle.std.specs.Prelude.{◌≡◌, IfOk, length};
+ghost use Rattle.std.specs.Prelude.{◌≡◌, ◌<◌, IfOk, Some, length, slice_get};
 ghost use Rattle.values.specs.Tree.{Tree, leaf, list, tuple, dict, instance, trees, pairs};
 ghost use Rattle.values.specs.View.{tree_of, node_tree, is_list, is_dict, is_walkable};
 ghost use Rattle.values.specs.Shape.{tree_shape};
@@ -24,7 +24,7 @@ pub struct Frozen {
 
 #[derive(Drop)]
 #[cycle(frozen)]
-enum Held {
+pub(crate) enum Held {
     Leaf(Leaf),
     Shared(Arc<Node>),
 }
@@ -171,6 +171,13 @@ impl Frozen {
         }
     }
 
+    /// What holds its parts.
+    pub(crate) fn held(&self) -> &Held
+        ensures { tree_of result.now ≡ self.now }
+    {
+        &self.held
+    }
+
     /// What it shows, as a value.
     pub fn see(&self) -> Seen<'_>
         ensures { seen result ≡ tree_shape self.now }
@@ -180,6 +187,14 @@ impl Frozen {
             Held::Shared(node) => node.see(),
         }
     }
+}
+
+/// The frozen value at a place.
+pub(crate) fn tree_at(trees: &[Frozen], place: usize) -> &Frozen
+    requires { place < length trees.now }
+    ensures { slice_get trees.now place ≡ Some result.now }
+{
+    &trees[place]
 }
 
 impl Node {

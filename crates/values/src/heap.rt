@@ -97,11 +97,11 @@ impl Heap {
     pub fn append(&mut self, list: &Value, item: &Value) -> Result<(), Broken>
         ensures { MatchResult result (λ _. list_changed (pushed item.now) self.old list.now ≡ Ok self.new) (λ e. (self.new ≡ self.old) × FaultOr (list_changed (pushed item.now) self.old list.now) e) }
     {
-        let number = match self.list_cell(list) {
+        let changed = match self.list_cell(list) {
             Ok(number) => number,
             Err(refused) => return Err(refused),
         };
-        let cell = &mut self.cells[number];
+        let cell = &mut self.cells[changed];
         if let Err(broken) = push_to(cell, item) {
             return Err(broken);
         }
@@ -259,8 +259,8 @@ fn push_to(cell: &mut Cell, item: &Value) -> Result<(), Broken>
     ensures { MatchResult result (λ _. pushed item.now cell.old ≡ Ok cell.new) (λ e. (cell.new ≡ cell.old) × FaultOr (pushed item.now cell.old) e) }
 {
     match cell {
-        Cell::List(parts, walks) => {
-            if *walks > 0 {
+        Cell::List(parts, walked) => {
+            if *walked > 0 {
                 return Err(Broken::Kind(Kind::Iterating));
             }
             if let Err(broken) = push(parts, item) {

@@ -3,18 +3,23 @@
 //! A value is a leaf (`leaf`), the number of a cell of a heap, or a frozen value (`value`). Cells are what
 //! names share (`heap`): lists, tuples, dicts and provider instances, with a count of the walks that go on.
 //! A frozen value is a tree whose parts are shared by a count each, also between threads (`frozen`).
-//! Equality looks at both through one view (`sees`, `equals`), and counts ticks (`ticks`).
+//! Equality looks at both through one view (`sees`, `equals`), and counts ticks (`ticks`). A report prints the
+//! text of a frozen value (`texts`, `tree_texts`).
 //!
 //! To a contract all of these are plain data: `specs/` says what, and what each call gives.
 #![tactic(auto)]
 
 mod cells;
 mod equals;
+mod freezes;
 mod frozen;
 mod heap;
 mod leaf;
+mod revisit;
 mod sees;
+mod texts;
 mod ticks;
+mod tree_texts;
 mod value;
 
 pub use cells::{Cell, Entries, Items, LARGEST};
@@ -22,6 +27,7 @@ pub use depsets::{
     Depset, DepsetError, Element, ElementType, FileRef, Id, ListError, Listing, Order,
 };
 pub use equals::{VISITED_LEVELS, equal};
+pub use freezes::freeze;
 pub use frozen::Frozen;
 pub use heap::{Heap, place_of};
 pub use leaf::{
@@ -29,7 +35,10 @@ pub use leaf::{
 };
 pub use sees::{Group, Item, Seen, Table};
 pub use ticks::{Broken, Kind, Ticks};
+pub use tree_texts::text;
 pub use value::Value;
 
 #[cfg(test)]
 mod tests;
+#[cfg(test)]
+mod text_tests;

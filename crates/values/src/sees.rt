@@ -137,7 +137,7 @@ fn pair_at<'a>(
     Some((key_at(keys, place), tree_at(values, place)))
 }
 
-fn key_at(keys: &IndexSet<Key>, place: usize) -> &Key
+pub(crate) fn key_at(keys: &IndexSet<Key>, place: usize) -> &Key
     requires { place < length keys.now.keys }
     ensures { slice_get keys.now.keys place ≡ Some result.now }
 {

@@ -1,9 +1,12 @@
 //! Ticks, the kinds of fault, and what a visit costs.
 ghost use Rattle.std.specs.Prelude.{◌≡◌, ◌+◌, ◌≤◌, ◌<◌, Ok, Err, MatchResult};
 ghost use Rattle.values.specs.Ticking.{ticked, entered, FaultOr};
+ghost use Rattle.values.specs.KindText.{kind_text};
 
 use plain::Text;
 use std::alloc::AllocError;
+use std::error::Error;
+use std::fmt;
 use std::marker::Model;
 
 /// The kinds of fault of an evaluation, named as a report prints them.
@@ -51,6 +54,77 @@ pub enum Broken {
     Kind(Kind),
     NoMemory,
 }
+
+impl Kind {
+    /// The kind as a report names it. The text of `fail` isn't part of its name.
+    pub fn name(&self) -> &'static str
+        ensures { result.now ≡ kind_text self.now }
+    {
+        match self {
+            Kind::Name => "name",
+            Kind::Unset => "unset",
+            Kind::Wrong => "type",
+            Kind::Frozen => "frozen",
+            Kind::Iterating => "iterating",
+            Kind::Index => "index",
+            Kind::Key => "key",
+            Kind::Overflow => "overflow",
+            Kind::Zero => "zero",
+            Kind::Steps => "steps",
+            Kind::Recursion => "recursion",
+            Kind::Arity => "arity",
+            Kind::Large => "large",
+            Kind::Deep => "deep",
+            Kind::Order => "order",
+            Kind::Place => "place",
+            Kind::Fail(_) => "fail",
+        }
+    }
+}
+
+impl fmt::Display for Kind {
+    ghost use Rattle.std.specs.Prelude.{Some};
+    ghost use Rattle.values.specs.KindText.{kind_text};
+
+    ghost output = { λ k. Some (kind_text k) };
+
+    fn fmt<W: fmt::Write>(&self, f: &mut fmt::Formatter<W>) -> fmt::Result {
+        f.write_str(self.name())
+    }
+}
+
+impl fmt::Display for Broken {
+    ghost use Rattle.std.specs.Prelude.{Some};
+    ghost use Rattle.values.specs.KindText.{broken_text};
+
+    ghost output = { λ b. Some (broken_text b) };
+
+    fn fmt<W: fmt::Write>(&self, f: &mut fmt::Formatter<W>) -> fmt::Result {
+        match self {
+            Broken::Kind(kind) => f.write_str(kind.name()),
+            Broken::NoMemory => f.write_str("no memory"),
+        }
+    }
+}
+
+impl fmt::Debug for Kind {
+    fn fmt<W: fmt::Write>(&self, f: &mut fmt::Formatter<W>) -> fmt::Result {
+        f.write_str(self.name())
+    }
+}
+
+impl fmt::Debug for Broken {
+    fn fmt<W: fmt::Write>(&self, f: &mut fmt::Formatter<W>) -> fmt::Result {
+        match self {
+            Broken::Kind(kind) => f.write_str(kind.name()),
+            Broken::NoMemory => f.write_str("no memory"),
+        }
+    }
+}
+
+impl Error for Kind {}
+
+impl Error for Broken {}
 
 impl From<AllocError> for Broken {
     ghost use Rattle.values.specs.declared.ticks.Broken.TheVariants.{NoMemory};

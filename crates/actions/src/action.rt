@@ -1,0 +1,124 @@
+//! Actions: what a target registers, to be executed once analysis is over.
+ghost use Rattle.std.specs.Prelude.{◌≡◌, ◌++◌, ◌∷◌, [], length, OnOk, OnErr};
+
+use depsets::{Depset, FileRef};
+use plain::Text;
+use std::alloc::{AllocError, Global};
+use std::marker::Model;
+
+/// An action: a mnemonic, at least one output, inputs, and the words of a command.
+///
+/// Its outputs are Files that its target declared, each once.
+#[derive(Drop)]
+pub struct Action {
+    pub mnemonic: Text,
+    pub outputs: Files,
+    pub inputs: Inputs,
+    pub words: Words,
+    /// The text that `write` writes, and None for every other action.
+    pub content: Option<Text>,
+}
+
+/// The inputs of an action, as they were given: Files, or a depset of Files.
+#[derive(Drop)]
+pub enum Inputs {
+    Files(Files),
+    Depset(Depset),
+}
+
+/// An action and the label of the target that registered it.
+#[derive(Drop)]
+pub struct Owned {
+    pub label: Text,
+    pub action: Action,
+}
+
+/// Files, in order.
+#[derive(Drop)]
+pub struct Files {
+    items: Vec<FileRef>,
+}
+
+impl Model for Files {
+    ghost use Rattle.std.specs.Prelude.{List};
+    ghost use Rattle.depsets.specs.declared.element.FileRef.{FileRef as File};
+
+    ghost Value = { List File };
+
+    ghost view = { λ f. f.items.items };
+}
+
+impl Files {
+    /// No Files.
+    pub fn new(alloc: Global) -> Files
+        ensures { result ≡ [] }
+    {
+        Files {
+            items: Vec::new(alloc),
+        }
+    }
+
+    /// Puts a File last. After a refusal of memory they are as they were.
+    pub fn push(&mut self, file: FileRef) -> Result<(), AllocError>
+        ensures ok { OnOk result (self.new ≡ self.old ++ file ∷ []) }
+        ensures err { OnErr result (self.new ≡ self.old) }
+    {
+        self.items.push(file)?;
+        Ok(())
+    }
+
+    /// All of them, in order.
+    pub fn as_slice(&self) -> &[FileRef]
+        ensures { result.now ≡ self.now }
+    {
+        self.items.as_slice()
+    }
+}
+
+/// Texts, in order: the words of a command, or labels.
+#[derive(Drop)]
+pub struct Words {
+    items: Vec<Text>,
+}
+
+impl Model for Words {
+    ghost use Rattle.std.specs.Prelude.{List, ℕ};
+
+    ghost Value = { List (List ℕ) };
+
+    ghost view = { λ w. w.items.items };
+}
+
+impl Words {
+    /// No words.
+    pub fn new(alloc: Global) -> Words
+        ensures { result ≡ [] }
+    {
+        Words {
+            items: Vec::new(alloc),
+        }
+    }
+
+    /// Puts a word last. After a refusal of memory they are as they were.
+    pub fn push(&mut self, word: Text) -> Result<(), AllocError>
+        ensures ok { OnOk result (self.new ≡ self.old ++ word ∷ []) }
+        ensures err { OnErr result (self.new ≡ self.old) }
+    {
+        self.items.push(word)?;
+        Ok(())
+    }
+
+    /// How many there are.
+    pub fn len(&self) -> usize
+        ensures { result ≡ length self.now }
+    {
+        self.items.len()
+    }
+
+    /// All of them, in order.
+    pub fn as_slice(&self) -> &[Text]
+        ensures { result.now ≡ self.now }
+    {
+        self.items.as_slice()
+    }
+}

@@ -1,0 +1,17 @@
+//! Actions of targets, and the paths that more than one of them declares.
+//!
+//! An action is plain data: its outputs, its inputs, its words (`action`). Two actions that declare one path
+//! conflict, also within one target; `conflicts` finds all such paths by one sort of what the actions declare.
+//!
+//! `specs/Conflicts` says what the conflicts of a list of actions are.
+#![tactic(auto)]
+
+mod action;
+mod claims;
+mod gather;
+
+pub use action::{Action, Files, Inputs, Owned, Words};
+pub use gather::{Conflict, conflicts};
+
+#[cfg(test)]
+mod tests;

@@ -1,0 +1,13 @@
+-- Visits of all parts of a value, from left to right.
+use Rattle.std.specs.Prelude.{List, [], ◌∷◌, Ok, map}
+use Rattle.values.specs.Ticking.{Count, Ticking, then_on}
+use Rattle.values.specs.declared.leaf.Key.{Key}
+use Rattle.values.specs.declared.value.Value.{Value}
+
+-- what the visits of all give, in order, or the first fault
+abbrev pub all_of : {A B : Type 0} → (A → Count → Ticking B) → List A → Count → Ticking (List B)
+all_of f [] c = Ok ([], c)
+all_of f (x ∷ xs) c = then_on (f x c) (λ y d. then_on (all_of f xs d) (λ ys e. Ok (y ∷ ys, e)))
+
+abbrev pub keys_of : List (Key × Value) → List Key
+keys_of es = map (λ e. e.0) es
