@@ -55,3 +55,6 @@ pub mod OutlineLemmas
 pub mod OutlinesRead
 pub mod StatementFaults
 pub mod BuiltLemmas
+pub mod CappedForms
+pub mod ListedForms
+pub mod SimpleForms

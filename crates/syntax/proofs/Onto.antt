@@ -12,7 +12,7 @@ use Rattle.syntax.specs.Descent as D
 use Rattle.syntax.proofs.Descends.{part_of}
 use Rattle.syntax.proofs.Gathers.{onto, add_item, add_pair, add_argument, add_clauses, under_both}
 
-max_assoc : (a b c : ℕ) → max (max a b) c ≡ max a (max b c)
+pub max_assoc : (a b c : ℕ) → max (max a b) c ≡ max a (max b c)
 max_assoc a b c =
     let bc = le-max_right a (max b c) in
     let ab = le-max_left (max a b) c in
@@ -24,15 +24,15 @@ max_assoc a b c =
     (under_both b c (max (max a b) c) (let k = le-max_right a b in Prim.omega (arith, k, ab)) (le-max_right (max a b) c)) in
     Prim.omega (arith, l, r)
 
-abbrev trees_onto : List Tree → Trees → Trees
+abbrev pub trees_onto : List Tree → Trees → Trees
 trees_onto [] t = t
 trees_onto (x ∷ xs) t = more_trees x (trees_onto xs t)
 
-trees_base : (xs : List Tree) → V.trees_of xs ≡ trees_onto xs no_trees
+pub trees_base : (xs : List Tree) → V.trees_of xs ≡ trees_onto xs no_trees
 trees_base [] = refl
 trees_base (x ∷ xs) = ap (more_trees x) (trees_base xs)
 
-trees_snoc : (xs : List Tree) (x : Tree) (t : Trees) → trees_onto (xs ++ x ∷ []) t ≡ trees_onto xs (more_trees x t)
+pub trees_snoc : (xs : List Tree) (x : Tree) (t : Trees) → trees_onto (xs ++ x ∷ []) t ≡ trees_onto xs (more_trees x t)
 trees_snoc [] x t = refl
 trees_snoc (y ∷ xs) x t = ap (more_trees y) (trees_snoc xs x t)
 

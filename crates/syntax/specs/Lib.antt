@@ -43,3 +43,4 @@ pub mod Outlines
 pub mod Built
 pub mod LineView
 pub mod BuiltView
+pub mod FormDescent

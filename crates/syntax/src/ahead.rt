@@ -4,6 +4,8 @@ ghost use Rattle.std.specs.Prelude.{◌≡◌, length, IfSome, IfOk, map};
 ghost use Rattle.std.specs.Option.{option_map};
 ghost use Rattle.syntax.specs.Ahead.{is_done, Passes, Takes, tokens_seen, or_at, and_at, comparison_at, sum_at, product_at, behind_not, behind_minus, behind_if, HasHead, suffix_at, named_at, number_at, string_at, bracket_at};
 ghost use Rattle.syntax.specs.Front.{behind_comma, behind_colon, behind_else, behind_close, name_at, names_in, head_at, is_for};
+ghost use Rattle.syntax.specs.FormDescent.{opening_at, behind_assign, behind_add, behind_open};
+ghost use Rattle.syntax.specs.FormReading.{names_to};
 ghost use Rattle.syntax.specs.TreeView.{operator_seen};
 ghost use Rattle.syntax.specs.Strings.{unescaped};
 ghost use Rattle.std.specs.Str.{IsAscii};
@@ -53,6 +55,52 @@ pub(crate) enum Suffix {
     Attribute,
     Index,
     Call,
+}
+
+/// How a line begins, where that is with a word that begins no expression.
+#[derive(Clone, Copy, PartialEq, Eq, Debug)]
+pub(crate) enum Opening {
+    Load,
+    Def,
+    If,
+    Elif,
+    Else,
+    For,
+    Pass,
+    Break,
+    Continue,
+    Return,
+    /// With a word that no line begins with, or not at all.
+    Other,
+}
+
+/// The names behind commas up to `=`, and the tokens behind that.
+#[tactic(auto, unfolding(crate::specs::FormReading::names_to))]
+fn names_to<'l>(
+    alloc: Global,
+    lines: &Lines<'l>,
+    tokens: &'l [Token],
+) -> Result<Option<(Vec<Text>, &'l [Token])>, AllocError>
+    ensures { IfOk result (λ r. option_map (λ p. (p.0.items, tokens_seen lines.now.text p.1.now)) r ≡ names_to (tokens_seen lines.now.text tokens.now)) }
+{
+    let mut names = Vec::new(alloc);
+    let mut left = tokens;
+    while let [first, second, rest @ ..] = left {
+        match (first.kind, second.kind) {
+            (Kind::Mark(Mark::Comma), Kind::Name(span)) => {
+                names.push(Text::new(alloc, lines.part(span))?)?;
+                left = rest;
+            }
+            _ => break,
+        }
+    }
+    match left {
+        [first, rest @ ..] => match first.kind {
+            Kind::Mark(Mark::Assign) => Ok(Some((names, rest))),
+            _ => Ok(None),
+        },
+        [] => Ok(None),
+    }
 }
 
 /// How a clause of a comprehension begins.
@@ -506,6 +554,109 @@ impl<'l> Ahead<'l> {
                 }
             }
             _ => Ok(Head::Other),
+        }
+    }
+
+    /// Takes how the line begins, where that is with a word that begins no expression.
+    #[tactic(auto, unfolding(crate::specs::FormDescent::opening_at))]
+    pub(crate) fn opening(&mut self) -> Option<Opening>
+        ensures { Takes (λ o. o) (opening_at self.old) result self.old self.new }
+    {
+        let [first, rest @ ..] = self.tokens else {
+            return Some(Opening::Other);
+        };
+        let opening = match first.kind {
+            Kind::Word(Word::Load) => Opening::Load,
+            Kind::Word(Word::Def) => Opening::Def,
+            Kind::Word(Word::If) => Opening::If,
+            Kind::Word(Word::Elif) => Opening::Elif,
+            Kind::Word(Word::Else) => Opening::Else,
+            Kind::Word(Word::For) => Opening::For,
+            Kind::Word(Word::Pass) => Opening::Pass,
+            Kind::Word(Word::Break) => Opening::Break,
+            Kind::Word(Word::Continue) => Opening::Continue,
+            Kind::Word(Word::Return) => Opening::Return,
+            Kind::Word(Word::And | Word::In | Word::Or | Word::Reserved) => Opening::Other,
+            _ => return None,
+        };
+        self.tokens = rest;
+        Some(opening)
+    }
+
+    /// Passes `=` by.
+    #[tactic(auto, unfolding(crate::specs::FormDescent::behind_assign))]
+    pub(crate) fn assign(&mut self) -> bool
+        ensures { Passes (behind_assign self.old) result self.old self.new }
+    {
+        let [first, rest @ ..] = self.tokens else {
+            return false;
+        };
+        match first.kind {
+            Kind::Mark(Mark::Assign) => {
+                self.tokens = rest;
+                true
+            }
+            _ => false,
+        }
+    }
+
+    /// Passes `+=` by.
+    #[tactic(auto, unfolding(crate::specs::FormDescent::behind_add))]
+    pub(crate) fn add_assign(&mut self) -> bool
+        ensures { Passes (behind_add self.old) result self.old self.new }
+    {
+        let [first, rest @ ..] = self.tokens else {
+            return false;
+        };
+        match first.kind {
+            Kind::Mark(Mark::AddAssign) => {
+                self.tokens = rest;
+                true
+            }
+            _ => false,
+        }
+    }
+
+    /// Passes `(` by.
+    #[tactic(auto, unfolding(crate::specs::FormDescent::behind_open))]
+    pub(crate) fn open_round(&mut self) -> bool
+        ensures { Passes (behind_open self.old) result self.old self.new }
+    {
+        let [first, rest @ ..] = self.tokens else {
+            return false;
+        };
+        match first.kind {
+            Kind::Mark(Mark::OpenParen) => {
+                self.tokens = rest;
+                true
+            }
+            _ => false,
+        }
+    }
+
+    /// Takes the names behind commas up to `=`.
+    pub(crate) fn names_to(&mut self, alloc: Global) -> Result<Option<Vec<Text>>, AllocError>
+        ensures { IfOk result (λ r. Takes (λ v. v.items) (names_to self.old) r self.old self.new) }
+    {
+        match names_to(alloc, self.lines, self.tokens)? {
+            Some((names, rest)) => {
+                self.tokens = rest;
+                Ok(Some(names))
+            }
+            None => Ok(None),
+        }
+    }
+
+    /// Takes the names behind commas up to `in`.
+    pub(crate) fn names_in(&mut self, alloc: Global) -> Result<Option<Vec<Text>>, AllocError>
+        ensures { IfOk result (λ r. Takes (λ v. v.items) (names_in self.old) r self.old self.new) }
+    {
+        match names_in(alloc, self.lines, self.tokens)? {
+            Some((names, rest)) => {
+                self.tokens = rest;
+                Ok(Some(names))
+            }
+            None => Ok(None),
         }
     }
 }
