@@ -1,7 +1,7 @@
 -- The documents' examples of reports, as rows of the definitions.
 use Rattle.std.specs.Prelude.{◌≡◌, ℕ, pos, negsuc, List, [], ◌∷◌, ◌++◌, Some, codes, refl}
 use Rattle.std.specs.Fmt.{digits}
-use Rattle.syntax.specs.declared.fault.FaultKind.TheVariants as fault
+use Rattle.lexer.specs.declared.fault.FaultKind.TheVariants as fault
 use Rattle.bzlan.specs.Answer.{Answer, answer_text, is_loud, owners}
 use Rattle.bzlan.specs.FileKinds.{is_build_file, is_module, package_of}
 use Rattle.bzlan.specs.Labels.{LabelParts}

@@ -3,7 +3,7 @@
 -- workspaces that have them.
 use Rattle.std.specs.Prelude.{ℕ, ℤ, Bool, true, false, List, [], ◌∷◌, Option, codes, if◌then◌else◌}
 use Rattle.std.specs.List.{list_any}
-use Rattle.syntax.specs.declared.fault.FaultKind.{FaultKind}
+use Rattle.lexer.specs.declared.fault.FaultKind.{FaultKind}
 use Rattle.bzlan.specs.Labels.{LabelParts}
 
 -- the order of a depset (Bazel documentation, "Depsets")

@@ -1,9 +1,9 @@
 //! Workspaces of the first form: a `BUILD` file with one target, and the module that it loads.
 
 ghost use Rattle.std.specs.Prelude.{◌≡◌, ◌↔◌, ◌∷◌, ◌++◌, [], IsTrue, IfOk, IfSome, None, codes, All};
-ghost use Rattle.syntax.specs.Form.{HasForm};
-ghost use Rattle.syntax.specs.declared.forms.FileKind.TheVariants as file;
-ghost use Rattle.syntax.specs.declared.forms.FirstForm.TheVariants as found;
+ghost use Rattle.lexer.specs.Form.{HasForm};
+ghost use Rattle.lexer.specs.declared.forms.FileKind.TheVariants as file;
+ghost use Rattle.lexer.specs.declared.forms.FirstForm.TheVariants as found;
 ghost use Rattle.bzlan.specs.Files.{file_pairs};
 ghost use Rattle.bzlan.specs.FirstForm.{AreFiles, AreLinked, FirstParts, HaveForms, IsFirst, first_package, first_target, returned};
 ghost use Rattle.bzlan.specs.Labels.{last_segment};
@@ -14,8 +14,8 @@ use crate::answer::Instance;
 use crate::file_kinds::{is_build_file, is_module, package_of};
 use crate::labels::{Label, is_label, last_segment};
 use crate::workspace::{File, Workspace};
+use lexer::{BuildForm, FileKind, FirstForm, ModuleForm, NoMemory, form};
 use std::alloc::Global;
-use syntax::{BuildForm, FileKind, FirstForm, ModuleForm, NoMemory, form};
 
 /// A workspace of the first form.
 #[derive(Drop)]

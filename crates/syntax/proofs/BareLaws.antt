@@ -1,6 +1,6 @@
 -- The depth of an expression is that of its tree without brackets and commas, so the trees of a file are shallow.
 use Rattle.std.proofs.Common.{◌≡◌, ℕ, suc, ◌≤◌, max, Bool, false, [], refl, ap, arith}
-use Rattle.syntax.specs.declared.layout.Bracket.TheVariants.{Round, Square, Curly}
+use Rattle.lexer.specs.declared.layout.Bracket.TheVariants.{Round, Square, Curly}
 use Rattle.syntax.specs.Tree.{Expr, identifier, integer, text, display, comprehension, conditional, operation, signed, field, index, call, plain, keyword, entry, Members, no_members, last_member, next_member, Clauses, no_clauses, for_clause, if_clause}
 use Rattle.syntax.specs.Levels.{items, entries, arguments, IsTree, AreMembers, AreClauses}
 use Rattle.syntax.specs.Statements.{Listed, alone, followed, Simple, assigns, assigns_at, increases, increases_at, evaluates, passes, breaks, continues, returns, returns_list, Body, block, inline, Param, required, optional, Commas, none_more, last_one, and_more, Form, loads, simple, defines, if_head, elif_head, else_head, for_head, AreListed, IsSimple, IsBody, AreParams, IsForm}

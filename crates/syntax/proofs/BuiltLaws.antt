@@ -3,7 +3,7 @@ use Rattle.std.proofs.Common.{◌≡◌, ℕ, ◌<◌, Bool, true, false, List, 
 use Rattle.std.specs.Prelude.{option_map}
 use Rattle.std.specs.List.{cons_option}
 use Rattle.std.proofs.lemmas.Bool.Decides.{nat_tests}
-use Rattle.syntax.specs.Tokens.{Placed}
+use Rattle.lexer.specs.Tokens.{Placed}
 use Rattle.syntax.specs.Statements.{Form, loads, simple, defines, if_head, elif_head, else_head, for_head, block, inline, IsForm, form_spelled}
 use Rattle.syntax.specs.Places.{Place, opens}
 use Rattle.syntax.specs.Blocks.{Block, no_lines, plain_line, head_line, Laid, some_lines, block_laid, IsBlock, laid}

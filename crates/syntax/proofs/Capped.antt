@@ -1,7 +1,7 @@
 -- What a reading with a limit on the depth gives, beside one without.
-use Rattle.std.proofs.Common.{◌≡◌, ℕ, zero, suc, ◌-◌, ◌<◌, ◌≤◌, max, Bool, true, false, List, [], ◌∷◌, Option, Some, None, refl, sym, ap, ◌∙◌, subst, arith, nat_lt, inl, inr, ◌⊎◌}
+use Rattle.std.proofs.Common.{◌≡◌, ℕ, suc, ◌<◌, ◌≤◌, true, false, List, Option, Some, None, refl, sym, ap, ◌∙◌, subst, arith, nat_lt, inl, inr, ◌⊎◌}
 use Rattle.std.proofs.lemmas.Bool.Decides.{leb_tells}
-use Rattle.syntax.specs.Tokens.{Token}
+use Rattle.lexer.specs.Tokens.{Token}
 use Rattle.syntax.specs.Reading.{Parse, then_read}
 use Rattle.syntax.specs.FormReading.{then_found}
 use Rattle.syntax.specs.Descent.{given}

@@ -1,6 +1,6 @@
 -- What a reading of a whole line with a limit on the depth gives, beside one without.
-use Rattle.std.proofs.Common.{◌≡◌, ℕ, suc, ◌<◌, ◌≤◌, Bool, true, false, List, [], ◌∷◌, Option, Some, None, refl, sym, ap, ◌∙◌, subst, arith, inl, inr, ◌⊎◌}
-use Rattle.syntax.specs.Tokens.{Token}
+use Rattle.std.proofs.Common.{◌≡◌, ℕ, ◌<◌, ◌≤◌, List, Option, Some, None, refl, sym, ap, ◌∙◌, subst, arith, inl, inr, ◌⊎◌}
+use Rattle.lexer.specs.Tokens.{Token}
 use Rattle.syntax.specs.FormReading.{then_found}
 use Rattle.syntax.proofs.Capped.{Capped, either_way}
 

@@ -1,10 +1,10 @@
 -- A form that a block follows ends with `:`, so the last line of a laid-out file is none.
 use Rattle.std.proofs.Common.{◌≡◌, ℕ, Bool, true, false, List, [], ◌∷◌, ◌++◌, map, refl, sym, ap, ◌∙◌}
-use Rattle.syntax.specs.declared.token.Word.TheVariants.{Def, Elif, Else, For, If, In, Not}
-use Rattle.syntax.specs.declared.token.Mark.TheVariants.{OpenParen, CloseParen, CloseBracket, OpenBracket, Comma, Colon, Dot, Assign}
-use Rattle.syntax.specs.Tokens.{Token, Placed, name, number, string, word, mark}
-use Rattle.syntax.specs.Layout.{is_colon, mark_of}
-use Rattle.syntax.specs.LaidOut.{ends_with_colon, InBlocks}
+use Rattle.lexer.specs.declared.token.Word.TheVariants.{Def, Elif, Else, For, If, In, Not}
+use Rattle.lexer.specs.declared.token.Mark.TheVariants.{OpenParen, CloseParen, CloseBracket, OpenBracket, Comma, Colon, Dot, Assign}
+use Rattle.lexer.specs.Tokens.{Token, Placed, name, number, string, word, mark}
+use Rattle.lexer.specs.Layout.{is_colon, mark_of}
+use Rattle.lexer.specs.LaidOut.{ends_with_colon, InBlocks}
 use Rattle.syntax.specs.Tree.{Operator, either, both, equal, not_equal, less, greater, less_equal, greater_equal, within, not_within, add, subtract, multiply, divide, remainder, Expr, identifier, integer, text, display, comprehension, conditional, operation, signed, field, index, call, Member, plain, keyword, entry, Members, no_members, last_member, next_member, Clauses, no_clauses, for_clause, if_clause}
 use Rattle.syntax.specs.Spelling.{spelled, member_spelled, members_spelled, clauses_spelled, names_spelled, operator_spelled, sign_token, open_mark, close_mark}
 use Rattle.syntax.specs.Statements.{Param, required, optional, Commas, none_more, last_one, and_more, block, inline, Form, loads, simple, defines, if_head, elif_head, else_head, for_head, param_spelled, commas_spelled, form_spelled}

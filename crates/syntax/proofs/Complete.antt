@@ -2,10 +2,10 @@
 use Rattle.std.proofs.Common.{◌≡◌, ℕ, suc, ◌+◌, ◌≤◌, true, false, List, [], ◌∷◌, Option, Some, None, refl, sym, ap, ◌∙◌, arith, length, inl, inr}
 use Rattle.std.specs.Prelude.{◌==◌}
 use Rattle.std.proofs.lemmas.Bool.Decides.{eqb_tells}
-use Rattle.syntax.specs.declared.token.Mark.TheVariants.{Dot, OpenBracket, CloseBracket, OpenParen, CloseParen}
-use Rattle.syntax.specs.declared.token.Word.TheVariants.{Else, If}
-use Rattle.syntax.specs.declared.layout.Bracket.{Bracket}
-use Rattle.syntax.specs.Tokens.{Token, name, mark, word}
+use Rattle.lexer.specs.declared.token.Mark.TheVariants.{Dot, OpenBracket, CloseBracket, OpenParen, CloseParen}
+use Rattle.lexer.specs.declared.token.Word.TheVariants.{Else, If}
+use Rattle.lexer.specs.declared.layout.Bracket.{Bracket}
+use Rattle.lexer.specs.Tokens.{Token, name, mark, word}
 use Rattle.syntax.specs.Tree.{Operator, Sign, negation, opposite, Expr, identifier, integer, text, display, comprehension, conditional, operation, signed, field, index, call, Member, plain, keyword, entry, Members, no_members, last_member, next_member, Clauses, no_clauses, for_clause, if_clause}
 use Rattle.syntax.specs.Levels.{operator_level, left_level, sign_level, level, Held, arguments, held, IsTree, IsMember, AreMembers, AreClauses}
 use Rattle.syntax.specs.Spelling.{operator_spelled, open_mark, spelled, members_spelled, Spells}

@@ -1,25 +1,22 @@
 -- Reading with a limit on the depth gives the tree that is read without one, unless that is too deep.
-use Rattle.std.proofs.Common.{◌≡◌, ℕ, zero, suc, ◌-◌, ◌<◌, ◌≤◌, max, Bool, true, false, List, [], ◌∷◌, Option, Some, None, refl, sym, ap, ◌∙◌, subst, arith}
-use Rattle.std.specs.Prelude.{◌==◌, ◌&&◌, nat_lt}
+use Rattle.std.proofs.Common.{◌≡◌, ℕ, zero, suc, ◌-◌, ◌<◌, ◌≤◌, max, Bool, true, false, List, Option, sym, subst, arith}
+use Rattle.std.specs.Prelude.{◌==◌}
 use Rattle.std.proofs.Math.Nat.{le-max_left, le-max_right}
-use Rattle.syntax.specs.declared.layout.Bracket.{Bracket}
-use Rattle.syntax.specs.declared.layout.Bracket.TheVariants.{Round, Square, Curly}
 use Rattle.syntax.specs.declared.expressions.Row.{Row}
 use Rattle.syntax.specs.declared.expressions.Row.TheVariants.{Whole, Operand, Negated, Opposed}
-use Rattle.syntax.specs.Tokens.{Token}
-use Rattle.syntax.specs.Tree.{Operator, Sign, negation, opposite, Expr, identifier, integer, text, display, comprehension, conditional, operation, signed, field, index, call, Member, plain, keyword, entry, Members, no_members, last_member, next_member, Clauses, no_clauses, for_clause, if_clause}
-use Rattle.syntax.specs.Levels.{operator_level, sign_level}
+use Rattle.lexer.specs.Tokens.{Token}
+use Rattle.syntax.specs.Tree.{Operator, Expr, identifier, operation, index}
+use Rattle.syntax.specs.Levels.{operator_level}
 use Rattle.syntax.specs.Bare.{bare}
-use Rattle.syntax.specs.Depth.{depth, member_depth, members_depth, clauses_depth}
-use Rattle.syntax.specs.Front.{Next, operator, dot_next, index_next, call_next, if_next, assign_next, nothing, next, sign_at, behind_else}
+use Rattle.syntax.specs.Depth.{depth}
+use Rattle.syntax.specs.Front.{Next, operator, dot_next, index_next, call_next, if_next, assign_next, nothing, next}
 use Rattle.syntax.specs.Reading as R
 use Rattle.syntax.specs.Reading.{Parse, then_read}
 use Rattle.syntax.specs.FormReading.{then_found}
 use Rattle.syntax.specs.Descent as D
 use Rattle.syntax.specs.Descent.{Part, given}
-use Rattle.syntax.specs.Ahead.{or_at, and_at, comparison_at, sum_at, product_at, behind_not, behind_minus, behind_if}
-use Rattle.syntax.proofs.Capped.{Capped, Deep, capped_deep, deep_then, bind, passes, made, stays}
-use Rattle.syntax.proofs.FrontSame.{taken, if_of, suffix_of, not_of, minus_of, or_same, and_same, comparison_same, sum_same, product_same, if_same, suffix_same, not_same, minus_same}
+use Rattle.syntax.proofs.Capped.{Capped, Deep, deep_then, bind, made, stays}
+use Rattle.syntax.proofs.FrontSame.{taken}
 
 -- what is a name or an index as it is written
 abbrev pub target : Expr → Bool

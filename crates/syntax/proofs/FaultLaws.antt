@@ -1,18 +1,18 @@
 -- The fault that the passes give is the first fault of the text, and the other way round.
 use Rattle.std.proofs.Common.{◌≡◌, ℕ, List, map, refl, sym, ap, ◌∙◌, Option, Some, None, Result, Ok, Err}
-use Rattle.syntax.specs.declared.fault.FaultKind.{FaultKind}
-use Rattle.syntax.specs.declared.fault.FaultKind.TheVariants as pass
-use Rattle.syntax.specs.declared.fault.SyntaxFault.{SyntaxFault}
-use Rattle.syntax.specs.declared.forms.FileKind.{FileKind}
-use Rattle.syntax.specs.Tokens.{Placed}
-use Rattle.syntax.specs.Lines.{fault, reading}
+use Rattle.lexer.specs.declared.fault.FaultKind.{FaultKind}
+use Rattle.lexer.specs.declared.fault.FaultKind.TheVariants as pass
+use Rattle.lexer.specs.declared.fault.SyntaxFault.{SyntaxFault}
+use Rattle.lexer.specs.declared.forms.FileKind.{FileKind}
+use Rattle.lexer.specs.Tokens.{Placed}
+use Rattle.lexer.specs.Lines.{fault, reading}
 use Rattle.syntax.specs.Blocks.{Block, laid}
 use Rattle.syntax.specs.BlockReading.{file_reads}
 use Rattle.syntax.specs.BareLines.{bare_lines}
 use Rattle.syntax.specs.Scopes.{scope_fault}
 use Rattle.syntax.specs.Files.{top_of, with_scopes, with_statements, with_lines, syntax}
 use Rattle.syntax.specs.FirstFault.{IsFault, below_lines, in_statements, in_scopes}
-use Rattle.syntax.proofs.ReadingLaws.{reading_is, reading_as}
+use Rattle.lexer.proofs.ReadingLaws.{reading_is, reading_as}
 use Rattle.syntax.proofs.FilesRead.{file_sound, file_complete}
 use Rattle.syntax.proofs.StatementFaults.{first_fault, fault_refused}
 use Rattle.syntax.proofs.ColonLaws.{last_shut}

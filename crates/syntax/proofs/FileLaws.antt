@@ -1,15 +1,15 @@
 -- A text has the tree that is read of it, at most one, and a fault exactly where it has none.
 use Rattle.std.proofs.Common.{◌≡◌, ℕ, List, map, refl, sym, ap, ◌∙◌, Option, Some, None, Result, Ok, Err}
-use Rattle.syntax.specs.declared.fault.SyntaxFault.{SyntaxFault}
-use Rattle.syntax.specs.declared.forms.FileKind.{FileKind}
-use Rattle.syntax.specs.Tokens.{Placed}
-use Rattle.syntax.specs.Lines.{reading}
+use Rattle.lexer.specs.declared.fault.SyntaxFault.{SyntaxFault}
+use Rattle.lexer.specs.declared.forms.FileKind.{FileKind}
+use Rattle.lexer.specs.Tokens.{Placed}
+use Rattle.lexer.specs.Lines.{reading}
 use Rattle.syntax.specs.Blocks.{Block, laid}
 use Rattle.syntax.specs.BlockReading.{file_reads}
 use Rattle.syntax.specs.BareLines.{bare_lines}
 use Rattle.syntax.specs.Scopes.{scope_fault}
 use Rattle.syntax.specs.Files.{top_of, IsFile, with_scopes, with_statements, with_lines, syntax}
-use Rattle.syntax.proofs.ReadingLaws.{reading_is, reading_as}
+use Rattle.lexer.proofs.ReadingLaws.{reading_is, reading_as}
 use Rattle.syntax.proofs.FilesRead.{file_sound, file_complete}
 
 -- what the passes go through without fault

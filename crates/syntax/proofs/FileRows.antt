@@ -1,13 +1,13 @@
 -- Some files with their trees or faults, by computation from their bytes.
 use Rattle.std.specs.Prelude.{◌≡◌, ℕ, List, [], ◌∷◌, ◌++◌, replicate, Option, Some, None, Result, Ok, Err, refl, codes}
-use Rattle.syntax.specs.declared.fault.FaultKind.{FaultKind}
-use Rattle.syntax.specs.declared.fault.FaultKind.TheVariants.{Token, Indent, Statement, Scope}
-use Rattle.syntax.specs.declared.fault.SyntaxFault.{SyntaxFault}
-use Rattle.syntax.specs.declared.forms.FileKind.TheVariants.{Module, Build}
-use Rattle.syntax.specs.Begins.{begins}
-use Rattle.syntax.specs.Scan.{tokens_of, scan}
-use Rattle.syntax.specs.Layout.{line_starts, turn}
-use Rattle.syntax.specs.Lines.{reading}
+use Rattle.lexer.specs.declared.fault.FaultKind.{FaultKind}
+use Rattle.lexer.specs.declared.fault.FaultKind.TheVariants.{Token, Indent, Statement, Scope}
+use Rattle.lexer.specs.declared.fault.SyntaxFault.{SyntaxFault}
+use Rattle.lexer.specs.declared.forms.FileKind.TheVariants.{Module, Build}
+use Rattle.lexer.specs.Begins.{begins}
+use Rattle.lexer.specs.Scan.{tokens_of, scan}
+use Rattle.lexer.specs.Layout.{line_starts, turn}
+use Rattle.lexer.specs.Lines.{reading}
 use Rattle.syntax.specs.Front.{next, sign_at, name_at, keyword_at, behind_close, behind_comma, behind_colon, behind_else, is_for, names_in, head_at}
 use Rattle.syntax.specs.Reading.{chain, member, members, clauses, atom, suffixes, e9, e8, e7, e6, e5, e4, e3, e2, e1, read}
 use Rattle.syntax.specs.FormReading.{lead, then_at, names_to, string_at, commas, listed, simple_at, form_at}

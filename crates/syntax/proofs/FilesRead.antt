@@ -1,7 +1,7 @@
 -- What is read of the logical lines of a file is its tree, and what has a tree is read.
 use Rattle.std.proofs.Common.{◌≡◌, ℕ, ◌≤◌, ◌<◌, Bool, true, false, List, [], ◌∷◌, map, refl, sym, ap, subst, ◌∙◌, inl, inr, ◌⊎◌, nat_le, nat_lt, ◌==◌, ◌&&◌, Option, Some, None, Result, Ok, Err, arith}
 use Rattle.std.proofs.lemmas.Bool.Decides.{nat_tests}
-use Rattle.syntax.specs.Tokens.{Token, Placed}
+use Rattle.lexer.specs.Tokens.{Token, Placed}
 use Rattle.syntax.specs.Statements.{Form, form_spelled}
 use Rattle.syntax.specs.FormReading.{form_reads}
 use Rattle.syntax.specs.Depth.{form_depth}

@@ -1,9 +1,9 @@
 -- What spells a form of a logical line is read, and so a line has at most one form.
 use Rattle.std.proofs.Common.{◌≡◌, ℕ, zero, suc, ◌+◌, ◌≤◌, List, [], ◌∷◌, Some, None, refl, ap, ◌∙◌, arith}
-use Rattle.syntax.specs.declared.token.Word.TheVariants.{Not, Return}
-use Rattle.syntax.specs.declared.token.Mark.TheVariants.{CloseParen, Comma, Assign, AddAssign}
-use Rattle.syntax.specs.declared.layout.Bracket.TheVariants.{Round}
-use Rattle.syntax.specs.Tokens.{Token, name, word, mark}
+use Rattle.lexer.specs.declared.token.Word.TheVariants.{Not, Return}
+use Rattle.lexer.specs.declared.token.Mark.TheVariants.{CloseParen, Comma, Assign, AddAssign}
+use Rattle.lexer.specs.declared.layout.Bracket.TheVariants.{Round}
+use Rattle.lexer.specs.Tokens.{Token, name, word, mark}
 use Rattle.syntax.specs.Tree.{Expr, identifier, index}
 use Rattle.syntax.specs.Levels.{IsTree}
 use Rattle.syntax.specs.Spelling.{spelled, names_spelled}

@@ -1,14 +1,14 @@
 -- What the reading with a limit takes from the front of tokens is what the reading without one takes.
-use Rattle.std.proofs.Common.{◌≡◌, ℕ, Bool, true, false, List, [], ◌∷◌, Option, Some, None, refl}
+use Rattle.std.proofs.Common.{◌≡◌, ℕ, List, ◌∷◌, Option, Some, None, refl}
 use Rattle.std.specs.Prelude.{◌==◌}
-use Rattle.syntax.specs.declared.token.Word.TheVariants.{And, Else, For, If, In, Not, Or}
-use Rattle.syntax.specs.declared.token.Mark.TheVariants.{OpenParen, OpenBracket, Dot, Assign, Equal, NotEqual, Less, Greater, LessEqual, GreaterEqual, Plus, Minus, Star, FloorDivide, Percent}
+use Rattle.lexer.specs.declared.token.Word.TheVariants.{And, If, In, Not, Or}
+use Rattle.lexer.specs.declared.token.Mark.TheVariants.{OpenParen, OpenBracket, Dot, Assign, Equal, NotEqual, Less, Greater, LessEqual, GreaterEqual, Plus, Minus, Star, FloorDivide, Percent}
 use Rattle.syntax.specs.declared.ahead.Suffix.{Suffix}
 use Rattle.syntax.specs.declared.ahead.Suffix.TheVariants as suffix
-use Rattle.syntax.specs.Tokens.{Token, name, number, string, word, mark}
+use Rattle.lexer.specs.Tokens.{Token, name, word, mark}
 use Rattle.syntax.specs.Tree.{Operator, Sign, negation, opposite}
 use Rattle.syntax.specs.Levels.{operator_level}
-use Rattle.syntax.specs.Front.{Next, operator, dot_next, index_next, call_next, if_next, assign_next, nothing, next, sign_at, keyword_step, keyword_at}
+use Rattle.syntax.specs.Front.{Next, operator, dot_next, index_next, call_next, if_next, next, sign_at, keyword_step, keyword_at}
 use Rattle.syntax.specs.Ahead.{or_at, and_at, comparison_at, sum_at, product_at, behind_not, behind_minus, behind_if, suffix_at, named_at}
 use Rattle.syntax.specs.Descent.{given}
 

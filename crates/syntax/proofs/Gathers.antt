@@ -1,12 +1,12 @@
 -- Members and clauses that are read one after the other, with a limit on the depth and without one.
-use Rattle.std.proofs.Common.{◌≡◌, ℕ, zero, suc, ◌-◌, ◌<◌, ◌≤◌, max, Bool, true, false, List, [], ◌∷◌, ◌++◌, Option, Some, None, refl, sym, ap, ◌∙◌, subst, arith, inl, inr, ◌⊎◌}
+use Rattle.std.proofs.Common.{◌≡◌, ℕ, zero, suc, ◌<◌, ◌≤◌, max, List, Option, Some, None, refl, sym, subst, arith, inl, inr, ◌⊎◌}
 use Rattle.std.specs.Prelude.{◌&&◌}
 use Rattle.std.proofs.Math.Nat.{le-max_left, le-max_right, max-eq_left, max-eq_right}
-use Rattle.syntax.specs.declared.layout.Bracket.{Bracket}
-use Rattle.syntax.specs.declared.layout.Bracket.TheVariants.{Round, Square, Curly}
+use Rattle.lexer.specs.declared.layout.Bracket.{Bracket}
+use Rattle.lexer.specs.declared.layout.Bracket.TheVariants.{Round, Curly}
 use Rattle.syntax.specs.declared.expressions.Row.{Row}
 use Rattle.syntax.specs.declared.expressions.Row.TheVariants.{Whole, Operand}
-use Rattle.syntax.specs.Tokens.{Token}
+use Rattle.lexer.specs.Tokens.{Token}
 use Rattle.syntax.specs.Tree.{Expr, Member, plain, keyword, entry, Members, no_members, last_member, next_member, Clauses, no_clauses, for_clause, if_clause}
 use Rattle.syntax.specs.Levels.{Held, items, entries, arguments}
 use Rattle.syntax.specs.Depth.{depth, member_depth, members_depth, clauses_depth}
@@ -15,8 +15,7 @@ use Rattle.syntax.specs.Reading as R
 use Rattle.syntax.specs.Reading.{Parse, then_read}
 use Rattle.syntax.specs.Descent as D
 use Rattle.syntax.specs.Descent.{Part}
-use Rattle.syntax.specs.Ahead.{named_at}
-use Rattle.syntax.proofs.Capped.{Capped, Deep, capped_deep, deep_then, bind, stays, wrapped, either_way}
+use Rattle.syntax.proofs.Capped.{Capped, Deep, deep_then, bind, stays, wrapped, either_way}
 use Rattle.syntax.proofs.FrontSame.{named_same}
 use Rattle.syntax.proofs.Descends.{part_of, row_of, Same}
 

@@ -1,16 +1,16 @@
 -- Reading a whole expression with a limit on the depth gives its tree, unless that is too deep.
 use Rattle.std.proofs.Common.{◌≡◌, ℕ, zero, suc, ◌-◌, ◌<◌, ◌≤◌, max, Bool, true, false, List, [], ◌∷◌, Option, Some, None, refl, sym, ap, ◌∙◌, subst, arith, inl, inr, ◌⊎◌}
-use Rattle.std.specs.Prelude.{◌==◌, ◌&&◌, nat_lt}
+use Rattle.std.specs.Prelude.{◌&&◌, nat_lt}
 use Rattle.std.proofs.lemmas.Bool.Decides.{leb_tells}
 use Rattle.std.proofs.Math.Nat.{le-max_left}
-use Rattle.syntax.specs.declared.layout.Bracket.{Bracket}
-use Rattle.syntax.specs.declared.layout.Bracket.TheVariants.{Round, Square, Curly}
+use Rattle.lexer.specs.declared.layout.Bracket.{Bracket}
+use Rattle.lexer.specs.declared.layout.Bracket.TheVariants.{Round, Square, Curly}
 use Rattle.syntax.specs.declared.expressions.Row.{Row}
 use Rattle.syntax.specs.declared.expressions.Row.TheVariants.{Whole, Operand, Negated, Opposed}
-use Rattle.syntax.specs.Layout.{opening}
-use Rattle.syntax.specs.Tokens.{Token, name, number, string, word, mark}
+use Rattle.lexer.specs.Layout.{opening}
+use Rattle.lexer.specs.Tokens.{Token, name, number, string, word, mark}
 use Rattle.syntax.specs.Tree.{Sign, negation, opposite, Expr, identifier, integer, text, display, comprehension, conditional, operation, signed, field, index, call, Member, plain, keyword, entry, Members, no_members, last_member, next_member, Clauses}
-use Rattle.syntax.specs.Levels.{operator_level, sign_level, Held, items, entries, arguments, in_order, may_comprehend}
+use Rattle.syntax.specs.Levels.{items, entries, arguments, in_order, may_comprehend}
 use Rattle.syntax.specs.Bare.{Tree, bare, tuple, listing, dict, invokes, each, each_entry, plain_of, keywords_of, entries_of}
 use Rattle.syntax.specs.TreeView as V
 use Rattle.syntax.specs.Depth.{depth, member_depth, members_depth, clauses_depth}
@@ -20,9 +20,9 @@ use Rattle.syntax.specs.Reading.{Parse, then_read}
 use Rattle.syntax.specs.FormReading.{then_found}
 use Rattle.syntax.specs.Descent as D
 use Rattle.syntax.specs.Descent.{Part, given}
-use Rattle.syntax.specs.Ahead.{with_rest, or_at, and_at, comparison_at, sum_at, product_at, behind_not, behind_minus, behind_if, suffix_at, number_at, string_at, bracket_at}
-use Rattle.syntax.proofs.Capped.{Capped, Deep, capped_deep, deep_then, bind, passes, made, stays}
-use Rattle.syntax.proofs.FrontSame.{taken, if_of, suffix_of, not_of, minus_of, or_same, and_same, comparison_same, sum_same, product_same, if_same, suffix_same, not_same, minus_same}
+use Rattle.syntax.specs.Ahead.{with_rest, or_at, and_at, comparison_at, sum_at, product_at, behind_if, number_at, string_at, bracket_at}
+use Rattle.syntax.proofs.Capped.{Capped, Deep, deep_then, bind, passes, made, stays}
+use Rattle.syntax.proofs.FrontSame.{if_of, suffix_of, not_of, minus_of, or_same, and_same, comparison_same, sum_same, product_same, if_same, suffix_same, not_same, minus_same}
 use Rattle.syntax.proofs.Descends.{part_of, row_of, left_over, right_over, Same, GoesOn, Deepens, then_same, chain_step_same, chain_deepens, chained_same}
 use Rattle.syntax.proofs.Gathers.{onto, read_twice, after_same, add_item, add_pair, add_argument, add_clauses, entry_of, pair_of, pair_depth, items_same, pairs_same, pair_r, entry_is, pair_same, arguments_same, clauses_same}
 use Rattle.syntax.proofs.Onto.{items_are, items_are_deep, pairs_are, pairs_are_deep, positional_are, keywords_are, arguments_depth, order_is, clauses_are, conditions_depth}

@@ -1,8 +1,8 @@
 -- A logical line is read as its form, and so has at most one.
 use Rattle.std.proofs.Common.{◌≡◌, ℕ, suc, ◌+◌, ◌≤◌, true, List, [], ◌∷◌, Option, Some, None, refl, sym, ap, ◌∙◌, arith, length}
-use Rattle.syntax.specs.declared.token.Word.TheVariants.{In}
-use Rattle.syntax.specs.declared.token.Mark.TheVariants.{CloseParen, Comma, Assign, AddAssign}
-use Rattle.syntax.specs.Tokens.{Token, word, mark}
+use Rattle.lexer.specs.declared.token.Word.TheVariants.{In}
+use Rattle.lexer.specs.declared.token.Mark.TheVariants.{CloseParen, Comma, Assign, AddAssign}
+use Rattle.lexer.specs.Tokens.{Token, word, mark}
 use Rattle.syntax.specs.Tree.{Expr, index}
 use Rattle.syntax.specs.Levels.{IsTree}
 use Rattle.syntax.specs.Spelling.{spelled}

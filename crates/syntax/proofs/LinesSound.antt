@@ -1,10 +1,10 @@
 -- What is read as a form of a logical line is spelled so.
 use Rattle.std.proofs.Common.{◌≡◌, ℕ, zero, suc, Bool, true, false, List, [], ◌∷◌, Option, Some, None, refl, sym, ap, ◌∙◌, subst, length}
-use Rattle.syntax.specs.declared.token.Word.{Word}
-use Rattle.syntax.specs.declared.token.Word.TheVariants.{Break, Continue, Def, Elif, Else, For, If, In, Load, Not, Pass, Return}
-use Rattle.syntax.specs.declared.token.Mark.TheVariants.{OpenParen, CloseParen, Comma, Colon, Assign, AddAssign}
-use Rattle.syntax.specs.declared.layout.Bracket.TheVariants.{Round}
-use Rattle.syntax.specs.Tokens.{Token, name, string, word, mark}
+use Rattle.lexer.specs.declared.token.Word.{Word}
+use Rattle.lexer.specs.declared.token.Word.TheVariants.{Break, Continue, Def, Elif, Else, For, If, In, Load, Not, Pass, Return}
+use Rattle.lexer.specs.declared.token.Mark.TheVariants.{OpenParen, CloseParen, Comma, Colon, Assign, AddAssign}
+use Rattle.lexer.specs.declared.layout.Bracket.TheVariants.{Round}
+use Rattle.lexer.specs.Tokens.{Token, name, string, word, mark}
 use Rattle.syntax.specs.Tree.{Expr, identifier, index}
 use Rattle.syntax.specs.Levels.{IsTree}
 use Rattle.syntax.specs.Spelling.{spelled, names_spelled}

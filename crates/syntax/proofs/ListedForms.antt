@@ -1,13 +1,13 @@
 -- What is assigned or returned, with a limit on the depth.
-use Rattle.std.proofs.Common.{◌≡◌, ℕ, zero, suc, ◌-◌, ◌<◌, ◌≤◌, max, Bool, true, false, List, [], ◌∷◌, ◌++◌, Option, Some, None, refl, sym, ap, ◌∙◌, subst, arith, inl, inr, ◌⊎◌}
+use Rattle.std.proofs.Common.{◌≡◌, ℕ, zero, suc, ◌-◌, ◌<◌, ◌≤◌, max, true, false, List, [], ◌∷◌, ◌++◌, Option, Some, None, refl, sym, ap, ◌∙◌, subst, arith, inl, inr, ◌⊎◌}
 use Rattle.std.specs.Prelude.{nat_lt}
 use Rattle.std.proofs.lemmas.Bool.Decides.{leb_tells}
 use Rattle.std.proofs.Math.Nat.{zero-max, le-max_left, le-max_right}
 use Rattle.syntax.specs.declared.expressions.Row.TheVariants.{Whole}
-use Rattle.syntax.specs.declared.token.Mark.TheVariants.{Comma, Assign, AddAssign}
-use Rattle.syntax.specs.Tokens.{Token, mark}
+use Rattle.lexer.specs.declared.token.Mark.TheVariants.{Comma, Assign, AddAssign}
+use Rattle.lexer.specs.Tokens.{Token, mark}
 use Rattle.syntax.specs.Tree.{Expr}
-use Rattle.syntax.specs.Bare.{Tree, Trees, bare, tuple}
+use Rattle.syntax.specs.Bare.{Trees, bare, tuple}
 use Rattle.syntax.specs.Depth.{depth, deepest, listed_depth}
 use Rattle.syntax.specs.Statements.{Listed, alone, followed}
 use Rattle.syntax.specs.BareLines.{listed_trees, listed_tree}

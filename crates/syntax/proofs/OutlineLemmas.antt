@@ -2,7 +2,7 @@
 use Rattle.std.proofs.Common.{◌≡◌, ℕ, List, [], ◌∷◌, refl, sym, ap, ◌∙◌, Option, Ok, Err}
 use Rattle.syntax.specs.declared.outline.Outline.{Outline}
 use Rattle.syntax.specs.declared.outline.Open.{Open}
-use Rattle.syntax.specs.Layout.{◌>>=◌}
+use Rattle.lexer.specs.Layout.{◌>>=◌}
 use Rattle.syntax.specs.Outlines.{first_of, stepped, pass}
 
 -- a line that is refused

@@ -3,7 +3,7 @@ use Rattle.std.proofs.Common.{◌≡◌, ℕ, ◌<◌, Bool, true, false, List, 
 use Rattle.std.proofs.lemmas.Bool.Decides.{nat_tests}
 use Rattle.syntax.specs.declared.outline.Open.{Open}
 use Rattle.syntax.specs.Tree.{text}
-use Rattle.syntax.specs.Layout.{◌>>=◌}
+use Rattle.lexer.specs.Layout.{◌>>=◌}
 use Rattle.syntax.specs.Statements.{Simple, assigns, assigns_at, increases, increases_at, evaluates, passes, breaks, continues, returns, returns_list, Body, block, inline, Form, loads, simple, defines, if_head, elif_head, else_head, for_head}
 use Rattle.syntax.specs.FormReading.{form_reads}
 use Rattle.syntax.specs.Depth.{form_depth}

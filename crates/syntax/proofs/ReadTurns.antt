@@ -1,7 +1,7 @@
 -- The reading of an expression, by one turn.
-use Rattle.std.proofs.Common.{◌≡◌, ℕ, zero, suc, ◌-◌, ◌<◌, List, Option, None, refl, ap, arith}
+use Rattle.std.proofs.Common.{◌≡◌, ℕ, zero, suc, ◌-◌, ◌<◌, List, None, refl, ap, arith}
 use Rattle.syntax.specs.declared.expressions.Row.{Row}
-use Rattle.syntax.specs.Tokens.{Token}
+use Rattle.lexer.specs.Tokens.{Token}
 use Rattle.syntax.specs.Descent.{read, row}
 
 pub no_turns : (n : ℕ) (w : Row) (r : ℕ) (ts : List Token) → n ≡ 0 → read n w r ts ≡ None

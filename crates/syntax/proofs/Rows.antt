@@ -1,9 +1,9 @@
 -- Some expressions and lines with what is read of them, by computation.
 use Rattle.std.specs.Prelude.{◌≡◌, ℕ, List, [], ◌∷◌, Some, None, refl}
-use Rattle.syntax.specs.declared.token.Word.TheVariants.{Def, Else, For, If, In, Load, Not, Return}
-use Rattle.syntax.specs.declared.token.Mark.TheVariants.{OpenParen, CloseParen, OpenBracket, CloseBracket, OpenBrace, CloseBrace, Comma, Colon, Dot, Assign, Less, Minus, Plus, Star}
-use Rattle.syntax.specs.declared.layout.Bracket.TheVariants.{Round, Square, Curly}
-use Rattle.syntax.specs.Tokens.{Token, Placed, name, number, string, word, mark}
+use Rattle.lexer.specs.declared.token.Word.TheVariants.{Def, Else, For, If, In, Load, Not, Return}
+use Rattle.lexer.specs.declared.token.Mark.TheVariants.{OpenParen, CloseParen, OpenBracket, CloseBracket, OpenBrace, CloseBrace, Comma, Colon, Dot, Assign, Less, Minus, Plus, Star}
+use Rattle.lexer.specs.declared.layout.Bracket.TheVariants.{Round, Square, Curly}
+use Rattle.lexer.specs.Tokens.{Token, Placed, name, number, string, word, mark}
 use Rattle.syntax.specs.Tree.{Expr, identifier, integer, display, comprehension, conditional, operation, signed, negation, opposite, add, multiply, not_within, no_members, last_member, next_member, plain, entry, field, no_clauses, for_clause, if_clause}
 use Rattle.syntax.specs.Front.{next, sign_at, name_at, keyword_at, behind_close, behind_comma, behind_colon, behind_else, is_for, names_in, head_at}
 use Rattle.syntax.specs.Reading.{chain, member, members, clauses, atom, suffixes, e9, e8, e7, e6, e5, e4, e3, e2, e1, read, reads}

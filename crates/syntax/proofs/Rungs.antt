@@ -3,7 +3,7 @@ use Rattle.std.proofs.Common.{◌≡◌, ℕ, zero, suc, ◌+◌, ◌-◌, ◌�
 use Rattle.std.specs.Prelude.{◌==◌}
 use Rattle.std.proofs.lemmas.Bool.{eq-eqb}
 use Rattle.std.proofs.lemmas.Bool.Decides.{eqb_tells}
-use Rattle.syntax.specs.Tokens.{Token}
+use Rattle.lexer.specs.Tokens.{Token}
 use Rattle.syntax.specs.Tree.{Operator, Sign, Expr, operation}
 use Rattle.syntax.specs.Levels.{operator_level, sign_level, level}
 use Rattle.syntax.specs.Spelling.{spelled, operator_spelled}

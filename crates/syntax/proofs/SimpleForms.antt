@@ -1,17 +1,16 @@
 -- Statements without a head, with a limit on the depth.
-use Rattle.std.proofs.Common.{◌≡◌, ℕ, zero, suc, ◌<◌, ◌≤◌, max, Bool, true, false, List, [], ◌∷◌, Option, Some, None, refl, sym, ap, ◌∙◌, subst, arith, inl, inr, ◌⊎◌}
+use Rattle.std.proofs.Common.{◌≡◌, ℕ, ◌<◌, ◌≤◌, List, [], ◌∷◌, Option, Some, None, refl, sym, ap, subst, arith}
 use Rattle.syntax.specs.declared.expressions.Row.TheVariants.{Whole}
-use Rattle.syntax.specs.declared.layout.Bracket.TheVariants.{Round}
-use Rattle.syntax.specs.declared.token.Word.TheVariants.{And, Break, Continue, Def, Elif, Else, For, If, In, Load, Not, Or, Pass, Reserved, Return}
-use Rattle.syntax.specs.declared.token.Mark.TheVariants.{Comma, Assign, AddAssign}
-use Rattle.syntax.specs.Tokens.{Token, name, number, string, word, mark}
+use Rattle.lexer.specs.declared.token.Word.TheVariants.{And, Break, Continue, Def, Elif, Else, For, If, In, Load, Not, Or, Pass, Reserved, Return}
+use Rattle.lexer.specs.declared.token.Mark.TheVariants.{Comma, Assign, AddAssign}
+use Rattle.lexer.specs.Tokens.{Token, name, number, string, word, mark}
 use Rattle.syntax.specs.Tree.{Expr, identifier, integer, text, display, comprehension, conditional, operation, signed, field, index, call}
-use Rattle.syntax.specs.Bare.{Tree, bare}
+use Rattle.syntax.specs.Bare.{bare}
 use Rattle.syntax.specs.Depth.{depth, listed_depth, simple_depth, body_depth}
 use Rattle.syntax.specs.Statements as W
 use Rattle.syntax.specs.Statements.{Listed, Simple, Body}
 use Rattle.syntax.specs.BareLines.{Form, passes, breaks, continues, returns, listed_tree, bare_simple}
-use Rattle.syntax.specs.Built.{Belongs, body_made, block, statement}
+use Rattle.syntax.specs.Built.{body_made, statement}
 use Rattle.syntax.specs.Front.{behind_colon}
 use Rattle.syntax.specs.Reading as R
 use Rattle.syntax.specs.Reading.{if_last}
@@ -22,7 +21,7 @@ use Rattle.syntax.specs.Descent.{if_all}
 use Rattle.syntax.specs.Ahead.{is_done}
 use Rattle.syntax.specs.FormDescent as FD
 use Rattle.syntax.specs.FormDescent.{opening_at, behind_assign, behind_add}
-use Rattle.syntax.proofs.CappedForms.{CappedO, DeepO, deep_found, is_so, found, found_whole, found_same, wrapped_whole}
+use Rattle.syntax.proofs.CappedForms.{CappedO, DeepO, deep_found, is_so, found, found_whole}
 use Rattle.syntax.proofs.Descends.{part_of}
 use Rattle.syntax.proofs.Gathers.{over_left, over_right, under_both}
 use Rattle.syntax.proofs.ListedForms.{value_same, only_same}

@@ -2,9 +2,9 @@
 use Rattle.std.proofs.Common.{◌≡◌, ℕ, suc, ◌+◌, ◌≤◌, Bool, true, false, List, [], ◌∷◌, refl, ap, arith, length}
 use Rattle.std.specs.Prelude.{◌==◌}
 use Rattle.std.proofs.lemmas.Bool.{eqb-true}
-use Rattle.syntax.specs.declared.token.Mark.TheVariants.{Comma, CloseParen, CloseBracket, OpenBracket, OpenParen, Dot, Colon}
-use Rattle.syntax.specs.declared.token.Word.TheVariants.{Else, If, In}
-use Rattle.syntax.specs.Tokens.{Token, name, mark, word}
+use Rattle.lexer.specs.declared.token.Mark.TheVariants.{Comma, CloseParen, CloseBracket, OpenBracket, OpenParen, Dot, Colon}
+use Rattle.lexer.specs.declared.token.Word.TheVariants.{Else, If, In}
+use Rattle.lexer.specs.Tokens.{Token, name, mark, word}
 use Rattle.syntax.specs.Tree.{Operator, either, both, equal, not_equal, less, greater, less_equal, greater_equal, within, not_within, add, subtract, multiply, divide, remainder, Expr, identifier, integer, text, display, comprehension, conditional, operation, signed, field, index, call, Member, plain, keyword, entry, Members, no_members, last_member, next_member, Clauses, no_clauses, for_clause, if_clause}
 use Rattle.syntax.specs.Levels.{operator_level, left_level, level}
 use Rattle.syntax.specs.Spelling.{spelled, member_spelled, members_spelled, clauses_spelled, names_spelled, operator_spelled, close_mark}

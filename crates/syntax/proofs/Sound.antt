@@ -2,13 +2,13 @@
 use Rattle.std.proofs.Common.{◌≡◌, ℕ, zero, suc, ◌≤◌, Bool, true, false, List, [], ◌∷◌, Option, Some, None, refl, sym, ap, ◌∙◌, subst, arith, length}
 use Rattle.std.specs.Prelude.{◌==◌, ◌&&◌}
 use Rattle.std.proofs.lemmas.Bool.{eqb-true}
-use Rattle.syntax.specs.declared.token.Mark.TheVariants.{OpenParen, OpenBracket, CloseBracket, Comma, Colon, Dot, Assign}
-use Rattle.syntax.specs.declared.token.Mark.{Mark}
-use Rattle.syntax.specs.declared.token.Word.TheVariants.{Else, For, If, In}
-use Rattle.syntax.specs.declared.layout.Bracket.{Bracket}
-use Rattle.syntax.specs.declared.layout.Bracket.TheVariants.{Round, Square}
-use Rattle.syntax.specs.Layout.{opening}
-use Rattle.syntax.specs.Tokens.{Token, name, number, string, word, mark}
+use Rattle.lexer.specs.declared.token.Mark.TheVariants.{OpenParen, OpenBracket, CloseBracket, Comma, Colon, Dot, Assign}
+use Rattle.lexer.specs.declared.token.Mark.{Mark}
+use Rattle.lexer.specs.declared.token.Word.TheVariants.{Else, For, If, In}
+use Rattle.lexer.specs.declared.layout.Bracket.{Bracket}
+use Rattle.lexer.specs.declared.layout.Bracket.TheVariants.{Round, Square}
+use Rattle.lexer.specs.Layout.{opening}
+use Rattle.lexer.specs.Tokens.{Token, name, number, string, word, mark}
 use Rattle.syntax.specs.Tree.{Operator, Sign, negation, opposite, Expr, display, comprehension, conditional, operation, signed, field, index, call, Member, plain, keyword, entry, Members, next_member, Clauses, no_clauses, for_clause, if_clause}
 use Rattle.syntax.specs.Levels.{operator_level, left_level, sign_level, level, Held, items, entries, arguments, held, allowed, in_order, may_comprehend, starts_with_for, IsTree, IsMember, AreMembers, AreClauses}
 use Rattle.syntax.specs.Spelling.{operator_spelled, sign_token, open_mark, close_mark, names_spelled, spelled, member_spelled, members_spelled, clauses_spelled, Spells}

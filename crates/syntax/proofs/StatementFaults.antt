@@ -1,8 +1,8 @@
 -- The line at which a file is refused is the first with which the lines so far no longer begin a file.
 use Rattle.std.proofs.Common.{◌≡◌, ℕ, suc, ◌<◌, Bool, true, false, List, [], ◌∷◌, ◌++◌, map, refl, sym, ap, subst, ◌∙◌, inl, inr, ◌⊎◌, nat_lt, ◌==◌, Option, Some, None, Result, Ok, Err, arith}
 use Rattle.std.proofs.lemmas.Bool.Decides.{nat_tests}
-use Rattle.syntax.specs.declared.token.Word.TheVariants.{Pass}
-use Rattle.syntax.specs.Tokens.{word}
+use Rattle.lexer.specs.declared.token.Word.TheVariants.{Pass}
+use Rattle.lexer.specs.Tokens.{word}
 use Rattle.syntax.specs.Statements.{Form, form_spelled, simple, passes}
 use Rattle.syntax.specs.FormReading.{form_reads}
 use Rattle.syntax.specs.Places.{Place, top_of_module, top_of_build, in_function, in_loop, simple_stands, opens}

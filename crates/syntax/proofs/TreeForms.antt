@@ -1,11 +1,11 @@
 -- What is spelled is read: each form, at the level of its own.
 use Rattle.std.proofs.Common.{◌≡◌, ℕ, zero, suc, ◌+◌, ◌≤◌, true, List, ◌∷◌, Some, refl, ap, ◌∙◌, arith}
 use Rattle.std.specs.Prelude.{◌&&◌}
-use Rattle.syntax.specs.declared.token.Mark.TheVariants.{OpenParen, CloseParen, OpenBracket, CloseBracket, Comma, Colon, Dot, Assign}
-use Rattle.syntax.specs.declared.token.Word.TheVariants.{Else, For, If, In}
-use Rattle.syntax.specs.declared.layout.Bracket.{Bracket}
-use Rattle.syntax.specs.declared.layout.Bracket.TheVariants.{Round, Square}
-use Rattle.syntax.specs.Tokens.{Token, name, number, string, word, mark}
+use Rattle.lexer.specs.declared.token.Mark.TheVariants.{OpenParen, CloseParen, OpenBracket, CloseBracket, Comma, Colon, Dot, Assign}
+use Rattle.lexer.specs.declared.token.Word.TheVariants.{Else, For, If, In}
+use Rattle.lexer.specs.declared.layout.Bracket.{Bracket}
+use Rattle.lexer.specs.declared.layout.Bracket.TheVariants.{Round, Square}
+use Rattle.lexer.specs.Tokens.{Token, name, number, string, word, mark}
 use Rattle.syntax.specs.Tree.{negation, opposite, Expr, identifier, integer, text, display, comprehension, conditional, signed, field, index, call, Member, plain, keyword, entry, Members, no_members, last_member, next_member, Clauses, no_clauses, for_clause, if_clause}
 use Rattle.syntax.specs.Levels.{level, Held, items, entries, arguments, held, allowed, in_order, may_comprehend, starts_with_for}
 use Rattle.syntax.specs.Spelling.{spelled, member_spelled, members_spelled, clauses_spelled, names_spelled, open_mark, close_mark}

@@ -1,7 +1,7 @@
 -- What is read of all tokens of a line, with a limit on the depth, is the tree of their expression.
-use Rattle.std.proofs.Common.{◌≡◌, ℕ, ◌<◌, ◌≤◌, List, [], ◌∷◌, Option, Some, None, refl, sym, ap, ◌∙◌, subst, arith, length, inl, inr, ◌⊎◌}
+use Rattle.std.proofs.Common.{◌≡◌, ℕ, ◌<◌, ◌≤◌, List, [], ◌∷◌, Option, Some, None, refl, sym, ap, subst, arith, length, inl, inr, ◌⊎◌}
 use Rattle.syntax.specs.declared.expressions.Row.TheVariants.{Whole}
-use Rattle.syntax.specs.Tokens.{Token}
+use Rattle.lexer.specs.Tokens.{Token}
 use Rattle.syntax.specs.Tree.{Expr}
 use Rattle.syntax.specs.Depth.{depth}
 use Rattle.syntax.specs.Bare.{Tree, bare}

@@ -1,16 +1,16 @@
 -- What is left of a logical line, and what is taken from its front.
 use Rattle.std.specs.Prelude.{◌≡◌, ℕ, Bool, true, false, List, [], ◌∷◌, map, Option, Some, None, Result, Ok, Err}
-use Rattle.syntax.specs.declared.token.Token as found
-use Rattle.syntax.specs.declared.token.Word.TheVariants.{And, For, If, In, Not, Or}
-use Rattle.syntax.specs.declared.token.Mark.TheVariants.{OpenParen, OpenBracket, Dot, Assign, Equal, NotEqual, Less, Greater, LessEqual, GreaterEqual, Plus, Minus, Star, FloorDivide, Percent}
-use Rattle.syntax.specs.declared.layout.Bracket.{Bracket}
+use Rattle.lexer.specs.declared.token.Token as found
+use Rattle.lexer.specs.declared.token.Word.TheVariants.{And, If, In, Not, Or}
+use Rattle.lexer.specs.declared.token.Mark.TheVariants.{OpenParen, OpenBracket, Dot, Assign, Equal, NotEqual, Less, Greater, LessEqual, GreaterEqual, Plus, Minus, Star, FloorDivide, Percent}
+use Rattle.lexer.specs.declared.layout.Bracket.{Bracket}
 use Rattle.syntax.specs.declared.ahead.Suffix.{Suffix}
 use Rattle.syntax.specs.declared.ahead.Suffix.TheVariants as suffix
 use Rattle.syntax.specs.declared.ahead.Stop.{Stop}
 use Rattle.syntax.specs.declared.ahead.Stop.TheVariants as stop
-use Rattle.syntax.specs.Layout.{opening}
-use Rattle.syntax.specs.Tokens.{Token, name, number, string, word, mark}
-use Rattle.syntax.specs.Seen.{token_seen}
+use Rattle.lexer.specs.Layout.{opening}
+use Rattle.lexer.specs.Tokens.{Token, name, number, string, word, mark}
+use Rattle.lexer.specs.Seen.{token_seen}
 use Rattle.syntax.specs.Tree.{Operator, either, both, equal, not_equal, less, greater, less_equal, greater_equal, within, not_within, add, subtract, multiply, divide, remainder}
 use Rattle.syntax.specs.declared.ahead.Head as heads
 use Rattle.syntax.specs.declared.ahead.Head.TheVariants as h

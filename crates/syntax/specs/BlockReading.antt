@@ -3,7 +3,7 @@
 -- A line is refused that has no form, or whose form may not stand where it does, or that has an expression which is too
 -- deep. What may stand where is said of the lines before it alone, so the line that is refused is the first such line.
 use Rattle.std.specs.Prelude.{ℕ, Bool, true, false, ◌&&◌, ◌==◌, nat_le, nat_lt, List, [], ◌∷◌, map, Option, Some, None, Result, Ok, Err}
-use Rattle.syntax.specs.Tokens.{Token}
+use Rattle.lexer.specs.Tokens.{Token}
 use Rattle.syntax.specs.Statements.{Form}
 use Rattle.syntax.specs.FormReading.{form_reads}
 use Rattle.syntax.specs.Depth.{form_depth}

@@ -1,6 +1,6 @@
 -- The tree of a file: its logical lines in blocks, by their columns.
 use Rattle.std.specs.Prelude.{◌≡◌, ℕ, suc, ◌≤◌, Bool, true, false, List, [], ◌∷◌, map}
-use Rattle.syntax.specs.Tokens.{Token, Placed}
+use Rattle.lexer.specs.Tokens.{Token, Placed}
 use Rattle.syntax.specs.Statements.{Form, IsForm, form_spelled}
 use Rattle.syntax.specs.Depth.{form_depth}
 use Rattle.syntax.specs.Places.{Place, stands, inside_of, follows, takes_else, early_enough, still_early, opens}

@@ -1,7 +1,7 @@
 -- How deep an expression is. That there is a limit is this project's own choice.
 use Rattle.std.specs.Prelude.{ℕ, suc, max, Bool, true, false}
-use Rattle.syntax.specs.declared.layout.Bracket.{Bracket}
-use Rattle.syntax.specs.declared.layout.Bracket.TheVariants.{Round}
+use Rattle.lexer.specs.declared.layout.Bracket.{Bracket}
+use Rattle.lexer.specs.declared.layout.Bracket.TheVariants.{Round}
 use Rattle.syntax.specs.Tree.{Expr, identifier, integer, text, display, comprehension, conditional, operation, signed, field, index, call, Member, plain, keyword, entry, Members, no_members, last_member, next_member, Clauses, no_clauses, for_clause, if_clause}
 use Rattle.syntax.specs.Statements.{Listed, alone, followed, Simple, assigns, assigns_at, increases, increases_at, evaluates, returns_list, Body, block, inline, Param, required, optional, Commas, none_more, last_one, and_more, Form, loads, simple, defines, if_head, elif_head, else_head, for_head}
 

@@ -2,7 +2,7 @@
 use Rattle.std.specs.Prelude.{ℕ, map, Result}
 use Rattle.std.specs.declared.alloc.Global.{Global}
 use denote.Ref.{MutBor}
-use Rattle.syntax.specs.Tokens.{Token}
+use Rattle.lexer.specs.Tokens.{Token}
 use Rattle.std.specs.Prelude.{List}
 use Rattle.syntax.specs.declared.expressions.Row.{Row}
 use Rattle.syntax.specs.declared.parts.Part as part

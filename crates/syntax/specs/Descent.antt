@@ -1,13 +1,13 @@
 -- Reading an expression that is at most so deep: the tree without brackets alone, with its depth. A part that would be
 -- too deep is refused before it is read.
 use Rattle.std.specs.Prelude.{ℕ, zero, suc, ◌-◌, max, Bool, true, false, ◌&&◌, nat_lt, List, [], ◌∷◌, ◌++◌, length, Option, Some, None}
-use Rattle.syntax.specs.declared.layout.Bracket.{Bracket}
-use Rattle.syntax.specs.declared.layout.Bracket.TheVariants.{Round, Square, Curly}
+use Rattle.lexer.specs.declared.layout.Bracket.{Bracket}
+use Rattle.lexer.specs.declared.layout.Bracket.TheVariants.{Round, Square, Curly}
 use Rattle.syntax.specs.declared.ahead.Suffix.{Suffix}
 use Rattle.syntax.specs.declared.ahead.Suffix.TheVariants as suffix
 use Rattle.syntax.specs.declared.expressions.Row.{Row}
 use Rattle.syntax.specs.declared.expressions.Row.TheVariants.{Whole, Operand, Negated, Opposed}
-use Rattle.syntax.specs.Tokens.{Token}
+use Rattle.lexer.specs.Tokens.{Token}
 use Rattle.syntax.specs.Tree.{Operator, Sign, negation, opposite}
 use Rattle.syntax.specs.Bare.{Tree, named, numeral, quoted, tuple, listing, dict, choice, operates, turned, selects, subscript, invokes, each, each_entry, Rest, for_each, only_if}
 use Rattle.syntax.specs.Front.{name_at, behind_close, behind_comma, behind_colon, behind_else, is_for, Head, for_head, if_head, no_head, head_at}

@@ -1,12 +1,12 @@
 -- The tree of a file, from its bytes, and the fault of a file that has none.
 use Rattle.std.specs.Prelude.{◌≡◌, ℕ, List, map, Option, Some, None, Result, Ok, Err}
-use Rattle.syntax.specs.declared.fault.FaultKind.TheVariants as kind
-use Rattle.syntax.specs.declared.fault.SyntaxFault.{SyntaxFault}
-use Rattle.syntax.specs.declared.forms.FileKind.{FileKind}
-use Rattle.syntax.specs.declared.forms.FileKind.TheVariants.{Module, Build}
-use Rattle.syntax.specs.Tokens.{Placed}
-use Rattle.syntax.specs.Lines.{fault, reading}
-use Rattle.syntax.specs.LaidOut.{IsReading}
+use Rattle.lexer.specs.declared.fault.FaultKind.TheVariants as kind
+use Rattle.lexer.specs.declared.fault.SyntaxFault.{SyntaxFault}
+use Rattle.lexer.specs.declared.forms.FileKind.{FileKind}
+use Rattle.lexer.specs.declared.forms.FileKind.TheVariants.{Module, Build}
+use Rattle.lexer.specs.Tokens.{Placed}
+use Rattle.lexer.specs.Lines.{fault, reading}
+use Rattle.lexer.specs.LaidOut.{IsReading}
 use Rattle.syntax.specs.Places.{Place, top_of_module, top_of_build}
 use Rattle.syntax.specs.Blocks.{Block, laid, SpellsFile}
 use Rattle.syntax.specs.BlockReading.{file_reads}

@@ -1,11 +1,11 @@
 -- The fault of a text that has no tree: the first of the five passes that finds one, and the first line where it does.
 use Rattle.std.specs.Prelude.{◌≡◌, ℕ, true, false, List, [], ◌∷◌, ◌++◌, map, Some, Err}
-use Rattle.syntax.specs.declared.fault.FaultKind.TheVariants as pass
-use Rattle.syntax.specs.declared.fault.SyntaxFault.{SyntaxFault}
-use Rattle.syntax.specs.declared.forms.FileKind.{FileKind}
-use Rattle.syntax.specs.Tokens.{Placed}
-use Rattle.syntax.specs.Lines.{reading}
-use Rattle.syntax.specs.LaidOut.{IsReading}
+use Rattle.lexer.specs.declared.fault.FaultKind.TheVariants as pass
+use Rattle.lexer.specs.declared.fault.SyntaxFault.{SyntaxFault}
+use Rattle.lexer.specs.declared.forms.FileKind.{FileKind}
+use Rattle.lexer.specs.Tokens.{Placed}
+use Rattle.lexer.specs.Lines.{reading}
+use Rattle.lexer.specs.LaidOut.{IsReading}
 use Rattle.syntax.specs.Places.{Place}
 use Rattle.syntax.specs.Blocks.{Block, Laid, block_laid, IsBlock, laid, SpellsFile}
 use Rattle.syntax.specs.BareLines.{bare_lines}

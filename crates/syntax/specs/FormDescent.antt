@@ -1,12 +1,12 @@
 -- Reading the form of a logical line, none of whose expressions is more than 200 deep.
 use Rattle.std.specs.Prelude.{ℕ, zero, suc, ◌-◌, Bool, true, false, List, [], ◌∷◌, ◌++◌, length, Option, Some, None}
-use Rattle.syntax.specs.declared.token.Word.TheVariants.{And, Break, Continue, Def, Elif, Else, For, If, In, Load, Or, Pass, Reserved, Return}
-use Rattle.syntax.specs.declared.token.Mark.TheVariants.{OpenParen, Comma, Assign, AddAssign}
-use Rattle.syntax.specs.declared.layout.Bracket.TheVariants.{Round}
+use Rattle.lexer.specs.declared.token.Word.TheVariants.{And, Break, Continue, Def, Elif, Else, For, If, In, Load, Or, Pass, Reserved, Return}
+use Rattle.lexer.specs.declared.token.Mark.TheVariants.{OpenParen, Assign, AddAssign}
+use Rattle.lexer.specs.declared.layout.Bracket.TheVariants.{Round}
 use Rattle.syntax.specs.declared.expressions.Row.TheVariants.{Whole}
 use Rattle.syntax.specs.declared.ahead.Opening.{Opening}
 use Rattle.syntax.specs.declared.ahead.Opening.TheVariants as o
-use Rattle.syntax.specs.Tokens.{Token, name, word, mark}
+use Rattle.lexer.specs.Tokens.{Token, word, mark}
 use Rattle.syntax.specs.Bare.{Tree, named, subscript}
 use Rattle.syntax.specs.BareLines.{Param, required, optional, Item, Form, loads, defines, if_head, elif_head, else_head, for_head, assigns, assigns_at, increases, increases_at, evaluates, passes, breaks, continues, returns}
 use Rattle.syntax.specs.Built.{Belongs, nothing, block, statement}

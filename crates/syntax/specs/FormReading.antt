@@ -1,10 +1,10 @@
 -- Reading the form of a logical line from its tokens.
 use Rattle.std.specs.Prelude.{ℕ, zero, suc, Bool, true, List, [], ◌∷◌, Option, Some, None, length}
-use Rattle.syntax.specs.declared.token.Word.{Word}
-use Rattle.syntax.specs.declared.token.Word.TheVariants.{Break, Continue, Def, Elif, Else, For, If, Load, Not, Pass, Return}
-use Rattle.syntax.specs.declared.token.Mark.TheVariants.{Comma, Assign, AddAssign}
-use Rattle.syntax.specs.declared.layout.Bracket.TheVariants.{Round}
-use Rattle.syntax.specs.Tokens.{Token, name, string, word, mark}
+use Rattle.lexer.specs.declared.token.Word.{Word}
+use Rattle.lexer.specs.declared.token.Word.TheVariants.{Break, Continue, Def, Elif, Else, For, If, Load, Not, Pass, Return}
+use Rattle.lexer.specs.declared.token.Mark.TheVariants.{Comma, Assign, AddAssign}
+use Rattle.lexer.specs.declared.layout.Bracket.TheVariants.{Round}
+use Rattle.lexer.specs.Tokens.{Token, name, string, word, mark}
 use Rattle.syntax.specs.Tree.{Expr, identifier, index}
 use Rattle.syntax.specs.Front.{Next, call_next, assign_next, next, name_at, keyword_at, names_in, behind_close, behind_comma, behind_colon}
 use Rattle.syntax.specs.Reading.{Parse, then_read, Row, whole, read, if_last}

@@ -1,10 +1,10 @@
 -- What stands at the front of tokens, for reading them.
 use Rattle.std.specs.Prelude.{ℕ, Bool, true, false, List, [], ◌∷◌, Option, Some, None}
-use Rattle.syntax.specs.declared.token.Word.TheVariants.{And, Else, For, If, In, Not, Or}
-use Rattle.syntax.specs.declared.token.Mark.TheVariants.{OpenParen, CloseParen, OpenBracket, CloseBracket, CloseBrace, Comma, Colon, Dot, Assign, Equal, NotEqual, Less, Greater, LessEqual, GreaterEqual, Plus, Minus, Star, FloorDivide, Percent}
-use Rattle.syntax.specs.declared.layout.Bracket.{Bracket}
-use Rattle.syntax.specs.declared.layout.Bracket.TheVariants.{Round, Square, Curly}
-use Rattle.syntax.specs.Tokens.{Token, name, word, mark}
+use Rattle.lexer.specs.declared.token.Word.TheVariants.{And, Else, For, If, In, Not, Or}
+use Rattle.lexer.specs.declared.token.Mark.TheVariants.{OpenParen, CloseParen, OpenBracket, CloseBracket, CloseBrace, Comma, Colon, Dot, Assign, Equal, NotEqual, Less, Greater, LessEqual, GreaterEqual, Plus, Minus, Star, FloorDivide, Percent}
+use Rattle.lexer.specs.declared.layout.Bracket.{Bracket}
+use Rattle.lexer.specs.declared.layout.Bracket.TheVariants.{Round, Square, Curly}
+use Rattle.lexer.specs.Tokens.{Token, name, word, mark}
 use Rattle.syntax.specs.Tree.{Operator, either, both, equal, not_equal, less, greater, less_equal, greater_equal, within, not_within, add, subtract, multiply, divide, remainder, Sign, negation, opposite}
 
 -- what may come behind an expression, with the tokens behind that

@@ -1,6 +1,6 @@
 -- The expression that a logical line is.
 use Rattle.std.specs.Prelude.{◌≡◌, ◌≤◌, List, Option, Some, None}
-use Rattle.syntax.specs.Tokens.{Token}
+use Rattle.lexer.specs.Tokens.{Token}
 use Rattle.syntax.specs.Tree.{Expr}
 use Rattle.syntax.specs.Spelling.{Spells}
 use Rattle.syntax.specs.Depth.{depth}

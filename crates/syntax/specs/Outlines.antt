@@ -9,7 +9,7 @@ use Rattle.syntax.specs.declared.outline.Body.TheVariants.{Nothing, Block, State
 use Rattle.syntax.specs.declared.outline.Formed.{Formed}
 use Rattle.syntax.specs.declared.outline.Outline.{Outline}
 use Rattle.syntax.specs.declared.outline.Open.{Open}
-use Rattle.syntax.specs.Layout.{◌>>=◌}
+use Rattle.lexer.specs.Layout.{◌>>=◌}
 use Rattle.syntax.specs.Tree.{text}
 use Rattle.syntax.specs.Statements as written
 use Rattle.syntax.specs.FormReading.{form_reads}

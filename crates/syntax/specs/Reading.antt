@@ -1,9 +1,9 @@
 -- Reading an expression from the front of tokens, from the loosest level to the tightest.
 use Rattle.std.specs.Prelude.{ℕ, zero, suc, ◌==◌, ◌&&◌, Bool, true, false, List, [], ◌∷◌, Option, Some, None, length}
-use Rattle.syntax.specs.declared.layout.Bracket.{Bracket}
-use Rattle.syntax.specs.declared.layout.Bracket.TheVariants.{Round, Square}
-use Rattle.syntax.specs.Layout.{opening}
-use Rattle.syntax.specs.Tokens.{Token, name, number, string, word, mark}
+use Rattle.lexer.specs.declared.layout.Bracket.{Bracket}
+use Rattle.lexer.specs.declared.layout.Bracket.TheVariants.{Round, Square}
+use Rattle.lexer.specs.Layout.{opening}
+use Rattle.lexer.specs.Tokens.{Token, name, number, string, word, mark}
 use Rattle.syntax.specs.Tree.{Operator, Sign, negation, opposite, Expr, identifier, integer, text, display, comprehension, conditional, operation, signed, field, index, call, Member, plain, keyword, entry, Members, no_members, last_member, next_member, Clauses, no_clauses, for_clause, if_clause}
 use Rattle.syntax.specs.Levels.{operator_level, sign_level, Held, items, entries, arguments, held, in_order, may_comprehend}
 use Rattle.syntax.specs.Front.{Next, operator, dot_next, index_next, call_next, if_next, next, sign_at, name_at, keyword_at, behind_close, behind_comma, behind_colon, behind_else, is_for, Head, for_head, if_head, no_head, head_at}

@@ -1,11 +1,11 @@
 -- The tokens that spell an expression. Each function has the tokens that come after as its last argument.
 use Rattle.std.specs.Prelude.{◌≡◌, ℕ, List, [], ◌∷◌}
-use Rattle.syntax.specs.declared.token.Word.TheVariants.{And, Else, For, If, In, Not, Or}
-use Rattle.syntax.specs.declared.token.Mark.{Mark}
-use Rattle.syntax.specs.declared.token.Mark.TheVariants.{OpenParen, CloseParen, OpenBracket, CloseBracket, OpenBrace, CloseBrace, Comma, Colon, Dot, Assign, Equal, NotEqual, Less, Greater, LessEqual, GreaterEqual, Plus, Minus, Star, FloorDivide, Percent}
-use Rattle.syntax.specs.declared.layout.Bracket.{Bracket}
-use Rattle.syntax.specs.declared.layout.Bracket.TheVariants.{Round, Square, Curly}
-use Rattle.syntax.specs.Tokens.{Token, name, number, string, word, mark}
+use Rattle.lexer.specs.declared.token.Word.TheVariants.{And, Else, For, If, In, Not, Or}
+use Rattle.lexer.specs.declared.token.Mark.{Mark}
+use Rattle.lexer.specs.declared.token.Mark.TheVariants.{OpenParen, CloseParen, OpenBracket, CloseBracket, OpenBrace, CloseBrace, Comma, Colon, Dot, Assign, Equal, NotEqual, Less, Greater, LessEqual, GreaterEqual, Plus, Minus, Star, FloorDivide, Percent}
+use Rattle.lexer.specs.declared.layout.Bracket.{Bracket}
+use Rattle.lexer.specs.declared.layout.Bracket.TheVariants.{Round, Square, Curly}
+use Rattle.lexer.specs.Tokens.{Token, name, number, string, word, mark}
 use Rattle.syntax.specs.Tree.{Operator, either, both, equal, not_equal, less, greater, less_equal, greater_equal, within, not_within, add, subtract, multiply, divide, remainder, Sign, negation, opposite, Expr, identifier, integer, text, display, comprehension, conditional, operation, signed, field, index, call, Member, plain, keyword, entry, Members, no_members, last_member, next_member, Clauses, no_clauses, for_clause, if_clause}
 use Rattle.syntax.specs.Levels.{IsTree}
 

@@ -1,8 +1,8 @@
 -- The forms of a logical line.
 use Rattle.std.specs.Prelude.{◌≡◌, ℕ, Bool, true, false, List, [], ◌∷◌}
-use Rattle.syntax.specs.declared.token.Word.TheVariants.{Break, Continue, Def, Elif, Else, For, If, In, Load, Pass, Return}
-use Rattle.syntax.specs.declared.token.Mark.TheVariants.{OpenParen, CloseParen, Comma, Colon, Assign, AddAssign}
-use Rattle.syntax.specs.Tokens.{Token, name, string, word, mark}
+use Rattle.lexer.specs.declared.token.Word.TheVariants.{Break, Continue, Def, Elif, Else, For, If, In, Load, Pass, Return}
+use Rattle.lexer.specs.declared.token.Mark.TheVariants.{OpenParen, CloseParen, Comma, Colon, Assign, AddAssign}
+use Rattle.lexer.specs.Tokens.{Token, name, string, word, mark}
 use Rattle.syntax.specs.Tree.{Expr, index}
 use Rattle.syntax.specs.Levels.{IsTree}
 use Rattle.syntax.specs.Spelling.{spelled, names_spelled}

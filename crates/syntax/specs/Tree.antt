@@ -1,6 +1,6 @@
 -- The trees of expressions, as they are written: brackets and commas at the end can still be told from them.
 use Rattle.std.specs.Prelude.{ℕ, List}
-use Rattle.syntax.specs.declared.layout.Bracket.{Bracket}
+use Rattle.lexer.specs.declared.layout.Bracket.{Bracket}
 
 -- the operators between two parts (Starlark specification, "Binary operators")
 pub data Operator : Type 0 where

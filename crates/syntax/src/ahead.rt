@@ -7,13 +7,11 @@ ghost use Rattle.syntax.specs.Front.{behind_comma, behind_colon, behind_else, be
 ghost use Rattle.syntax.specs.FormDescent.{opening_at, behind_assign, behind_add, behind_open};
 ghost use Rattle.syntax.specs.FormReading.{names_to};
 ghost use Rattle.syntax.specs.TreeView.{operator_seen};
-ghost use Rattle.syntax.specs.Strings.{unescaped};
+ghost use Rattle.lexer.specs.Strings.{unescaped};
 ghost use Rattle.std.specs.Str.{IsAscii};
 
-use crate::layout::Bracket;
-use crate::lines::Lines;
-use crate::token::{Kind, Mark, Token, Word};
 use crate::tree::Operator;
+use lexer::{Bracket, Kind, Lines, Mark, Token, Word};
 use plain::Text;
 use std::alloc::{AllocError, AllocFailed, Global};
 use std::marker::Model;
@@ -152,7 +150,7 @@ pub(crate) struct Ahead<'l> {
 
 impl<'l> Model for Ahead<'l> {
     ghost use Rattle.std.specs.Prelude.{List};
-    ghost use Rattle.syntax.specs.Tokens.{Token};
+    ghost use Rattle.lexer.specs.Tokens.{Token};
     ghost use Rattle.syntax.specs.Ahead.{tokens_seen};
 
     ghost Value = { List Token };

@@ -8,16 +8,15 @@ ghost use Rattle.std.specs.Prelude.{◌≡◌, Some};
 ghost use Rattle.syntax.specs.Ahead.{Reads, bracket_at};
 ghost use Rattle.syntax.specs.Front.{behind_close, behind_comma};
 ghost use Rattle.syntax.specs.Reading.{then_read};
-ghost use Rattle.syntax.specs.declared.layout.Bracket.TheVariants.{Square, Curly};
+ghost use Rattle.lexer.specs.declared.layout.Bracket.TheVariants.{Square, Curly};
 ghost use Rattle.syntax.specs.Descent as spec;
 ghost use Rattle.syntax.specs.Descended.{Nests, part_seen, pair_seen, several_seen, pairs_seen, arguments_seen, conditions_seen};
 
 use crate::ahead::{Ahead, Head, Stop, Suffix};
-use crate::layout::Bracket;
 use crate::parts;
 use crate::parts::{Arguments, Conditions, Pairs, Part, Several};
-use crate::strings::unescape;
 use crate::tree::Sign;
+use lexer::{Bracket, unescape};
 use plain::Text;
 use std::alloc::Global;
 

@@ -1,7 +1,7 @@
 //! Laws of the trees of files, and of their faults.
 
 ghost use Rattle.std.specs.Prelude.{◌≡◌, ◌≤◌, ◌↔◌, ◌∷◌, ℕ, List, [], map, Ok, Err};
-ghost use Rattle.syntax.specs.Tokens.{Placed};
+ghost use Rattle.lexer.specs.Tokens.{Placed};
 ghost use Rattle.syntax.specs.Places.{Place};
 ghost use Rattle.syntax.specs.Blocks.{Block, Laid, SpellsFile, laid};
 ghost use Rattle.syntax.specs.BlockReading.{file_reads};
@@ -16,8 +16,7 @@ ghost use Rattle.syntax.specs.Files.{IsFile, syntax};
 ghost use Rattle.syntax.specs.FirstFault.{IsFault};
 ghost use Rattle.syntax.specs.Outlines.{outline_of, pass, place_of, top_level};
 
-use crate::fault::SyntaxFault;
-use crate::forms::FileKind;
+use lexer::{FileKind, SyntaxFault};
 
 /// What is read of the logical lines of a file is its tree, and what has a tree is read.
 pub fn files_are_read()

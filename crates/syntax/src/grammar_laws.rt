@@ -1,13 +1,13 @@
 //! Laws of the grammar.
 
 ghost use Rattle.std.specs.Prelude.{◌≡◌, List, Some};
-ghost use Rattle.syntax.specs.Tokens.{Token};
+ghost use Rattle.lexer.specs.Tokens.{Token};
 ghost use Rattle.syntax.specs.Tree.{Expr};
 ghost use Rattle.syntax.specs.Spelling.{Spells};
 ghost use Rattle.syntax.specs.Reading.{reads};
 ghost use Rattle.syntax.specs.Statements.{Form, SpellsForm};
 ghost use Rattle.syntax.specs.FormReading.{form_reads};
-ghost use Rattle.syntax.specs.Tokens.{Placed};
+ghost use Rattle.lexer.specs.Tokens.{Placed};
 ghost use Rattle.syntax.specs.Places.{Place};
 ghost use Rattle.syntax.specs.Blocks.{Block, SpellsFile};
 

@@ -2,12 +2,12 @@
 
 ghost use Rattle.std.specs.Prelude.{◌≡◌, ◌+◌, ◌∷◌, ◌<◌, ℕ, List, [], length, drop, slice_get, IfOk, Ok, Err, Option};
 ghost use Rattle.syntax.specs.Outlines.{is_top, is_module, is_function, shape_stands, within, formed_stands, follows, takes_else, early_enough, still_early, opens, fits, behind, inside, top_level, down_to, block_column, opened, stepped, pass, first_of};
-ghost use Rattle.syntax.specs.Stops.{FaultsAt};
+ghost use Rattle.lexer.specs.Stops.{FaultsAt};
 ghost use Rattle.syntax.specs.declared.outline.Open.{Open};
-ghost use Rattle.syntax.specs.declared.fault.FaultKind.TheVariants as FaultKind;
+ghost use Rattle.lexer.specs.declared.fault.FaultKind.TheVariants as FaultKind;
 
-use crate::fault::{FaultKind, ParseStop, SyntaxFault};
-use crate::stack::Stack;
+use lexer::{FaultKind, ParseStop, SyntaxFault};
+use plain::Stack;
 use std::alloc::Global;
 
 /// Where a line may stand: at the top level of a module or of a `BUILD` file, in a function, and there in a loop.

@@ -4,17 +4,15 @@ ghost use Rattle.std.specs.Prelude.{◌≡◌, ◌<◌, length, List, slice_get,
 ghost use Rattle.std.specs.Option.{option_map};
 ghost use Rattle.syntax.specs.Ahead.{tokens_seen};
 ghost use Rattle.syntax.specs.Descent.{reads_all};
-ghost use Rattle.syntax.specs.Form.{line_tokens};
+ghost use Rattle.lexer.specs.Form.{line_tokens};
 ghost use Rattle.syntax.specs.LineExpression.{IsExpression};
-ghost use Rattle.syntax.specs.Tokens.{Placed};
+ghost use Rattle.lexer.specs.Tokens.{Placed};
 ghost use Rattle.syntax.specs.TreeView.{tree_of};
 
 use crate::ahead::{Ahead, Stop};
 use crate::expressions::{Row, expression};
-use crate::forms::NoMemory;
-use crate::lines::Lines;
-use crate::token::Token;
 use crate::tree::Expr;
+use lexer::{Lines, NoMemory, Token};
 use std::alloc::Global;
 
 /// How deep an expression may be. A name or a literal is 1 deep, each other form one more than the deepest of its

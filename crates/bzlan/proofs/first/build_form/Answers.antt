@@ -1,5 +1,5 @@
 use Rattle.std.proofs.Common.{refl}
-use Rattle.syntax.specs.declared.forms.FirstForm.TheVariants as found
+use Rattle.lexer.specs.declared.forms.FirstForm.TheVariants as found
 use Rattle.bzlan.proofs.first.build_form.Goals as goal
 
 pub returns-in-None-clause-none : goal.returns-in-None-clause-none

@@ -1,6 +1,6 @@
 use Rattle.std.proofs.Common.{◌≡◌, ◌+◌, drop, sym, ap, ◌∙◌, Err}
 use Rattle.std.proofs.lemmas.List.{drop_all}
-use Rattle.syntax.specs.declared.fault.ParseStop.TheVariants.{Fault}
+use Rattle.lexer.specs.declared.fault.ParseStop.TheVariants.{Fault}
 use Rattle.syntax.specs.Outlines.{pass}
 use Rattle.syntax.proofs.OutlineLemmas.{refused_there, goes_on_there, at_the_end}
 use Rattle.syntax.proofs.outline.lines_stand.Goals as goal

@@ -1,12 +1,9 @@
-use Rattle.std.proofs.Common.{map, sym, ap, ◌∙◌, subst, Some}
+use Rattle.std.proofs.Common.{sym, ap, ◌∙◌, subst}
 use Rattle.std.proofs.lemmas.Result.{IfOk-weaker}
 use Rattle.std.specs.Option.{option_map}
-use Rattle.std.specs.Prelude.{get_or, []}
 use Rattle.syntax.specs.Ahead.{tokens_seen}
-use Rattle.syntax.specs.Descent.{reads_all}
-use Rattle.syntax.specs.Form.{line_tokens}
+use Rattle.lexer.specs.Form.{line_tokens}
 use Rattle.syntax.specs.LineExpression.{IsExpression}
-use Rattle.syntax.specs.Seen.{seen}
 use Rattle.syntax.specs.TreeView.{tree_of}
 use Rattle.syntax.proofs.LineTokens.{without_places}
 use Rattle.syntax.proofs.WholeLines.{is_expression, some_same}

@@ -2,7 +2,7 @@ use Rattle.std.proofs.Common.{rules, arith}
 use Rattle.std.proofs.lemmas.Grind.{common_steps}
 use Rattle.syntax.specs.Descent.{read, argument, gather, with_argument}
 use Rattle.syntax.specs.Descended.{arguments_seen}
-use Rattle.syntax.specs.declared.layout.Bracket.TheVariants.{Round}
+use Rattle.lexer.specs.declared.layout.Bracket.TheVariants.{Round}
 use Rattle.syntax.proofs.Turns.{one_more}
 use Rattle.syntax.proofs.expressions.Reader.arguments.Goals as goal
 

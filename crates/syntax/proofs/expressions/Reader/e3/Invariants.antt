@@ -1,9 +1,7 @@
 use Rattle.std.proofs.Common.{◌≡◌, ◌-◌}
 use Rattle.syntax.specs.Descent.{read, e3, e4, chain}
-use Rattle.syntax.specs.Descended.{part_seen, several_seen, pairs_seen, arguments_seen, conditions_seen}
-use Rattle.syntax.specs.declared.layout.Bracket.TheVariants.{Round, Curly}
-use Rattle.syntax.specs.declared.expressions.Row.TheVariants.{Whole}
-use Rattle.syntax.specs.Ahead.{or_at, and_at, sum_at, product_at}
+use Rattle.syntax.specs.Descended.{part_seen}
+use Rattle.syntax.specs.Ahead.{and_at}
 use Rattle.syntax.proofs.expressions.Reader.e3.Given as goal
 
 abbrev pub invariant-loop-turn : goal.invariant-loop-turn

@@ -2,7 +2,7 @@ use Rattle.std.proofs.Common.{rules, arith}
 use Rattle.std.proofs.lemmas.Grind.{common_steps}
 use Rattle.syntax.specs.Descent.{read, pair, gather, with_pair}
 use Rattle.syntax.specs.Descended.{pairs_seen}
-use Rattle.syntax.specs.declared.layout.Bracket.TheVariants.{Curly}
+use Rattle.lexer.specs.declared.layout.Bracket.TheVariants.{Curly}
 use Rattle.syntax.proofs.Turns.{one_more}
 use Rattle.syntax.proofs.expressions.Reader.pairs.Goals as goal
 

@@ -1,0 +1,93 @@
+-- What begins at a byte of a file: the longest token that fits, or what separates tokens.
+use Rattle.std.specs.Prelude.{ℕ, ◌+◌, ◌-◌, ◌*◌, Bool, false, ◌&&◌, ◌||◌, ◌==◌, nat_le, nat_lt, not, List, [], ◌∷◌, length, take, drop, take_while, fold, Option, Some, None, if◌then◌else◌}
+use Rattle.lexer.specs.Characters.{newline}
+use Rattle.lexer.specs.Tokens.{Token, number, string, mark}
+use Rattle.lexer.specs.Words.{word_or_name}
+use Rattle.lexer.specs.declared.token.Mark.{Mark}
+use Rattle.lexer.specs.Marks.{pair_mark, punctuation, operator}
+use Rattle.lexer.specs.Strings.{is_quote, body_length, unescaped}
+
+-- what begins at a byte; a count is that of the further bytes that belong to it
+pub data Begins : Type 0 where
+  space : Begins
+  line_end : Begins
+  comment : ℕ → Begins
+  token : Token → ℕ → Begins
+  nothing : Begins
+
+abbrev pub is_digit : ℕ → Bool
+is_digit b = nat_le 48 b && nat_le b 57
+
+-- a letter or `_`
+abbrev pub is_letter : ℕ → Bool
+is_letter b = (nat_le 97 b && nat_le b 122) || (nat_le 65 b && nat_le b 90) || b == 95
+
+abbrev pub is_word_byte : ℕ → Bool
+is_word_byte b = is_letter b || is_digit b
+
+-- how many bytes from the front on pass
+abbrev pub run_length : (ℕ → Bool) → List ℕ → ℕ
+run_length p bs = length (take_while p bs)
+
+-- a name or a word: a letter or `_`, then letters, digits and `_`
+abbrev pub name_at : ℕ → List ℕ → Begins
+name_at b bs = token (word_or_name (b ∷ take (run_length is_word_byte bs) bs)) (run_length is_word_byte bs)
+
+-- the greatest number that can be written, 2^63 - 1 (own choice: Starlark's numbers have no limit)
+abbrev pub greatest_number : ℕ
+greatest_number = 9223372036854775807
+
+-- the number that digits spell, after the value of those before
+abbrev pub value_after : ℕ → List ℕ → ℕ
+value_after value digits = fold (λ v d. v * 10 + (d - 48)) value digits
+
+-- the further digits of a number: `0` stands alone
+abbrev pub digits_after : ℕ → List ℕ → ℕ
+digits_after b bs = if b == 48 then 0 else run_length is_digit bs
+
+-- whether bytes go on with a letter, a digit or `_`
+abbrev pub goes_on : List ℕ → Bool
+goes_on [] = false
+goes_on (b ∷ bs) = is_word_byte b
+
+-- a number: `0`, or a digit 1 to 9 and more digits, not followed directly by a letter, digit or `_`
+abbrev pub number_at : ℕ → List ℕ → Begins
+number_at b bs =
+    let more = digits_after b bs in
+    let value = value_after 0 (b ∷ take more bs) in
+    if goes_on (drop more bs) || nat_lt greatest_number value then nothing else token (number value) more
+
+abbrev pub string_of : List ℕ → Option ℕ → Begins
+string_of bs None = nothing
+string_of bs (Some n) = token (string (unescaped (take n bs))) (n + 1)
+
+abbrev pub string_at : ℕ → List ℕ → Begins
+string_at quote bs = string_of bs (body_length quote false bs)
+
+-- the mark of two bytes, where one fits
+abbrev pub pair_at : ℕ → List ℕ → Option Mark
+pair_at b [] = None
+pair_at b (c ∷ bs) = pair_mark b c
+
+abbrev pub mark_at : ℕ → List ℕ → Begins
+mark_at b bs = elim (pair_at b bs) [
+  | Some m ↦ token (mark m) 1
+  | None ↦ elim (punctuation b) [
+    | Some m ↦ token (mark m) 0
+    | None ↦ elim (operator b) [
+      | Some m ↦ token (mark m) 0
+      | None ↦ nothing
+    ]
+  ]
+]
+
+-- what begins at byte `b`, before the bytes `bs`
+unfoldable pub begins : ℕ → List ℕ → Begins
+begins b bs =
+    if b == 32 then space else
+    if b == newline then line_end else
+    if b == 35 then comment (run_length (λ c. not (c == newline)) bs) else
+    if is_quote b then string_at b bs else
+    if is_digit b then number_at b bs else
+    if is_letter b then name_at b bs else
+    mark_at b bs

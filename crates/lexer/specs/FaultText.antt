@@ -1,0 +1,22 @@
+-- How a fault is printed.
+use Rattle.std.specs.Prelude.{ℕ, List, ◌++◌, codes, decimal}
+use Rattle.lexer.specs.declared.fault.FaultKind.{FaultKind}
+use Rattle.lexer.specs.declared.fault.FaultKind.TheVariants.{Character, Token, Indent, Statement, Scope}
+use Rattle.lexer.specs.declared.fault.SyntaxFault.{SyntaxFault}
+use Rattle.lexer.specs.declared.fault.ParseStop.{ParseStop}
+use Rattle.lexer.specs.declared.fault.ParseStop.TheVariants.{Fault, NoMemory}
+
+-- the pass, as the report names it
+abbrev pub kind_text : FaultKind → List ℕ
+kind_text Character = codes "character"
+kind_text Token = codes "token"
+kind_text Indent = codes "indent"
+kind_text Statement = codes "statement"
+kind_text Scope = codes "scope"
+
+abbrev pub fault_text : SyntaxFault → List ℕ
+fault_text f = codes "syntax " ++ kind_text f.kind ++ codes " at line " ++ decimal f.line
+
+abbrev pub stop_text : ParseStop → List ℕ
+stop_text (Fault f) = fault_text f
+stop_text NoMemory = codes "no memory"

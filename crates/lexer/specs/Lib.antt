@@ -1,0 +1,17 @@
+pub mod Characters
+pub mod Tokens
+pub mod Words
+pub mod Marks
+pub mod Strings
+pub mod Begins
+pub mod Scan
+pub mod Stops
+pub mod Seen
+pub mod Cursor
+pub mod FaultText
+pub mod Layout
+pub mod Lines
+pub mod Fits
+pub mod Parts
+pub mod LaidOut
+pub mod Form

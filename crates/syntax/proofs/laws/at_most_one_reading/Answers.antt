@@ -1,5 +1,0 @@
-use Rattle.syntax.proofs.ReadingLaws.{same_reading}
-use Rattle.syntax.proofs.laws.at_most_one_reading.Goals as goal
-
-pub returns : goal.returns
-returns c = same_reading

@@ -1,9 +1,0 @@
-use Rattle.std.proofs.Common.{map, arith}
-use Rattle.syntax.specs.Seen.{seen}
-use Rattle.syntax.proofs.LineLemmas.{same_length}
-use Rattle.syntax.proofs.lines.Lines.len.Goals as goal
-
-pub returns : goal.returns
-returns c =
-    let a = c.self.inside in
-    omega (arith, a.starts.ok, same_length a.starts.items (map (seen a.text.now) a.tokens.items) c.args.self.now a.text.now c.self.view_is)
