@@ -1,5 +1,5 @@
 //! One use of each call with ample memory, and that texts cross threads.
-use crate::Text;
+use crate::{Stack, Text};
 use std::alloc::Global;
 use std::cmp::Ordering;
 use std::collections::HashSet;
@@ -44,5 +44,19 @@ fn equal_texts_are_one_in_a_set(rt: HostRuntime) -> Result<(), Fail> {
     seen.insert(Text::new(alloc, "x")?)?;
     assert!(rt; seen.contains(&Text::new(alloc, "x")?));
     assert!(rt; !seen.contains(&Text::new(alloc, "y")?));
+    Ok(())
+}
+
+#[test]
+fn stacks_give_back_from_the_top(rt: HostRuntime) -> Result<(), Fail> {
+    let mut stack = Stack::new(rt.alloc());
+    assert!(rt; stack.pop().is_none());
+    stack.push(1_usize)?;
+    stack.push(2)?;
+    assert!(rt; stack.len() == 2);
+    assert!(rt; stack.top() == Some(2));
+    assert!(rt; stack.pop() == Some(2));
+    assert!(rt; stack.pop() == Some(1));
+    assert!(rt; stack.top().is_none());
     Ok(())
 }
