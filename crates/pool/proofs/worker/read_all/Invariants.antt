@@ -1,0 +1,13 @@
+use Rattle.std.proofs.Common.{◌≡◌, ℕ, ◌<◌, length, map, Some, slice_index, slice_index_or}
+use Rattle.board.specs.Views.{IsPassOf, Keeps, knows}
+use Rattle.pool.proofs.worker.read_all.Given as goal
+
+abbrev pub invariant-loop-i : goal.invariant-loop-i
+invariant-loop-i g l = record {
+  of : IsPassOf l.board l.pass;
+  keeps : Keeps (knows l.fn.pass) (knows l.pass);
+  fresh : knows l.pass l.n ≡ knows l.fn.pass l.n;
+  stays : l.pass.journal ≡ record l.fn.pass.journal { seen = l.pass.journal.seen; saw = l.pass.journal.saw };
+  len : length l.values.items ≡ l.i;
+  each : (k : ℕ) (u : _) → k < l.i → knows l.pass (slice_index l.list k) ≡ Some (slice_index_or (map (λ r. r.now) l.values.items) k u);
+}

@@ -1,0 +1,5 @@
+pub mod Graph
+pub mod Outcomes
+pub mod Settled
+pub mod Ends
+pub mod Examples

@@ -1,0 +1,26 @@
+//! What the work on one node is.
+ghost use Rattle.std.specs.Prelude.{◌≡◌, ◌<◌, ℕ, List, map, IfOk};
+
+use crate::node::NodeId;
+use board::NoMemory;
+use std::alloc::Global;
+
+/// How the outcome of a node comes from the outcomes of its dependencies.
+///
+/// An implementation says in ghost members how many nodes there are, `nodes`; what the outcome is,
+/// `step`, a function of the node and of its dependencies' outcomes, in their order; and of which
+/// outcomes this is promised, `fits`. A call is safe for all outcomes.
+pub trait Analyse<V>: Sync {
+    ghost nodes: { Self → ℕ };
+
+    ghost step: { Self → ℕ → List V → V };
+
+    ghost fits: { Self → ℕ → List V → Type 0 };
+
+    /// The outcome of the node, where `values` are the outcomes of its dependencies, in their order.
+    ///
+    /// `NoMemory` comes where the allocator refuses memory.
+    fn analyse_one(&self, alloc: Global, n: NodeId, values: &[&V]) -> Result<V, NoMemory>
+        requires node { n < nodes self.now }
+        ensures step { IfOk result (λ v. fits self.now n (map (λ r. r.now) values.now) → v ≡ step self.now n (map (λ r. r.now) values.now)) };
+}

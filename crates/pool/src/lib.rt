@@ -1,0 +1,29 @@
+//! Workers that find the outcome of every node of a graph, each node after its dependencies.
+//!
+//! [`run`] starts up to 64 workers in threads of their own. They take the numbers of nodes from a
+//! [`Shelf`], and do what [`Analyse`] says on each, over a board that all of them share. Whenever it
+//! answers `Ok`, each node has the outcome that the plain recursion along edges gives, whichever
+//! worker ran which node and in whatever order.
+#![tactic(auto)]
+
+mod analyse;
+mod gate;
+mod gathered;
+mod graph;
+mod node;
+mod running;
+mod shelf;
+#[cfg(test)]
+mod tests;
+mod threads;
+mod worker;
+
+pub use analyse::Analyse;
+pub use board::NoMemory;
+pub use gate::{Gate, NoGate};
+pub use gathered::Gathered;
+pub use graph::Graph;
+pub use node::NodeId;
+pub use running::{run, run_on};
+pub use shelf::{LockShelf, Shelf};
+pub use threads::Refused;

@@ -1,0 +1,156 @@
+//! A run: the board of a graph, the first nodes on the shelf, the workers, and what they found.
+ghost use Rattle.std.specs.Prelude.{◌≡◌, ◌+◌, ◌<◌, ℕ, Some, length, IfOk, vec_len};
+ghost use Rattle.std.specs.List.{All};
+ghost use Rattle.board.specs.Views.{IsNew, told};
+ghost use Rattle.pool.specs.Outcomes.{AreOutcomes};
+ghost use Rattle.pool.specs.Settled.{Settled};
+ghost use Rattle.pool.specs.Ends.{IsGathering};
+
+use crate::analyse::Analyse;
+use crate::gate::Gate;
+use crate::gathered::Gathered;
+use crate::graph::Graph;
+use crate::node::NodeId;
+use crate::shelf::{LockShelf, Shelf};
+use crate::threads::{Refused, in_threads};
+use crate::worker::Site;
+use board::{Board, NoMemory, Pass};
+use std::alloc::Global;
+use std::sync::Wait;
+use std::thread::Threads;
+
+/// The outcome of every node of the graph, by so many workers, from 1 to 64, at one locked queue.
+///
+/// Whenever it answers `Ok`, the outcomes are those along edges: whatever the number of workers,
+/// whichever of them ran which node, and whatever the gate does. `NoMemory` comes where the
+/// allocator refuses memory, also to a worker; `NoThread` where a thread was refused and memory
+/// wasn't. In either case all workers are joined, and nothing is kept.
+pub fn run<V, A, G, R>(
+    rt: &R,
+    alloc: Global,
+    graph: &Graph,
+    analyse: &A,
+    workers: usize,
+    gate: &G,
+) -> Result<Gathered<V>, Refused>
+where
+    V: Send + Sync + Drop,
+    A: Analyse<V>,
+    G: Gate,
+    R: Threads + Wait + Sync,
+    requires workers { (0 < workers) × (workers < 65) }
+    requires nodes { A.nodes analyse.now ≡ length graph.now.plan }
+    ensures nodes { IfOk result (λ g. length g.known ≡ length graph.now.plan) }
+    ensures outcomes { IfOk result (λ g. (out : ℕ → V) → AreOutcomes (A.step analyse.now) (A.fits analyse.now) graph.now.plan out → (n : ℕ) → n < length graph.now.plan → told g n ≡ Some (out n)) }
+{
+    match LockShelf::ends(rt, alloc, workers, graph.nodes()) {
+        Ok(ends) => run_on(rt, alloc, graph, analyse, ends, gate),
+        Err(_) => Err(Refused::NoMemory),
+    }
+}
+
+/// The outcome of every node of the graph, by one worker for each of these ends of a shelf.
+///
+/// It promises what [`run`] does, for every shelf and 1 to 64 ends of it.
+pub fn run_on<V, A, S, G, R>(
+    rt: &R,
+    alloc: Global,
+    graph: &Graph,
+    analyse: &A,
+    mut ends: Vec<S>,
+    gate: &G,
+) -> Result<Gathered<V>, Refused>
+where
+    V: Send + Sync + Drop,
+    A: Analyse<V>,
+    S: Shelf + Send,
+    G: Gate,
+    R: Threads + Wait + Sync,
+    requires workers { (0 < vec_len ends) × (vec_len ends < 65) }
+    requires shelves { All (λ e. S.nodes e ≡ length graph.now.plan) ends.items }
+    requires nodes { A.nodes analyse.now ≡ length graph.now.plan }
+    ensures nodes { IfOk result (λ g. length g.known ≡ length graph.now.plan) }
+    ensures outcomes { IfOk result (λ g. (out : ℕ → V) → AreOutcomes (A.step analyse.now) (A.fits analyse.now) graph.now.plan out → (n : ℕ) → n < length graph.now.plan → told g n ≡ Some (out n)) }
+{
+    let workers = ends.len();
+    let Ok(()) = spread(graph, &mut ends) else {
+        return Err(Refused::NoMemory);
+    };
+    let Ok((board, passes)) = Board::new(alloc, graph.plan(), workers + 1) else {
+        return Err(Refused::NoMemory);
+    };
+    let passes = by_workers(rt, alloc, &board, graph, analyse, gate, ends, passes)?;
+    Ok(gather(board, graph, analyse, passes))
+}
+
+/// Puts the nodes that depend on none over the ends in turn.
+fn spread<S: Shelf>(graph: &Graph, ends: &mut Vec<S>) -> Result<(), NoMemory>
+    requires some { 0 < vec_len ends.old }
+    requires shelves { All (λ e. S.nodes e ≡ length graph.now.plan) ends.old.items }
+    ensures size { vec_len ends.new ≡ vec_len ends.old }
+    ensures shelves { All (λ e. S.nodes e ≡ length graph.now.plan) ends.new.items }
+{
+    let mut next = 0;
+    for n in 0..graph.nodes() {
+        if graph.deps(n).is_empty() {
+            ends[next].put(NodeId::of(n))?;
+            next = if next + 1 < ends.len() { next + 1 } else { 0 };
+        }
+    }
+    Ok(())
+}
+
+/// All passes of the board, after workers at these ends have ended. The last pass is run's own.
+fn by_workers<V, A, S, G, R>(
+    rt: &R,
+    alloc: Global,
+    board: &Board<V>,
+    graph: &Graph,
+    analyse: &A,
+    gate: &G,
+    ends: Vec<S>,
+    mut passes: Vec<Pass<V>>,
+) -> Result<Vec<Pass<V>>, Refused>
+where
+    V: Send + Sync + Drop,
+    A: Analyse<V>,
+    S: Shelf + Send,
+    G: Gate,
+    R: Threads + Wait + Sync,
+    requires graph { graph.now.plan ≡ board.now.plan }
+    requires nodes { A.nodes analyse.now ≡ length board.now.plan }
+    requires shelves { All (λ e. S.nodes e ≡ length board.now.plan) ends.items }
+    requires count { (0 < vec_len ends) × (vec_len ends < 65) × (vec_len ends + 1 ≡ vec_len passes) × (vec_len passes ≡ board.now.passes) }
+    requires passes { All (IsNew board.now) passes.items }
+    ensures { IfOk result (λ v. IsGathering (A.step analyse.now) (A.fits analyse.now) board.now v.items) }
+{
+    let Some(own) = passes.pop() else {
+        unreachable!()
+    };
+    let site = Site {
+        rt,
+        alloc,
+        board,
+        graph,
+        analyse,
+        gate,
+    };
+    in_threads(&site, ends, passes, own)
+}
+
+/// What all passes found, together.
+fn gather<V, A: Analyse<V>>(
+    board: Board<V>,
+    graph: &Graph,
+    analyse: &A,
+    passes: Vec<Pass<V>>,
+) -> Gathered<V>
+    requires graph { graph.now.plan ≡ board.plan }
+    requires all { IsGathering (A.step analyse.now) (A.fits analyse.now) board passes.items }
+    ensures nodes { length result.known ≡ length graph.now.plan }
+    ensures settled { (n : ℕ) → n < length graph.now.plan → Settled (A.step analyse.now) (A.fits analyse.now) graph.now.plan (told result) n }
+{
+    let _analyse = analyse;
+    let _graph = graph;
+    Gathered::of(board.close(passes))
+}

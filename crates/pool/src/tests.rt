@@ -1,0 +1,7 @@
+//! Workers at small graphs.
+mod analysers;
+mod gates;
+mod graphs;
+mod pair;
+mod runs;
+mod shelves;

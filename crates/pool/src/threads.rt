@@ -1,0 +1,231 @@
+//! Workers in threads of their own, one an end, and their passes back from them.
+ghost use Rattle.std.specs.Prelude.{◌≡◌, ◌+◌, ◌<◌, ◌≤◌, true, length, MatchBool, IfOk, IfSome, vec_len, vec_capacity};
+ghost use Rattle.std.specs.Bool.{OnTrue};
+ghost use Rattle.std.specs.List.{All};
+ghost use Rattle.board.specs.declared.journal.Journal.{Journal};
+ghost use Rattle.board.specs.Views.{IsPassOf, IsNew};
+ghost use Rattle.pool.specs.Settled.{IsSound};
+ghost use Rattle.pool.specs.Ends.{EndingSays, EndedWell, IsFine, IsGathering};
+
+use crate::analyse::Analyse;
+use crate::gate::Gate;
+use crate::shelf::Shelf;
+use crate::worker::{Ending, Site, run_worker};
+use board::{Board, Pass};
+use std::sync::Wait;
+use std::thread;
+use std::thread::{Promise, PromisedHandle, Scope, Threads};
+
+/// Why a run has no answer.
+#[derive(Clone, Copy, Debug, PartialEq, Eq)]
+pub enum Refused {
+    /// The allocator refused memory, to a worker or for what they share.
+    NoMemory,
+    /// A thread was refused, and nobody was refused memory.
+    NoThread,
+}
+
+/// What a worker's thread promises: its pass is of the board, each node that it finished has the
+/// step of what the pass knows of the node's dependencies, and the pass says how the worker ended.
+#[derive(Drop)]
+pub struct Duty<'s, V, A> {
+    board: &'s Board<V>,
+    analyse: &'s A,
+}
+
+impl<'s, V, A: Analyse<V>> Promise<(Pass<V>, Ending)> for Duty<'s, V, A> {
+    ghost kept_by = { λ p r. IsSound (A.step p.analyse.now) (A.fits p.analyse.now) p.board.now r.0 × EndingSays r.1 r.0.journal };
+}
+
+/// A worker at work.
+type Handle<'s, V, A> = PromisedHandle<(Pass<V>, Ending), Duty<'s, V, A>>;
+
+/// Starts one worker. `None` where a thread was refused.
+fn start_one<'s, E, V, A, S, G, R>(
+    scope: &Scope<'s, E>,
+    site: &'s Site<'s, V, A, G, R>,
+    end: S,
+    pass: Pass<V>,
+) -> Option<Handle<'s, V, A>>
+where
+    V: Send + Sync + Drop + 's,
+    A: Analyse<V>,
+    S: Shelf + Send + 's,
+    G: Gate,
+    R: Threads + Wait + Sync,
+    requires site { (site.now.graph.now.plan ≡ site.now.board.now.plan) × (A.nodes site.now.analyse.now ≡ length site.now.board.now.plan) }
+    requires shelf { S.nodes end ≡ length site.now.board.now.plan }
+    requires pass { IsNew site.now.board.now pass }
+    ensures { IfSome result (λ h. (h.promise.board.now ≡ site.entry.now.board.now) × (h.promise.analyse.now ≡ site.entry.now.analyse.now)) }
+{
+    let duty: Duty<'s, V, A> = Duty {
+        board: site.board,
+        analyse: site.analyse,
+    };
+    scope
+        .spawn_with(
+            duty,
+            move || -> (Pass<V>, Ending)
+                requires { (site.now.graph.now.plan ≡ site.now.board.now.plan) × (A.nodes site.now.analyse.now ≡ length site.now.board.now.plan) × (S.nodes end ≡ length site.now.board.now.plan) × IsNew site.now.board.now pass }
+                ensures { IsSound (A.step site.entry.now.analyse.now) (A.fits site.entry.now.analyse.now) site.entry.now.board.now result.0 × EndingSays result.1 result.0.journal }
+            { run_worker(site, end, pass) },
+        )
+        .ok()
+}
+
+/// Starts a worker for each pass. Where a thread is refused, it starts no more and sets the halt.
+/// True says that none was refused.
+fn start_all<'s, E, V, A, S, G, R>(
+    scope: &Scope<'s, E>,
+    site: &'s Site<'s, V, A, G, R>,
+    mut ends: Vec<S>,
+    passes: Vec<Pass<V>>,
+    own: &mut Pass<V>,
+    mut handles: Vec<Handle<'s, V, A>>,
+) -> (Vec<Handle<'s, V, A>>, bool)
+where
+    V: Send + Sync + Drop + 's,
+    A: Analyse<V>,
+    S: Shelf + Send + 's,
+    G: Gate,
+    R: Threads + Wait + Sync,
+    requires site { (site.now.graph.now.plan ≡ site.now.board.now.plan) × (A.nodes site.now.analyse.now ≡ length site.now.board.now.plan) }
+    requires shelves { All (λ e. S.nodes e ≡ length site.now.board.now.plan) ends.items }
+    requires count { vec_len ends ≡ vec_len passes }
+    requires passes { All (IsNew site.now.board.now) passes.items }
+    requires own { IsPassOf site.now.board.now own.old }
+    requires room { (vec_len handles ≡ 0) × (vec_len passes ≤ vec_capacity handles) }
+    ensures promises { All (λ h. (h.promise.board.now ≡ site.entry.now.board.now) × (h.promise.analyse.now ≡ site.entry.now.analyse.now)) result.0.items }
+    ensures all { MatchBool result.1 ((vec_len result.0 ≡ vec_len passes) × (own.new ≡ own.old)) (own.new.journal.set ≡ true) }
+    ensures most { vec_len result.0 ≤ vec_len passes }
+{
+    for pass in passes {
+        let Some(end) = ends.pop() else {
+            unreachable!()
+        };
+        match start_one::<E, V, A, S, G, R>(scope, site, end, pass) {
+            Some(handle) => handles.push_reserved(handle),
+            None => {
+                site.board.halt(own);
+                return (handles, false);
+            }
+        }
+    }
+    (handles, true)
+}
+
+/// Whether the worker was refused nothing.
+fn ended_well(ending: Ending) -> bool
+    ensures { (j : Journal) → EndingSays ending j → OnTrue result (EndedWell j) }
+{
+    match ending {
+        Ending::Done => true,
+        Ending::Halted => true,
+        Ending::NoMemory => false,
+    }
+}
+
+/// Joins all workers. True says that none of them was refused memory.
+fn join_all<'s, V, A, R>(
+    rt: &R,
+    board: &'s Board<V>,
+    analyse: &'s A,
+    handles: Vec<Handle<'s, V, A>>,
+    mut passes: Vec<Pass<V>>,
+) -> (Vec<Pass<V>>, bool)
+where
+    V: Send + Sync + Drop,
+    A: Analyse<V>,
+    R: Threads,
+    requires promises { All (λ h. (h.promise.board.now ≡ board.now) × (h.promise.analyse.now ≡ analyse.now)) handles.items }
+    requires room { (vec_len passes ≡ 0) × (vec_len handles < vec_capacity passes) }
+    ensures count { vec_len result.0 ≡ vec_len handles.entry }
+    ensures room { vec_len result.0 < vec_capacity result.0 }
+    ensures fine { OnTrue result.1 (All (IsFine (A.step analyse.entry.now) (A.fits analyse.entry.now) board.entry.now) result.0.items) }
+{
+    let _board = board;
+    let _analyse = analyse;
+    let mut well = true;
+    for handle in handles {
+        let (pass, ending) = handle.join(rt);
+        let fine = ended_well(ending);
+        well = well & fine;
+        passes.push_reserved(pass);
+    }
+    (passes, well)
+}
+
+/// All passes, after a worker for each but `own` has ended.
+///
+/// `NoMemory` comes where a worker was refused memory or there was none for the passes, `NoThread`
+/// where a thread was refused and none of this was. All workers that were started are joined.
+fn in_scope<'s, E, V, A, S, G, R>(
+    scope: &Scope<'s, E>,
+    site: &'s Site<'s, V, A, G, R>,
+    ends: Vec<S>,
+    passes: Vec<Pass<V>>,
+    mut own: Pass<V>,
+) -> Result<Vec<Pass<V>>, Refused>
+where
+    V: Send + Sync + Drop + 's,
+    A: Analyse<V>,
+    S: Shelf + Send + 's,
+    G: Gate,
+    R: Threads + Wait + Sync,
+    requires site { (site.now.graph.now.plan ≡ site.now.board.now.plan) × (A.nodes site.now.analyse.now ≡ length site.now.board.now.plan) }
+    requires shelves { All (λ e. S.nodes e ≡ length site.now.board.now.plan) ends.items }
+    requires count { (0 < vec_len ends) × (vec_len ends < 65) × (vec_len ends ≡ vec_len passes) × (vec_len passes + 1 ≡ site.now.board.now.passes) }
+    requires passes { All (IsNew site.now.board.now) passes.items }
+    requires own { IsNew site.now.board.now own }
+    ensures { IfOk result (λ v. IsGathering (A.step site.entry.now.analyse.now) (A.fits site.entry.now.analyse.now) site.entry.now.board.now v.items) }
+{
+    let workers = passes.len();
+    let Ok(handles) = Vec::with_capacity(site.alloc, workers) else {
+        return Err(Refused::NoMemory);
+    };
+    let Ok(back) = Vec::with_capacity(site.alloc, workers + 1) else {
+        return Err(Refused::NoMemory);
+    };
+    let (handles, all) = start_all::<E, V, A, S, G, R>(
+        scope, site, ends, passes, &mut own, handles,
+    );
+    let (mut back, well) = join_all::<V, A, R>(site.rt, site.board, site.analyse, handles, back);
+    if !well {
+        return Err(Refused::NoMemory);
+    }
+    if !all {
+        return Err(Refused::NoThread);
+    }
+    back.push_reserved(own);
+    Ok(back)
+}
+
+/// The same, in a scope of its own.
+pub fn in_threads<'x, V, A, S, G, R>(
+    site: &'x Site<'x, V, A, G, R>,
+    ends: Vec<S>,
+    passes: Vec<Pass<V>>,
+    own: Pass<V>,
+) -> Result<Vec<Pass<V>>, Refused>
+where
+    V: Send + Sync + Drop,
+    A: Analyse<V>,
+    S: Shelf + Send,
+    G: Gate,
+    R: Threads + Wait + Sync,
+    requires site { (site.now.graph.now.plan ≡ site.now.board.now.plan) × (A.nodes site.now.analyse.now ≡ length site.now.board.now.plan) }
+    requires shelves { All (λ e. S.nodes e ≡ length site.now.board.now.plan) ends.items }
+    requires count { (0 < vec_len ends) × (vec_len ends < 65) × (vec_len ends ≡ vec_len passes) × (vec_len passes + 1 ≡ site.now.board.now.passes) }
+    requires passes { All (IsNew site.now.board.now) passes.items }
+    requires own { IsNew site.now.board.now own }
+    ensures { IfOk result (λ v. IsGathering (A.step site.entry.now.analyse.now) (A.fits site.entry.now.analyse.now) site.entry.now.board.now v.items) }
+{
+    thread::scope(
+        thread::scope_env(),
+        site.rt,
+        |scope| -> Result<Vec<Pass<V>>, Refused>
+            requires { (site.now.graph.now.plan ≡ site.now.board.now.plan) × (A.nodes site.now.analyse.now ≡ length site.now.board.now.plan) × All (λ e. S.nodes e ≡ length site.now.board.now.plan) ends.items × (0 < vec_len ends) × (vec_len ends < 65) × (vec_len ends ≡ vec_len passes) × (vec_len passes + 1 ≡ site.now.board.now.passes) × All (IsNew site.now.board.now) passes.items × IsNew site.now.board.now own }
+            ensures { IfOk result (λ v. IsGathering (A.step site.entry.now.analyse.now) (A.fits site.entry.now.analyse.now) site.entry.now.board.now v.items) }
+        { in_scope(scope, site, ends, passes, own) },
+    )
+}

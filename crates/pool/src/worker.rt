@@ -1,0 +1,292 @@
+//! One worker: what it does with a node, and its turns until no node is left.
+ghost use Rattle.std.specs.Prelude.{◌≡◌, ◌≢◌, ◌<◌, ℕ, length, map, Some, None, true, false, IfOk, IfErr, IfSome, IfNone, OnOk};
+ghost use Rattle.board.specs.Journal.{times, edge_times, deps};
+ghost use Rattle.board.specs.Views.{IsPassOf, IsHeld, IsUnsent, Keeps, knows};
+ghost use Rattle.pool.specs.Settled.{Knows, Stepped, IsSound};
+ghost use Rattle.pool.specs.Ends.{StopSays, EndingSays};
+
+use crate::analyse::Analyse;
+use crate::gate::Gate;
+use crate::graph::Graph;
+use crate::node::NodeId;
+use crate::shelf::Shelf;
+use board::{Board, NoMemory, Pass, Published, Readiness};
+use std::alloc::Global;
+use std::sync::Wait;
+use std::thread;
+
+/// What all workers of a run share.
+#[derive(Drop)]
+pub struct Site<'s, V, A, G, R> {
+    pub rt: &'s R,
+    pub alloc: Global,
+    pub board: &'s Board<V>,
+    pub graph: &'s Graph,
+    pub analyse: &'s A,
+    pub gate: &'s G,
+}
+
+/// Why a worker gave up on a node.
+#[derive(Clone, Copy)]
+pub enum Stop {
+    /// It saw the halt while it waited for a dependency's value.
+    Halted,
+    /// It was refused memory.
+    NoMemory,
+}
+
+/// How a worker ended.
+#[derive(Clone, Copy)]
+pub enum Ending {
+    /// It saw that no node was left.
+    Done,
+    /// It saw the halt.
+    Halted,
+    /// It was refused memory, and set the halt.
+    NoMemory,
+}
+
+/// The value of a node that another worker may still be publishing; `None` where the halt was seen.
+fn wait_for<'b, V, R: Wait>(
+    rt: &R,
+    board: &'b Board<V>,
+    pass: &mut Pass<V>,
+    n: usize,
+) -> Option<&'b V>
+    requires pass { IsPassOf board.now pass.old }
+    requires node { n < length board.now.plan }
+    ensures of { IsPassOf board.entry.now pass.new }
+    ensures keeps { Keeps (knows pass.old) (knows pass.new) }
+    ensures others { (k : ℕ) → k ≢ n → knows pass.new k ≡ knows pass.old k }
+    ensures stays { pass.new.journal ≡ record pass.old.journal { seen = pass.new.journal.seen; saw = pass.new.journal.saw } }
+    ensures some { IfSome result (λ v. knows pass.new n ≡ Some v.now) }
+    ensures none { IfNone result (pass.new.journal.saw ≡ true) }
+{
+    for _ in rt.forever() {
+        if let Some(value) = board.read(pass, n) {
+            return Some(value);
+        }
+        if board.halted(pass) {
+            return None;
+        }
+        thread::yield_now();
+    }
+    unreachable!()
+}
+
+/// The values of the nodes on which `n` depends, in their order.
+fn read_all<'b, V, R: Wait>(
+    rt: &R,
+    alloc: Global,
+    board: &'b Board<V>,
+    pass: &mut Pass<V>,
+    list: &[usize],
+    n: usize,
+) -> Result<Vec<&'b V>, Stop>
+    requires pass { IsPassOf board.now pass.old }
+    requires inside { (d : ℕ) → 0 < times d list.now → d < length board.now.plan }
+    requires others { times n list.now ≡ 0 }
+    ensures of { IsPassOf board.entry.now pass.new }
+    ensures keeps { Keeps (knows pass.old) (knows pass.new) }
+    ensures fresh { knows pass.new n ≡ knows pass.old n }
+    ensures stays { pass.new.journal ≡ record pass.old.journal { seen = pass.new.journal.seen; saw = pass.new.journal.saw } }
+    ensures ok { IfOk result (λ vs. Knows (knows pass.new) list.now (map (λ r. r.now) vs.items)) }
+    ensures err { IfErr result (λ e. StopSays e pass.new.journal) }
+{
+    let mut values = Vec::new(alloc);
+    for i in 0..list.len() {
+        let Some(value) = wait_for(rt, board, pass, list[i]) else {
+            return Err(Stop::Halted);
+        };
+        let Ok(()) = values.push(value) else {
+            return Err(Stop::NoMemory);
+        };
+    }
+    Ok(values)
+}
+
+/// The outcome of a node that this pass has started, from those of its dependencies.
+fn outcome_of<V, A: Analyse<V>, G: Gate, R: Wait>(
+    site: &Site<V, A, G, R>,
+    pass: &mut Pass<V>,
+    n: usize,
+) -> Result<V, Stop>
+    requires site { (site.now.graph.now.plan ≡ site.now.board.now.plan) × (A.nodes site.now.analyse.now ≡ length site.now.board.now.plan) }
+    requires node { n < length site.now.board.now.plan }
+    requires pass { IsSound (A.step site.now.analyse.now) (A.fits site.now.analyse.now) site.now.board.now pass.old }
+    ensures pass { IsSound (A.step site.now.analyse.now) (A.fits site.now.analyse.now) site.now.board.now pass.new }
+    ensures fresh { knows pass.new n ≡ knows pass.old n }
+    ensures stays { pass.new.journal ≡ record pass.old.journal { seen = pass.new.journal.seen; saw = pass.new.journal.saw } }
+    ensures ok { IfOk result (λ v. Stepped (A.step site.now.analyse.now) (A.fits site.now.analyse.now) site.now.board.now.plan (knows pass.new) n v) }
+    ensures err { IfErr result (λ e. StopSays e pass.new.journal) }
+{
+    let list = site.graph.deps(n);
+    let values = read_all(site.rt, site.alloc, site.board, pass, list, n)?;
+    let node = NodeId::of(n);
+    site.gate.enter(node);
+    match site
+        .analyse
+        .analyse_one(site.alloc, node, values.as_slice())
+    {
+        Ok(value) => Ok(value),
+        Err(_) => Err(Stop::NoMemory),
+    }
+}
+
+/// Delivers a published node to one user, and puts that on the shelf if it can be started now.
+fn deliver_one<V, S: Shelf>(
+    board: &Board<V>,
+    shelf: &mut S,
+    pass: &mut Pass<V>,
+    published: &mut Published,
+    user: usize,
+) -> Result<(), NoMemory>
+    requires shelf { S.nodes shelf.old ≡ length board.now.plan }
+    requires user { user < length board.now.plan }
+    requires pass { IsPassOf board.now pass.old }
+    requires held { IsHeld pass.old published.old.node }
+    requires first { edge_times published.old.node user pass.old.journal.delivered ≡ 0 }
+    requires edge { 0 < times published.old.node (deps board.now.plan user) }
+    ensures of { IsPassOf board.now pass.new }
+    ensures shelf { S.nodes shelf.new ≡ S.nodes shelf.old }
+    ensures same { published.new ≡ published.old }
+    ensures held { IsHeld pass.new published.old.node }
+    ensures memory { pass.new.memory ≡ pass.old.memory }
+    ensures finished { pass.new.journal.finished ≡ pass.old.journal.finished }
+    ensures set { pass.new.journal.set ≡ pass.old.journal.set }
+    ensures sent { 0 < edge_times published.old.node user pass.new.journal.delivered }
+    ensures others { (u : ℕ) → u ≢ user → edge_times published.old.node u pass.new.journal.delivered ≡ edge_times published.old.node u pass.old.journal.delivered }
+{
+    match board.deliver(pass, published, user) {
+        Readiness::Ready => shelf.put(NodeId::of(user)),
+        Readiness::Waiting => Ok(()),
+    }
+}
+
+/// Delivers a published node to all its users, and puts those that can be started now on the shelf.
+fn deliver_all<V, S: Shelf>(
+    board: &Board<V>,
+    graph: &Graph,
+    shelf: &mut S,
+    pass: &mut Pass<V>,
+    published: &mut Published,
+    n: usize,
+) -> Result<(), NoMemory>
+    requires graph { graph.now.plan ≡ board.now.plan }
+    requires shelf { S.nodes shelf.old ≡ length board.now.plan }
+    requires pass { IsPassOf board.now pass.old }
+    requires node { (n < length board.now.plan) × (published.old.node ≡ n) }
+    requires held { IsHeld pass.old n × IsUnsent pass.old n }
+    ensures of { IsPassOf board.now pass.new }
+    ensures shelf { S.nodes shelf.new ≡ S.nodes shelf.old }
+    ensures same { published.new ≡ published.old }
+    ensures held { IsHeld pass.new n }
+    ensures memory { pass.new.memory ≡ pass.old.memory }
+    ensures finished { pass.new.journal.finished ≡ pass.old.journal.finished }
+    ensures set { pass.new.journal.set ≡ pass.old.journal.set }
+    ensures whole { OnOk result ((u : ℕ) → 0 < times n (deps board.now.plan u) → 0 < edge_times n u pass.new.journal.delivered) }
+{
+    let users = graph.users(n);
+    for i in 0..users.len() {
+        deliver_one(board, shelf, pass, published, users[i])?;
+    }
+    Ok(())
+}
+
+/// Publishes the outcome of a node that this pass has started, delivers it to all users, and
+/// finishes the node.
+fn complete<V: Drop, A: Analyse<V>, S: Shelf, G: Gate, R: Wait>(
+    site: &Site<V, A, G, R>,
+    shelf: &mut S,
+    pass: &mut Pass<V>,
+    n: usize,
+    value: V,
+) -> Result<(), NoMemory>
+    requires site { site.now.graph.now.plan ≡ site.now.board.now.plan }
+    requires shelf { S.nodes shelf.old ≡ length site.now.board.now.plan }
+    requires node { n < length site.now.board.now.plan }
+    requires started { (0 < times n pass.old.journal.started) × (knows pass.old n ≡ None) }
+    requires pass { IsSound (A.step site.now.analyse.now) (A.fits site.now.analyse.now) site.now.board.now pass.old }
+    requires stepped { Stepped (A.step site.now.analyse.now) (A.fits site.now.analyse.now) site.now.board.now.plan (knows pass.old) n value }
+    ensures shelf { S.nodes shelf.new ≡ S.nodes shelf.old }
+    ensures pass { IsSound (A.step site.now.analyse.now) (A.fits site.now.analyse.now) site.now.board.now pass.new }
+    ensures set { pass.new.journal.set ≡ pass.old.journal.set }
+{
+    match site.board.publish(pass, n, value) {
+        Ok(mut published) => {
+            site.gate.leave(NodeId::of(n));
+            deliver_all(site.board, site.graph, shelf, pass, &mut published, n)?;
+            site.board.finish(pass, published);
+            Ok(())
+        }
+        Err((value, refused)) => {
+            drop(value);
+            Err(refused)
+        }
+    }
+}
+
+/// The whole work on a node that this pass has started.
+fn work<V: Drop, A: Analyse<V>, S: Shelf, G: Gate, R: Wait>(
+    site: &Site<V, A, G, R>,
+    shelf: &mut S,
+    pass: &mut Pass<V>,
+    n: usize,
+) -> Result<(), Stop>
+    requires site { (site.now.graph.now.plan ≡ site.now.board.now.plan) × (A.nodes site.now.analyse.now ≡ length site.now.board.now.plan) }
+    requires shelf { S.nodes shelf.old ≡ length site.now.board.now.plan }
+    requires node { n < length site.now.board.now.plan }
+    requires started { (0 < times n pass.old.journal.started) × (knows pass.old n ≡ None) }
+    requires pass { IsSound (A.step site.now.analyse.now) (A.fits site.now.analyse.now) site.now.board.now pass.old }
+    ensures shelf { S.nodes shelf.new ≡ S.nodes shelf.old }
+    ensures pass { IsSound (A.step site.now.analyse.now) (A.fits site.now.analyse.now) site.now.board.now pass.new }
+    ensures set { pass.new.journal.set ≡ pass.old.journal.set }
+    ensures err { IfErr result (λ e. StopSays e pass.new.journal) }
+{
+    let value = outcome_of(site, pass, n)?;
+    match complete(site, shelf, pass, n, value) {
+        Ok(()) => Ok(()),
+        Err(_) => Err(Stop::NoMemory),
+    }
+}
+
+/// Takes nodes from the shelf and works on those that can be started, until no node is left, the
+/// halt is seen, or memory is refused. In the last case it sets the halt.
+pub fn run_worker<V: Drop, A: Analyse<V>, S: Shelf, G: Gate, R: Wait>(
+    site: &Site<V, A, G, R>,
+    mut shelf: S,
+    mut pass: Pass<V>,
+) -> (Pass<V>, Ending)
+    requires site { (site.now.graph.now.plan ≡ site.now.board.now.plan) × (A.nodes site.now.analyse.now ≡ length site.now.board.now.plan) }
+    requires shelf { S.nodes shelf ≡ length site.now.board.now.plan }
+    requires pass { IsSound (A.step site.now.analyse.now) (A.fits site.now.analyse.now) site.now.board.now pass }
+    requires unset { pass.journal.set ≡ false }
+    ensures pass { IsSound (A.step site.now.analyse.now) (A.fits site.now.analyse.now) site.now.board.now result.0 }
+    ensures ending { EndingSays result.1 result.0.journal }
+{
+    for _ in site.rt.forever() {
+        if site.board.left(&mut pass) == 0 {
+            return (pass, Ending::Done);
+        }
+        if site.board.halted(&mut pass) {
+            return (pass, Ending::Halted);
+        }
+        let Some(node) = shelf.take() else {
+            thread::yield_now();
+            continue;
+        };
+        let n = node.number();
+        let Ok(()) = site.board.start(&mut pass, n) else {
+            continue;
+        };
+        match work(site, &mut shelf, &mut pass, n) {
+            Ok(()) => {}
+            Err(Stop::Halted) => return (pass, Ending::Halted),
+            Err(Stop::NoMemory) => {
+                site.board.halt(&mut pass);
+                return (pass, Ending::NoMemory);
+            }
+        }
+    }
+    unreachable!()
+}
