@@ -14,7 +14,7 @@ outputs-next n label fs i f cs ds p e =
 pub outputs-end : (n : ℕ) (label : List ℕ) (fs : List FileRef) (i : ℕ) (cs : List Claim) → length fs ≤ i → all_in_order cs (map (claim_on n label) (drop i fs)) ≡ cs
 outputs-end n label fs i cs l = ap (λ x. all_in_order cs (map (claim_on n label) x)) (drop_of_length-le fs l)
 
-all_in_order-append : (cs ds es : List Claim) → all_in_order cs (ds ++ es) ≡ all_in_order (all_in_order cs ds) es
+pub all_in_order-append : (cs ds es : List Claim) → all_in_order cs (ds ++ es) ≡ all_in_order (all_in_order cs ds) es
 all_in_order-append cs [] es = refl
 all_in_order-append cs (d ∷ ds) es = all_in_order-append (put_in_order cs d) ds es
 

@@ -1,1 +1,4 @@
 pub mod ClaimLemmas
+pub mod ClashLemmas
+pub mod ClashUnique
+pub mod OwnerLemmas

@@ -1,2 +1,4 @@
 pub mod Claims
 pub mod Conflicts
+pub mod Clashes
+pub mod Labels

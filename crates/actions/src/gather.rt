@@ -1,6 +1,8 @@
 //! The paths that at least two actions declare.
 ghost use Rattle.std.specs.Prelude.{◌≡◌, ◌++◌, ◌∷◌, [], IfOk, OnOk, List};
 ghost use Rattle.actions.specs.Conflicts.{conflict_of, gathered, conflicts_of};
+ghost use Rattle.actions.specs.Clashes.{Each, AreConflicts};
+ghost use Rattle.actions.specs.Labels.{AreLabels};
 ghost use Rattle.actions.specs.declared.claims.Claim.{Claim as Claimed};
 
 use crate::claims::{Claim, all_claims};
@@ -25,6 +27,16 @@ pub struct Conflict {
 ///
 /// `AllocError` where memory for the claims or the conflicts was refused.
 pub fn conflicts(alloc: Global, owned: &[Owned]) -> Result<Vec<Conflict>, AllocError>
+    ensures law { IfOk result (λ v. AreConflicts owned.now v.items) }
+    ensures labels { IfOk result (λ v. Each (λ c. AreLabels owned.now c.path c.labels) v.items) }
+    ensures found { IfOk result (λ v. v.items ≡ conflicts_of owned.now) }
+{
+    let found = gather(alloc, owned)?;
+    Ok(found)
+}
+
+/// The conflicts, path by path from the claims in order.
+fn gather(alloc: Global, owned: &[Owned]) -> Result<Vec<Conflict>, AllocError>
     ensures { IfOk result (λ v. v.items ≡ conflicts_of owned.now) }
 {
     let claims = all_claims(alloc, owned)?;

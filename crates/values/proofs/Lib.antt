@@ -3,6 +3,7 @@ pub mod SeeLemmas
 pub mod EqualLemmas
 pub mod TextLemmas
 pub mod TreeTextLemmas
+pub mod ReprLemmas
 pub mod VisitLemmas
 pub mod RevisitLemmas
 pub mod KeyListLemmas

@@ -15,4 +15,5 @@ pub mod Visits
 pub mod Freeze
 pub mod Revisit
 pub mod Texts
+pub mod Repr
 pub mod KindText
