@@ -1,5 +1,5 @@
 -- What is served has one answer.
-use Rattle.std.proofs.Common.{◌≡◌, ◌∙◌, ◌⊎◌, ◌<◌, ◌≤◌, ℕ, List, [], ◌∷◌, map, length, get_or, ap, sym, refl, subst, arith, inl, inr, All, Contains, zero, suc}
+use Rattle.std.proofs.Common.{◌≡◌, ◌∙◌, ◌⊎◌, ◌<◌, ◌≤◌, ℕ, true, List, [], ◌∷◌, map, length, get_or, ap, sym, refl, subst, arith, inl, inr, All, Contains, zero, suc}
 use Rattle.std.proofs.lemmas.Cmp.{nat_list_cmp_total, tied_itself}
 use Rattle.std.proofs.lemmas.List.{get_or-map, length-map}
 use Rattle.std.specs.Cmp.Lexicographic.{slice_cmp}
@@ -8,11 +8,14 @@ use Rattle.std.specs.declared.cmp.Ordering.TheVariants.{Less, Equal}
 use Rattle.bzlan.specs.Answer.{Answer, AreAscending, AreConflicts, IsAnswer, Meaning, owners}
 use Rattle.bzlan.specs.Labels.{LabelParts, label_text}
 use Rattle.bzlan.specs.Outcomes.{Conflict, Node}
-use Rattle.bzlan.specs.FirstForm.{FirstParts, IsFirst, first_meaning}
-use Rattle.bzlan.specs.Served.{Answers, Serves}
+use Rattle.bzlan.specs.FirstForm.{FirstParts, IsFirst, first_meaning, first_target}
+use Rattle.bzlan.specs.Served.{Answers, AsksNothing, Serves}
 use Rattle.bzlan.specs.Workspaces.{Pair}
-use Rattle.bzlan.proofs.AnswerLemmas.{first-Answers, no_element, nothing-Answers}
+use Rattle.bzlan.proofs.AnswerLemmas.{first-Answers, no_element, nothing-Answers, second-Answers}
+use Rattle.bzlan.specs.SecondForm.{IsSecond, SecondParts, is_target_of, second_meaning}
+use Rattle.std.specs.List.{list_all}
 use Rattle.bzlan.proofs.FirstLemmas.{IsFirst-one}
+use Rattle.bzlan.proofs.SecondLemmas.{IsSecond-one, forms-apart}
 
 not_below_itself : (x : List ℕ) → slice_cmp nat_cmp x x ≡ Less → ⊥
 not_below_itself x e = let same : Less ≡ Equal = sym e ∙ tied_itself nat_list_cmp_total x in cc
@@ -102,19 +105,28 @@ IsAnswer-one m labels a b p q =
     (conflict_in b.nodes a.conflicts b.conflicts others q.conflicts) (conflict_in b.nodes b.conflicts a.conflicts q.conflicts others) in
     λ i. record { faults = faults i; nodes = nodes i; conflicts = conflicts i }
 
+not_empty : (w : List Pair) (b m : Pair) → w ≡ [] → (w ≡ b ∷ m ∷ []) ⊎ (w ≡ m ∷ b ∷ []) → ⊥
+not_empty w b m empty (inl e) = let clash : b ∷ m ∷ [] ≡ [] = sym e ∙ empty in cc
+not_empty w b m empty (inr e) = let clash : m ∷ b ∷ [] ≡ [] = sym e ∙ empty in cc
+
 not_nothing : (w : List Pair) (f : FirstParts) → w ≡ [] → IsFirst w f → ⊥
-not_nothing w f empty is = two is.files.files
-  where
-    two : (w ≡ f.build_file ∷ f.module_file ∷ []) ⊎ (w ≡ f.module_file ∷ f.build_file ∷ []) → ⊥
-    two (inl e) = let clash : f.build_file ∷ f.module_file ∷ [] ≡ [] = sym e ∙ empty in cc
-    two (inr e) = let clash : f.module_file ∷ f.build_file ∷ [] ≡ [] = sym e ∙ empty in cc
+not_nothing w f empty is = not_empty w f.build_file f.module_file empty is.files.files
+
+second-not_nothing : (w : List Pair) (f : SecondParts) → w ≡ [] → IsSecond w f → ⊥
+second-not_nothing w f empty is = not_empty w f.build_file f.module_file empty is.files.files
 
 Serves-one : (w : List Pair) (labels : List LabelParts) (limit : ℕ) (m n : Meaning) → Serves w labels limit m → Serves w labels limit n → m ≡ n
 Serves-one w labels limit m n (inl p) (inl q) = p.1 ∙ sym q.1
-Serves-one w labels limit m n (inl p) (inr (g, asks, e)) = absurd (not_nothing w g p.0.no_file asks.form)
-Serves-one w labels limit m n (inr (f, asks, e)) (inl q) = absurd (not_nothing w f q.0.no_file asks.form)
-Serves-one w labels limit m n (inr (f, p, d)) (inr (g, q, e)) =
+Serves-one w labels limit m n (inl p) (inr (inl (g, asks, e))) = absurd (not_nothing w g p.0.no_file asks.form)
+Serves-one w labels limit m n (inl p) (inr (inr (g, asks, e))) = absurd (second-not_nothing w g p.0.no_file asks.form)
+Serves-one w labels limit m n (inr (inl (f, asks, e))) (inl q) = absurd (not_nothing w f q.0.no_file asks.form)
+Serves-one w labels limit m n (inr (inr (f, asks, e))) (inl q) = absurd (second-not_nothing w f q.0.no_file asks.form)
+Serves-one w labels limit m n (inr (inl (f, p, d))) (inr (inl (g, q, e))) =
     d ∙ ap first_meaning (IsFirst-one w f g p.form.files p.form.forms q.form) ∙ sym e
+Serves-one w labels limit m n (inr (inr (f, p, d))) (inr (inr (g, q, e))) =
+    d ∙ ap second_meaning (IsSecond-one w f g p.form.files p.form.forms q.form) ∙ sym e
+Serves-one w labels limit m n (inr (inl (f, p, d))) (inr (inr (g, q, e))) = absurd (forms-apart w f g p.form q.form)
+Serves-one w labels limit m n (inr (inr (f, p, d))) (inr (inl (g, q, e))) = absurd (forms-apart w g f q.form p.form)
 
 pub Answers-one : (w : List Pair) (labels : List LabelParts) (limit : ℕ) (a b : Answer) → Answers w labels limit a → Answers w labels limit b → a ≡ b
 Answers-one w labels limit a b p q =
@@ -123,4 +135,28 @@ Answers-one w labels limit a b p q =
 
 pub Serves-answered : (w : List Pair) (labels : List LabelParts) (limit : ℕ) (m : Meaning) → Serves w labels limit m → (a : Answer) × Answers w labels limit a
 Serves-answered w labels limit m (inl p) = (_, nothing-Answers w labels limit p.0)
-Serves-answered w labels limit m (inr (f, asks, e)) = (_, first-Answers w labels limit f asks)
+Serves-answered w labels limit m (inr (inl (f, asks, e))) = (_, first-Answers w labels limit f asks)
+Serves-answered w labels limit m (inr (inr (f, asks, e))) = (_, second-Answers w labels limit f asks)
+
+-- what isn't asked for as a form is served isn't served
+pub unserved-first : (w : List Pair) (labels : List LabelParts) (limit : ℕ) (f : FirstParts) → IsFirst w f
+    → ((100 ≤ limit) × All (λ l. l ≡ first_target f) labels → ⊥) → (m : Meaning) → Serves w labels limit m → ⊥
+unserved-first w labels limit f is not m (inl p) = not_nothing w f p.0.no_file is
+unserved-first w labels limit f is not m (inr (inl (g, asks, e))) =
+    let same : g ≡ f = sym (IsFirst-one w f g is.files is.forms asks.form) in
+    not (asks.suffices, subst (λ (h : FirstParts). All (λ l. l ≡ first_target h) labels) same asks.one_target)
+unserved-first w labels limit f is not m (inr (inr (g, asks, e))) = forms-apart w f g is asks.form
+
+pub unserved-second : (w : List Pair) (labels : List LabelParts) (limit : ℕ) (f : SecondParts) → IsSecond w f
+    → ((1000000 ≤ limit) × (list_all (is_target_of f) labels ≡ true) → ⊥) → (m : Meaning) → Serves w labels limit m → ⊥
+unserved-second w labels limit f is not m (inl p) = second-not_nothing w f p.0.no_file is
+unserved-second w labels limit f is not m (inr (inl (g, asks, e))) = forms-apart w g f asks.form is
+unserved-second w labels limit f is not m (inr (inr (g, asks, e))) =
+    let same : g ≡ f = sym (IsSecond-one w f g is.files is.forms asks.form) in
+    not (asks.suffices, subst (λ (h : SecondParts). list_all (is_target_of h) labels ≡ true) same asks.all_targets)
+
+pub unserved : (w : List Pair) (labels : List LabelParts) (limit : ℕ) → (AsksNothing w labels → ⊥)
+    → ((f : FirstParts) → IsFirst w f → ⊥) → ((f : SecondParts) → IsSecond w f → ⊥) → (m : Meaning) → Serves w labels limit m → ⊥
+unserved w labels limit nothing first second m (inl p) = nothing p.0
+unserved w labels limit nothing first second m (inr (inl (g, asks, e))) = first g asks.form
+unserved w labels limit nothing first second m (inr (inr (g, asks, e))) = second g asks.form

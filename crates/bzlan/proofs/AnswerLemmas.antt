@@ -8,6 +8,9 @@ use Rattle.bzlan.specs.Labels.{LabelParts}
 use Rattle.bzlan.specs.Outcomes.{Outcome, done, with_default_info}
 use Rattle.bzlan.specs.ReportText.{outcome_text}
 use Rattle.bzlan.specs.FirstForm.{AsksFirst, FirstParts, first_meaning, first_outcome, first_target, returned}
+use Rattle.bzlan.specs.SecondAnswer.{second_answer}
+use Rattle.bzlan.specs.SecondForm.{AsksSecond, SecondParts, second_meaning}
+use Rattle.bzlan.proofs.SecondAnswers.{second-IsAnswer}
 use Rattle.bzlan.specs.Served.{Answers, AsksNothing, empty_meaning}
 use Rattle.bzlan.specs.Workspaces.{Pair}
 
@@ -85,7 +88,7 @@ first-IsAnswer f (l ∷ ls) all =
     }
 
 pub first-Answers : (w : List Pair) (labels : List LabelParts) (limit : ℕ) (f : FirstParts) → AsksFirst w labels limit f → Answers w labels limit (first_answer f labels)
-first-Answers w labels limit f asks = (first_meaning f, inr (f, asks, refl), first-IsAnswer f labels asks.one_target)
+first-Answers w labels limit f asks = (first_meaning f, inr (inl (f, asks, refl)), first-IsAnswer f labels asks.one_target)
 
 -- the text of the answer to a label
 pub first-text : (f : FirstParts) (labels : List LabelParts) (l : LabelParts) → Some l ≡ slice_get labels 0
@@ -103,3 +106,7 @@ first-text f (x ∷ xs) l e =
 pub first-quiet : (f : FirstParts) (labels : List LabelParts) → false ≡ is_loud (first_answer f labels)
 first-quiet f [] = refl
 first-quiet f (l ∷ ls) = refl
+
+pub second-Answers : (w : List Pair) (labels : List LabelParts) (limit : ℕ) (f : SecondParts) → AsksSecond w labels limit f → Answers w labels limit (second_answer f labels)
+second-Answers w labels limit f asks =
+    (second_meaning f, inr (inr (f, asks, refl)), second-IsAnswer f asks.form.targets labels asks.all_targets)

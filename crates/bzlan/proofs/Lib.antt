@@ -11,3 +11,11 @@ pub mod FirstLemmas
 pub mod AnswerLemmas
 pub mod AnswerLaws
 pub mod LabelLaws
+pub mod TruthLemmas
+pub mod SecondLaws
+pub mod SecondLemmas
+pub mod OrderLemmas
+pub mod SecondAnswers
+pub mod NodeLemmas
+pub mod PlanLemmas
+pub mod BlockLemmas

@@ -5,11 +5,11 @@
 -- and the BUILD file loads that rule and declares one target. Each evaluation takes less than 100 steps.
 use Rattle.std.specs.Prelude.{◌≡◌, ◌⊎◌, ◌≤◌, true, ℕ, pos, not, ◌||◌, List, [], ◌∷◌, ◌++◌, codes, if◌then◌else◌, All}
 use Rattle.std.specs.Str.{bytes_eq}
-use Rattle.lexer.specs.Form.{HasForm}
+use Rattle.lexer.specs.FileForms.{HasForm}
 use Rattle.lexer.specs.declared.forms.BuildForm.{BuildForm}
 use Rattle.lexer.specs.declared.forms.ModuleForm.{ModuleForm}
 use Rattle.lexer.specs.declared.forms.FileKind.TheVariants as file
-use Rattle.lexer.specs.declared.forms.FirstForm.TheVariants as found
+use Rattle.lexer.specs.declared.forms.FileForm.TheVariants as found
 use Rattle.bzlan.specs.Answer.{Meaning}
 use Rattle.bzlan.specs.FileKinds.{is_build_file, is_module, package_of}
 use Rattle.bzlan.specs.Labels.{LabelParts, is_label, label_path, last_segment}

@@ -12,10 +12,15 @@ pub mod Outcomes
 pub mod ReportText
 pub mod Answer
 pub mod FirstForm
+pub mod SecondForm
+pub mod NodeValues
+pub mod NodePlan
 pub mod Served
 pub mod Reports
 pub mod Seen
 pub mod FirstAnswer
+pub mod SecondAnswer
+pub mod NodeBlocks
 pub mod Asking
 pub mod Requests
 pub mod RequestReports

@@ -1,10 +1,14 @@
--- What the program's own values stand for: the parts of a workspace of the first form.
-use Rattle.std.specs.Prelude.{[], ◌∷◌, pos}
+-- What the program's own values stand for: the parts of a workspace of a form.
+use Rattle.std.specs.Prelude.{ℕ, List, [], ◌∷◌, ◌++◌, codes, pos}
 use Rattle.bzlan.specs.declared.answer.Instance.{Instance}
+use Rattle.bzlan.specs.declared.answer.ListInstance.{ListInstance}
+use Rattle.bzlan.specs.ReportText.{line}
 use Rattle.bzlan.specs.declared.first.FirstWorkspace.{FirstWorkspace}
 use Rattle.bzlan.specs.declared.workspace.File.{File}
-use Rattle.bzlan.specs.Outcomes.{Provider, exported, number}
+use Rattle.bzlan.specs.Outcomes.{Frozen, Provider, exported, number}
 use Rattle.bzlan.specs.FirstForm.{FirstParts}
+use Rattle.bzlan.specs.declared.second.SecondWorkspace.{SecondWorkspace}
+use Rattle.bzlan.specs.SecondForm.{SecondParts}
 use Rattle.bzlan.specs.Workspaces.{Pair}
 
 abbrev pub file_seen : File → Pair
@@ -18,9 +22,28 @@ first_seen f = record {
   rules = f.rules;
 }
 
+abbrev pub second_seen : SecondWorkspace → SecondParts
+second_seen f = record {
+  build_file = file_seen f.build_file.now;
+  module_file = file_seen f.module_file.now;
+  build = f.build;
+  rules = f.rules;
+}
+
 -- an instance with a number in its one field
 abbrev pub instance_seen : Instance → Provider
 instance_seen i = record {
   name = exported i.module.now i.provider.now;
   fields = (i.field.now, number (pos i.number)) ∷ [];
 }
+
+abbrev pub list_instance_seen : ListInstance → Frozen → Provider
+list_instance_seen i value = record {
+  name = exported i.module.now i.provider.now;
+  fields = (i.field.now, value) ∷ [];
+}
+
+-- the line of an instance, by the text of its value
+abbrev pub list_line_seen : ListInstance → List ℕ
+list_line_seen i =
+    line (codes "  provider " ++ (i.module.now ++ codes "%" ++ i.provider.now) ++ ((codes " " ++ i.field.now ++ codes "=" ++ i.value.now) ++ []))

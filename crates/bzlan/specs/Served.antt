@@ -3,6 +3,7 @@
 use Rattle.std.specs.Prelude.{◌≡◌, ◌⊎◌, ℕ, List, []}
 use Rattle.bzlan.specs.Answer.{Answer, IsAnswer, Meaning}
 use Rattle.bzlan.specs.FirstForm.{AsksFirst, FirstParts, first_meaning}
+use Rattle.bzlan.specs.SecondForm.{AsksSecond, SecondParts, second_meaning}
 use Rattle.bzlan.specs.Labels.{LabelParts}
 use Rattle.bzlan.specs.Outcomes.{failed, no_such_target}
 use Rattle.bzlan.specs.Workspaces.{Pair}
@@ -19,7 +20,8 @@ empty_meaning = record { faults = []; dependencies = λ l. []; outcome = λ l. f
 abbrev pub Serves : List Pair → List LabelParts → ℕ → Meaning → Type 0
 Serves workspace labels limit m =
     (AsksNothing workspace labels × (m ≡ empty_meaning))
-    ⊎ ((f : FirstParts) × AsksFirst workspace labels limit f × (m ≡ first_meaning f))
+    ⊎ (((f : FirstParts) × AsksFirst workspace labels limit f × (m ≡ first_meaning f))
+    ⊎ ((f : SecondParts) × AsksSecond workspace labels limit f × (m ≡ second_meaning f)))
 
 -- they are served, and this is the answer
 abbrev pub Answers : List Pair → List LabelParts → ℕ → Answer → Type 0

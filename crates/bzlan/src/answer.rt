@@ -1,9 +1,9 @@
 //! The texts of a report.
 
 ghost use Rattle.std.specs.Prelude.{◌≡◌, ◌∷◌, [], IfOk, string_bytes};
-ghost use Rattle.bzlan.specs.Outcomes.{done, with_default_info};
-ghost use Rattle.bzlan.specs.ReportText.{outcome_text};
-ghost use Rattle.bzlan.specs.Seen.{instance_seen};
+ghost use Rattle.bzlan.specs.Outcomes.{Frozen, done, with_default_info};
+ghost use Rattle.bzlan.specs.ReportText.{frozen_text, outcome_text};
+ghost use Rattle.bzlan.specs.Seen.{instance_seen, list_instance_seen};
 
 use crate::labels::Label;
 use std::alloc::{AllocError, Global};
@@ -54,4 +54,49 @@ pub(crate) fn done_text(
     format!(in alloc;
         "target {label} ok\n  provider DefaultInfo files=depset(default, [])\n{returned}"
     )
+}
+
+/// An instance of a module's provider, with a list in its one field.
+#[derive(Clone, Copy)]
+pub(crate) struct ListInstance<'a> {
+    /// The path of the module.
+    pub(crate) module: &'a str,
+    /// The provider's name there.
+    pub(crate) provider: &'a str,
+    /// The field.
+    pub(crate) field: &'a str,
+    /// The text of the list in the field.
+    pub(crate) value: &'a str,
+}
+
+/// The line of the provider.
+impl fmt::Display for ListInstance<'_> {
+    ghost use Rattle.std.specs.Prelude.{Some};
+    ghost use Rattle.bzlan.specs.Seen.{list_line_seen};
+
+    ghost output = { λ i. Some (list_line_seen i) };
+
+    fn fmt<W: fmt::Write>(&self, f: &mut fmt::Formatter<W>) -> fmt::Result {
+        let ListInstance {
+            module,
+            provider,
+            field,
+            value,
+        } = *self;
+        writeln!(f, "  provider {module}%{provider} {field}={value}")
+    }
+}
+
+/// The lines of a target that is done and whose function returned an instance with this list; a `DefaultInfo` without
+/// files is put first.
+pub(crate) fn listing_text(
+    alloc: Global,
+    label: &Label,
+    line: ListInstance<'_>,
+) -> Result<String, AllocError>
+    ensures { IfOk result (λ s. (z : Frozen) → line.entry.value.now ≡ frozen_text z
+        → string_bytes s ≡ outcome_text label.now (done (with_default_info (list_instance_seen line.entry z ∷ [])) [])) }
+{
+    let label = label.text();
+    format!(in alloc; "target {label} ok\n  provider DefaultInfo files=depset(default, [])\n{line}")
 }

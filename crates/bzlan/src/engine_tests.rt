@@ -18,7 +18,7 @@ const REPORT: &str =
     "target //a:x ok\n  provider DefaultInfo files=depset(default, [])\n  provider a/i.bzl%I n=1\n";
 
 /// The report, or the name of the stop.
-fn answered<R: Threads + Wait + Sync>(
+pub(crate) fn answered<R: Threads + Wait + Sync>(
     rt: &R,
     alloc: Global,
     files: &[(&str, &str)],

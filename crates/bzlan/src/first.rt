@@ -1,9 +1,9 @@
 //! Workspaces of the first form: a `BUILD` file with one target, and the module that it loads.
 
 ghost use Rattle.std.specs.Prelude.{◌≡◌, ◌↔◌, ◌∷◌, ◌++◌, [], IsTrue, IfOk, IfSome, None, codes, All};
-ghost use Rattle.lexer.specs.Form.{HasForm};
+ghost use Rattle.lexer.specs.FileForms.{HasForm};
 ghost use Rattle.lexer.specs.declared.forms.FileKind.TheVariants as file;
-ghost use Rattle.lexer.specs.declared.forms.FirstForm.TheVariants as found;
+ghost use Rattle.lexer.specs.declared.forms.FileForm.TheVariants as found;
 ghost use Rattle.bzlan.specs.Files.{file_pairs};
 ghost use Rattle.bzlan.specs.FirstForm.{AreFiles, AreLinked, FirstParts, HaveForms, IsFirst, first_package, first_target, returned};
 ghost use Rattle.bzlan.specs.Labels.{last_segment};
@@ -14,7 +14,7 @@ use crate::answer::Instance;
 use crate::file_kinds::{is_build_file, is_module, package_of};
 use crate::labels::{Label, is_label, last_segment};
 use crate::workspace::{File, Workspace};
-use lexer::{BuildForm, FileKind, FirstForm, ModuleForm, NoMemory, form};
+use lexer::{BuildForm, FileForm, FileKind, ModuleForm, NoMemory, form};
 use std::alloc::Global;
 
 /// A workspace of the first form.
@@ -36,7 +36,7 @@ fn are_files(build_file: &File, module_file: &File) -> bool
 }
 
 /// The `BUILD` file and the module that are all the files.
-fn two_files<'w>(files: &'w [File]) -> Option<(&'w File, &'w File)>
+pub(crate) fn two_files<'w>(files: &'w [File]) -> Option<(&'w File, &'w File)>
     ensures some { IfSome result (λ p. AreFiles (file_pairs files.now) (file_seen p.0.now) (file_seen p.1.now)) }
     ensures none { result ≡ None → (b m : Pair) → AreFiles (file_pairs files.now) b m → ⊥ }
 {
@@ -62,8 +62,9 @@ fn build_form(alloc: Global, text: &str) -> Result<Option<BuildForm>, NoMemory>
     ensures none { IfOk result (λ r. r ≡ None → (f : BuildForm) → HasForm text.now file.Build (found.Build f) → ⊥) }
 {
     match form(alloc, text, FileKind::Build)? {
-        Some(FirstForm::Build(build)) => Ok(Some(build)),
-        Some(FirstForm::Module(_)) => unreachable!(),
+        Some(FileForm::Build(build)) => Ok(Some(build)),
+        Some(FileForm::Targets(_)) => Ok(None),
+        Some(FileForm::Module(_) | FileForm::DepsModule(_)) => unreachable!(),
         None => Ok(None),
     }
 }
@@ -74,14 +75,15 @@ fn module_form(alloc: Global, text: &str) -> Result<Option<ModuleForm>, NoMemory
     ensures none { IfOk result (λ r. r ≡ None → (f : ModuleForm) → HasForm text.now file.Module (found.Module f) → ⊥) }
 {
     match form(alloc, text, FileKind::Module)? {
-        Some(FirstForm::Module(rules)) => Ok(Some(rules)),
-        Some(FirstForm::Build(_)) => unreachable!(),
+        Some(FileForm::Module(rules)) => Ok(Some(rules)),
+        Some(FileForm::DepsModule(_)) => Ok(None),
+        Some(FileForm::Build(_) | FileForm::Targets(_)) => unreachable!(),
         None => Ok(None),
     }
 }
 
 /// Whether a load's text is a `:` and the name of this file.
-fn loads(text: &str, path: &str) -> bool
+pub(crate) fn loads(text: &str, path: &str) -> bool
     ensures { IsTrue result ↔ (text.now ≡ codes ":" ++ last_segment path.now) }
 {
     match text.strip_prefix(':') {

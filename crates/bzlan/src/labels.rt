@@ -94,7 +94,7 @@ pub(crate) fn is_label(package: &str, name: &str) -> bool
 }
 
 /// The label of a package and a name that make one.
-fn label_with(alloc: Global, package: &str, name: &str) -> Result<Label, AllocError>
+pub(crate) fn label_with(alloc: Global, package: &str, name: &str) -> Result<Label, AllocError>
     requires { is_label (record { «package» = «package».now; name = name.now }) ≡ true }
     ensures { IfOk result (λ l. l ≡ record { «package» = «package».now; name = name.now }) }
 {

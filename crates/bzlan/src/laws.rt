@@ -1,14 +1,26 @@
 //! What the definitions of labels and of answers come to, as laws.
 
-ghost use Rattle.std.specs.Prelude.{◌≡◌, true, ℕ, List, Option, Some};
+ghost use Rattle.std.specs.Prelude.{◌≡◌, true, ℕ, List, Option, Some, map};
 ghost use Rattle.bzlan.specs.Answer.{Answer, Meaning};
 ghost use Rattle.bzlan.specs.Labels.{LabelParts, is_label, label_of, label_text};
+ghost use Rattle.bzlan.specs.Outcomes.{Outcome};
+ghost use Rattle.bzlan.specs.SecondForm.{IsSecond, SecondParts, second_dependencies, second_outcome, second_step};
 ghost use Rattle.bzlan.specs.Served.{Answers, Serves};
 ghost use Rattle.bzlan.specs.Workspaces.{Pair};
 
 /// The text of a label is read as that label, whatever package is given.
 pub fn texts_of_labels_are_read()
     ensures { (l : LabelParts) (given : Option (List ℕ)) → is_label l ≡ true → label_of (label_text l) given ≡ Some l }
+{}
+
+/// In a workspace of the second form what becomes of a label is the step over what becomes of its dependencies, and no
+/// other function has this law.
+pub fn outcomes_are_by_edges()
+    ensures steps { (workspace : List Pair) (f : SecondParts) → IsSecond workspace f
+        → (l : LabelParts) → second_outcome f l ≡ second_step f l (map (second_outcome f) (second_dependencies f l)) }
+    ensures only { (workspace : List Pair) (f : SecondParts) → IsSecond workspace f
+        → (other : LabelParts → Outcome) → ((l : LabelParts) → other l ≡ second_step f l (map other (second_dependencies f l)))
+        → (l : LabelParts) → other l ≡ second_outcome f l }
 {}
 
 /// What is served has an answer, and no two.

@@ -2,17 +2,21 @@
 #![tactic(auto)]
 
 mod answer;
+mod blocks;
 mod devices;
 mod engine;
 mod file_kinds;
 mod first;
-mod gate;
 mod input;
 mod labels;
 mod laws;
+mod nodes;
 mod paths;
+mod plan;
+mod second;
 mod serve;
 mod stops;
+mod values;
 mod words;
 mod workspace;
 
@@ -20,11 +24,11 @@ pub use devices::{
     Counted, INPUT_LIMIT, InputStop, Sink, Source, WriteFailed, read_input, write_all,
 };
 pub use engine::analyse;
-pub use gate::{Gate, NoGate, NodeId};
 pub use input::{InputRefused, read_workspace};
 pub use labels::{Label, LabelRefused};
-pub use laws::{served_has_one_answer, texts_of_labels_are_read};
+pub use laws::{outcomes_are_by_edges, served_has_one_answer, texts_of_labels_are_read};
 pub use paths::{PATH_LIMIT, is_path};
+pub use pool::{Gate, NoGate, NodeId};
 use serve::serve;
 use std::process::ExitCode;
 use std::{env, io};
@@ -78,7 +82,11 @@ mod device_tests;
 #[cfg(test)]
 mod engine_tests;
 #[cfg(test)]
+mod gate_tests;
+#[cfg(test)]
 mod memory;
+#[cfg(test)]
+mod second_tests;
 #[cfg(test)]
 mod serve_tests;
 #[cfg(test)]

@@ -1,6 +1,6 @@
 //! A whole request: from the words and the input to the report that is written.
 
-ghost use Rattle.std.specs.Prelude.{◌≡◌, ◌≢◌, ◌⊎◌, IfErr, IfOk, IfSome, OnOk, Err, None, map};
+ghost use Rattle.std.specs.Prelude.{◌≡◌, ◌≢◌, ◌⊎◌, ◌≤◌, IfErr, IfOk, IfSome, OnOk, Err, None, map};
 ghost use Rattle.std.specs.Io.KnownBytes.{IsAtEnd};
 ghost use Rattle.bzlan.specs.Asked.{Asked, asked, asked_by};
 ghost use Rattle.bzlan.specs.Devices.{Failed};
@@ -9,46 +9,62 @@ ghost use Rattle.bzlan.specs.RequestReports.{ReportsInput, UnservedInput};
 
 use crate::devices::{InputStop, Sink, Source, WriteFailed, read_input, write_all};
 use crate::engine::{Report, analysed};
-use crate::gate::Gate;
 use crate::input::{InputRefused, read_workspace};
 use crate::stops::{AnalyseStop, ServeStop};
 use crate::words::{Request, WordsStop, read_words};
+use pool::Gate;
 use std::alloc::Global;
 use std::convert::AsStr;
 use std::sync::Wait;
 use std::thread::Threads;
 
 /// The report on an input.
-fn report(alloc: Global, request: &Request, input: &[u8]) -> Result<Report, ServeStop>
+fn report<R: Threads + Wait + Sync, G: Gate>(
+    rt: &R,
+    alloc: Global,
+    request: &Request,
+    input: &[u8],
+    gate: &G,
+) -> Result<Report, ServeStop>
+    requires workers { (1 ≤ request.now.workers) × (request.now.workers ≤ 64) }
     ensures ok { IfOk result (ReportsInput (asked_by request.now) input.now) }
     ensures input_only { result ≡ Err ServeStop.Input → SpellsNothing input.now }
     ensures later_only { result ≡ Err ServeStop.Later → UnservedInput (asked_by request.now) input.now }
-    ensures kinds { IfErr result (λ e. (e ≡ ServeStop.Input) ⊎ ((e ≡ ServeStop.Later) ⊎ (e ≡ ServeStop.NoMemory))) }
+    ensures kinds { IfErr result (λ e. (e ≡ ServeStop.Input) ⊎ ((e ≡ ServeStop.Later) ⊎ ((e ≡ ServeStop.NoMemory) ⊎ (e ≡ ServeStop.NoThread)))) }
 {
     let workspace = match read_workspace(alloc, input) {
         Ok(workspace) => workspace,
         Err(InputRefused::Illegal) => return Err(ServeStop::Input),
         Err(InputRefused::NoMemory) => return Err(ServeStop::NoMemory),
     };
-    match analysed(alloc, &workspace, request.labels.as_slice(), request.steps) {
+    match analysed(
+        rt,
+        alloc,
+        &workspace,
+        request.labels.as_slice(),
+        request.workers,
+        request.steps,
+        gate,
+    ) {
         Ok(report) => Ok(report),
         Err(AnalyseStop::Later) => Err(ServeStop::Later),
         Err(AnalyseStop::NoMemory) => Err(ServeStop::NoMemory),
-        Err(AnalyseStop::Workers | AnalyseStop::TooMany | AnalyseStop::NoThread) => unreachable!(),
+        Err(AnalyseStop::NoThread) => Err(ServeStop::NoThread),
+        Err(AnalyseStop::Workers | AnalyseStop::TooMany) => unreachable!(),
     }
 }
 
 /// Reads the words, then the input to its end, analyses, and writes the report.
 ///
 /// `words` are those of the command line, the program's name first. `Ok(true)` says that the report has a load fault, a
-/// failed target or a conflict. `rt` is the permission to start threads and to wait; today the request is served on
-/// the calling thread, the number of workers is tested and not used, and the gate isn't called.
+/// failed target or a conflict. `rt` is the permission to start threads and to wait; what is asked for is analysed as
+/// [`analyse`](crate::engine::analyse) says.
 ///
 /// # Errors
 ///
 /// Found in this order: `Words` before a byte is read; `Read`; `Input`; `Later`; `Write`. The input is read to its end
-/// or to the first byte past [`INPUT_LIMIT`](crate::devices::INPUT_LIMIT). `NoMemory` may stand in place of any of
-/// these that isn't found yet. After `Write` a beginning of the report was written, after any other refusal nothing.
+/// or to the first byte past [`INPUT_LIMIT`](crate::devices::INPUT_LIMIT). `NoMemory` and
+/// `NoThread` may stand in place of any of these that isn't found yet. After `Write` a beginning of the report was written, after any other refusal nothing.
 pub fn serve<R, S, K, W, G>(
     rt: &R,
     alloc: Global,
@@ -78,7 +94,7 @@ where
     ensures later_only { result ≡ Err ServeStop.Later → OfWholeInput (S.remaining reader.old) (S.remaining reader.new)
         (IsUnserved (map W.text words.now)) }
     ensures write_only { result ≡ Err ServeStop.Write → Failed (K.failures writer.old) (K.failures writer.new) }
-    ensures none_else { IfErr result (λ e. (e ≢ ServeStop.TooMany) × (e ≢ ServeStop.NoThread)) }
+    ensures none_else { IfErr result (λ e. e ≢ ServeStop.TooMany) }
 
     // Their order: whatever comes after the words has words that ask for something, and whatever comes after the
     // reads has no failed read.
@@ -92,8 +108,6 @@ where
         BeginsAnswer (map W.text words.now) input (K.contents writer.old) (K.contents writer.new)) }
     ensures nothing { IfErr result (λ e. e ≢ ServeStop.Write → writer.new ≡ writer.old) }
 {
-    let _rt = rt;
-    let _gate = gate;
     let request = match read_words(alloc, words) {
         Ok(request) => request,
         Err(WordsStop::Words) => return Err(ServeStop::Words),
@@ -105,7 +119,7 @@ where
         Err(InputStop::TooLong) => return Err(ServeStop::Input),
         Err(InputStop::NoMemory) => return Err(ServeStop::NoMemory),
     };
-    let report = match report(alloc, &request, input.as_slice()) {
+    let report = match report(rt, alloc, &request, input.as_slice(), gate) {
         Ok(report) => report,
         Err(stop) => return Err(stop),
     };

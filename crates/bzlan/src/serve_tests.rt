@@ -1,6 +1,6 @@
 //! Whole requests over memory: what is answered and refused, and devices that fail at any of their calls.
 
-use crate::gate::NoGate;
+use crate::NoGate;
 use crate::memory::{Failing, Page, Tape};
 use crate::serve::serve;
 use crate::stops::{ServeStop, closing};

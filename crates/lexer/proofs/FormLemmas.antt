@@ -8,7 +8,8 @@ use Rattle.lexer.specs.declared.token.Token as found
 use Rattle.lexer.specs.declared.forms.Expected.{Expected}
 use Rattle.lexer.specs.Tokens.{Token, Placed}
 use Rattle.lexer.specs.Seen.{seen, token_seen}
-use Rattle.lexer.specs.Form.{line_tokens, tokens_in, token_at, expected_seen}
+use Rattle.lexer.specs.declared.forms.BuildForm.{BuildForm}
+use Rattle.lexer.specs.Form.{IsBuild, build_lines, line_tokens, tokens_in, token_at, expected_seen}
 
 -- the tokens of a line that was read
 pub line_there : (text : List ℕ) (lines : List (List Placed)) (tokens : List found.Token) (i : ℕ)
@@ -111,3 +112,12 @@ four_items (w ∷ x ∷ y ∷ z ∷ v ∷ vs) a b c d l p q r s = absurd (omega 
 
 pub tokens_length : (lines : List (List Placed)) (n : ℕ) → length lines ≡ n → length (tokens_in lines) ≡ n
 tokens_length lines n e = length-map lines line_tokens ∙ e
+
+-- a BUILD file of the first form has one reading
+pub IsBuild-one : (lines : List (List Placed)) (f g : BuildForm) → IsBuild lines f → IsBuild lines g → f ≡ g
+IsBuild-one lines f g p q =
+    let e : build_lines f ≡ build_lines g = sym p.tokens ∙ q.tokens in
+    let m : f.module ≡ g.module = cc in
+    let r : f.rule ≡ g.rule = cc in
+    let t : f.target ≡ g.target = cc in
+    λ i. record { «module» = m i; rule = r i; target = t i }

@@ -5,6 +5,7 @@ pub mod ConsistLaws
 pub mod CutLaws
 pub mod FitsLaws
 pub mod FormLemmas
+pub mod SecondLemmas
 pub mod LaidOutLaws
 pub mod LayoutBackLaws
 pub mod LayoutLaws

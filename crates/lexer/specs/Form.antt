@@ -3,22 +3,17 @@
 -- A module of this form binds a provider with one field, a function that returns it with a number in that field, and a
 -- rule by this function. A BUILD file of this form loads one rule and calls it with a name. These forms, and the
 -- conditions on their names, are this project's own choice: they are the least that a build needs.
-use Rattle.std.specs.Prelude.{◌≡◌, ℕ, Bool, false, not, ◌&&◌, ◌||◌, ◌==◌, List, [], ◌∷◌, map, slice_get, Option, Some, Ok, bytes_eq, codes, IsTrue}
+use Rattle.std.specs.Prelude.{◌≡◌, ℕ, Bool, false, not, ◌&&◌, ◌||◌, ◌==◌, List, [], ◌∷◌, map, slice_get, Option, Some, bytes_eq, codes, IsTrue}
 use Rattle.std.specs.Option.{option_and_then}
 use Rattle.lexer.specs.declared.token.Word.TheVariants.{Def, Return, Load}
 use Rattle.lexer.specs.declared.token.Mark.TheVariants.{OpenParen, CloseParen, OpenBracket, CloseBracket, Comma, Colon, Assign}
-use Rattle.lexer.specs.declared.forms.FileKind.{FileKind}
-use Rattle.lexer.specs.declared.forms.FileKind.TheVariants as file
 use Rattle.lexer.specs.declared.forms.ModuleForm.{ModuleForm}
 use Rattle.lexer.specs.declared.forms.BuildForm.{BuildForm}
-use Rattle.lexer.specs.declared.forms.FirstForm.{FirstForm}
-use Rattle.lexer.specs.declared.forms.FirstForm.TheVariants as found
 use Rattle.lexer.specs.declared.forms.ModuleParts as parts
 use Rattle.lexer.specs.declared.forms.BuildParts as build_parts
 use Rattle.lexer.specs.declared.forms.Expected.{Expected}
 use Rattle.lexer.specs.declared.forms.Expected.TheVariants as expected
 use Rattle.lexer.specs.Tokens.{Token, Placed, name, number, string, word, mark}
-use Rattle.lexer.specs.Lines.{reading}
 
 -- `PROVIDER = provider(fields = ["FIELD"])`
 abbrev pub provider_line : ModuleForm → List Token
@@ -144,16 +139,6 @@ pub record IsModule (lines : List (List Placed)) (f : ModuleForm) : Type 0 where
 pub record IsBuild (lines : List (List Placed)) (f : BuildForm) : Type 0 where
   pub tokens : tokens_in lines ≡ build_lines f
   pub rule : IsTrue (is_loadable f.rule)
-
-abbrev pub AreLines : List (List Placed) → FileKind → FirstForm → Type 0
-AreLines lines file.Module (found.Module f) = IsModule lines f
-AreLines lines file.Build (found.Build f) = IsBuild lines f
-AreLines lines file.Module (found.Build f) = ⊥
-AreLines lines file.Build (found.Module f) = ⊥
-
--- a text has this form: it is read without a fault, and its logical lines are those of the form
-abbrev pub HasForm : List ℕ → FileKind → FirstForm → Type 0
-HasForm text kind form = (lines : List (List Placed)) × (reading text ≡ Ok lines) × AreLines lines kind form
 
 -- what stands at a place of a line: the bytes of a name or a string, or a number; nothing where there is no such token
 abbrev pub token_at : List (List Token) → ℕ → ℕ → Option Token

@@ -15,3 +15,6 @@ pub mod Fits
 pub mod Parts
 pub mod LaidOut
 pub mod Form
+pub mod Targets
+pub mod SecondForm
+pub mod FileForms

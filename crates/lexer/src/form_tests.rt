@@ -1,12 +1,28 @@
 //! Texts of the first form with their free parts, and texts that deviate from it in one place.
-use crate::{FileKind, FirstForm, form};
+use crate::{FileForm, FileKind, TargetsForm, form};
 use std::alloc::Global;
 use std::test::Fail;
 
+/// The module, the rule, and each target with the texts of its dependencies behind it, a `/` before each.
+fn targets_shown(alloc: Global, f: &TargetsForm) -> Result<String, Fail> {
+    let module = f.module();
+    let rule = f.rule();
+    let mut shown = format!(in alloc; "{module} {rule}")?;
+    for target in f.targets() {
+        shown.push_str(" ")?;
+        shown.push_str(target.name())?;
+        for dep in target.deps() {
+            shown.push_str("/")?;
+            shown.push_str(dep.as_str())?;
+        }
+    }
+    Ok(shown)
+}
+
 /// The free parts of a text in one line, or `none`.
-fn shown(alloc: Global, text: &str, kind: FileKind) -> Result<String, Fail> {
+pub(crate) fn shown(alloc: Global, text: &str, kind: FileKind) -> Result<String, Fail> {
     match form(alloc, text, kind)? {
-        Some(FirstForm::Module(f)) => {
+        Some(FileForm::Module(f)) => {
             let provider = f.provider.as_str();
             let implementation = f.implementation.as_str();
             let context = f.context.as_str();
@@ -15,12 +31,24 @@ fn shown(alloc: Global, text: &str, kind: FileKind) -> Result<String, Fail> {
             let number = f.number;
             Ok(format!(in alloc; "{provider} {implementation} {context} {rule} {field} {number}")?)
         }
-        Some(FirstForm::Build(f)) => {
+        Some(FileForm::DepsModule(f)) => {
+            let provider = f.provider.as_str();
+            let implementation = f.implementation.as_str();
+            let context = f.context.as_str();
+            let rule = f.rule.as_str();
+            let field = f.field.as_str();
+            let dependency = f.dependency.as_str();
+            Ok(format!(in alloc;
+                "{provider} {implementation} {context} {rule} {field} {dependency}"
+            )?)
+        }
+        Some(FileForm::Build(f)) => {
             let module = f.module.as_str();
             let rule = f.rule.as_str();
             let target = f.target.as_str();
             Ok(format!(in alloc; "{module} {rule} {target}")?)
         }
+        Some(FileForm::Targets(f)) => targets_shown(alloc, &f),
         None => Ok(String::from_str(alloc, "none")?),
     }
 }
@@ -149,7 +177,6 @@ fn other_build_files_have_none(rt: HostRuntime) -> Result<(), Fail> {
     for text in [
         "",
         "load(\":i.bzl\", \"r\")\n",
-        "load(\":i.bzl\", \"r\")\nr(name = \"x\")\nr(name = \"y\")\n",
         "load(\":i.bzl\" \"r\")\nr(name = \"x\")\n",
         "load(\":i.bzl\", \"r\")\ns(name = \"x\")\n",
         "load(\":i.bzl\", \"_r\")\n_r(name = \"x\")\n",

@@ -1,14 +1,18 @@
-//! The first form of a text: the least module and the least `BUILD` file, each with its free parts.
+//! The forms of a text. Here is the first: the least module and the least `BUILD` file, each with its free parts.
 //!
 //! The free parts are taken from their places first; then each line is compared with the tokens that it has to have.
 
 ghost use Rattle.std.specs.Prelude.{◌≡◌, ◌↔◌, ◌<◌, map, length, Some, None, IfOk, IfSome, IsTrue, bytes_eq, string_bytes, slice_get};
 ghost use Rattle.std.specs.Option.{option_map};
 ghost use Rattle.lexer.specs.Seen.{seen, token_seen};
-ghost use Rattle.lexer.specs.Form.{HasForm, IsModule, IsBuild, line_tokens, tokens_in, module_lines, build_lines, token_at, name_at, number_at, string_at, module_parts, module_seen, build_seen, expected_seen, provider_line, head_line, return_line, rule_line, load_line, target_line, is_at_margin, is_predeclared_value, is_predeclared_function, is_predeclared_for_rules, is_predeclared, is_hidden, is_other, are_distinct, are_free, are_module_names, is_loadable};
+ghost use Rattle.lexer.specs.FileForms.{AreLines, HasForm};
+ghost use Rattle.lexer.specs.declared.forms.FileKind.TheVariants as file;
+ghost use Rattle.lexer.specs.declared.forms.FileForm.TheVariants as found;
+ghost use Rattle.lexer.specs.Form.{IsModule, IsBuild, line_tokens, tokens_in, module_lines, build_lines, token_at, name_at, number_at, string_at, module_parts, module_seen, build_seen, expected_seen, provider_line, head_line, return_line, rule_line, load_line, target_line, is_at_margin, is_predeclared_value, is_predeclared_function, is_predeclared_for_rules, is_predeclared, is_hidden, is_other, are_distinct, are_free, are_module_names, is_loadable};
 
 use crate::fault::ParseStop;
 use crate::lines::{Lines, logical_lines};
+use crate::second_form::{DepsModuleForm, TargetsForm, deps_module_form, targets_form};
 use crate::strings::{stands_for, unescape};
 use crate::token::{Kind, Mark, Token, Word};
 use plain::Text;
@@ -51,11 +55,17 @@ pub struct BuildForm {
     pub target: Text,
 }
 
-/// A text of the first form, by its free parts.
+/// A text of a form, by its free parts.
 #[derive(Drop)]
-pub enum FirstForm {
+pub enum FileForm {
+    /// A module of the first form.
     Module(ModuleForm),
+    /// A module of the second form, whose rule has dependencies.
+    DepsModule(DepsModuleForm),
+    /// A `BUILD` file of the first form, with one target.
     Build(BuildForm),
+    /// A `BUILD` file of the second form, with several targets or with one.
+    Targets(TargetsForm),
 }
 
 /// Memory was refused; the text may have the form or not.
@@ -70,7 +80,7 @@ impl From<AllocError> for NoMemory {
 
 /// A token that a line has to have at some place.
 #[derive(Clone, Copy)]
-enum Expected<'p> {
+pub(crate) enum Expected<'p> {
     Name(&'p str),
     Number(u64),
     /// A string, by its bytes after its escapes were read.
@@ -81,21 +91,21 @@ enum Expected<'p> {
 
 /// The free parts of a module, as parts of its text.
 #[derive(Clone, Copy)]
-struct ModuleParts<'p> {
-    provider: &'p str,
-    implementation: &'p str,
-    context: &'p str,
-    rule: &'p str,
-    field: &'p str,
-    number: u64,
+pub(crate) struct ModuleParts<'p> {
+    pub(crate) provider: &'p str,
+    pub(crate) implementation: &'p str,
+    pub(crate) context: &'p str,
+    pub(crate) rule: &'p str,
+    pub(crate) field: &'p str,
+    pub(crate) number: u64,
 }
 
 /// The free parts of a `BUILD` file.
 #[derive(Clone, Copy)]
-struct BuildParts<'p> {
-    module: &'p str,
-    rule: &'p str,
-    target: &'p str,
+pub(crate) struct BuildParts<'p> {
+    pub(crate) module: &'p str,
+    pub(crate) rule: &'p str,
+    pub(crate) target: &'p str,
 }
 
 /// The token at a place, if there is one.
@@ -119,7 +129,7 @@ fn kind_at(lines: &Lines, line: usize, place: usize) -> Option<Kind>
 }
 
 /// The name at a place of a line, or the empty text.
-fn name_at<'t>(lines: &'t Lines, line: usize, place: usize) -> &'t str
+pub(crate) fn name_at<'t>(lines: &'t Lines, line: usize, place: usize) -> &'t str
     ensures { result.now ≡ name_at (tokens_in lines.now.lines) line place }
 {
     match kind_at(lines, line, place) {
@@ -139,7 +149,12 @@ fn number_at(lines: &Lines, line: usize, place: usize) -> u64
 }
 
 /// The string at a place of a line, with its escapes read, or the empty text.
-fn string_at(alloc: Global, lines: &Lines, line: usize, place: usize) -> Result<String, NoMemory>
+pub(crate) fn string_at(
+    alloc: Global,
+    lines: &Lines,
+    line: usize,
+    place: usize,
+) -> Result<String, NoMemory>
     ensures { IfOk result (λ s. string_bytes s ≡ string_at (tokens_in lines.now.lines) line place) }
 {
     match kind_at(lines, line, place) {
@@ -148,7 +163,7 @@ fn string_at(alloc: Global, lines: &Lines, line: usize, place: usize) -> Result<
     }
 }
 
-fn spells(name: &str, spelling: &str) -> bool
+pub(crate) fn spells(name: &str, spelling: &str) -> bool
     ensures { result ≡ bytes_eq name.now spelling.now }
 {
     name == spelling
@@ -223,7 +238,7 @@ fn are_tokens(lines: &Lines, tokens: &[Token], expected: &[Expected]) -> bool
 }
 
 /// Whether there is this line, and its tokens are those that are expected.
-fn is_line(lines: &Lines, line: usize, expected: &[Expected]) -> bool
+pub(crate) fn is_line(lines: &Lines, line: usize, expected: &[Expected]) -> bool
     ensures { IsTrue result ↔ (slice_get (tokens_in lines.now.lines) line ≡ Some (map expected_seen expected.now)) }
 {
     if line >= lines.len() {
@@ -232,7 +247,7 @@ fn is_line(lines: &Lines, line: usize, expected: &[Expected]) -> bool
     are_tokens(lines, lines.line(line), expected)
 }
 
-fn is_provider_line(lines: &Lines, parts: &ModuleParts) -> bool
+pub(crate) fn is_provider_line(lines: &Lines, parts: &ModuleParts) -> bool
     ensures { IsTrue result ↔ (slice_get (tokens_in lines.now.lines) 0 ≡ Some (provider_line (module_seen parts.now))) }
 {
     is_line(
@@ -253,7 +268,7 @@ fn is_provider_line(lines: &Lines, parts: &ModuleParts) -> bool
     )
 }
 
-fn is_head_line(lines: &Lines, parts: &ModuleParts) -> bool
+pub(crate) fn is_head_line(lines: &Lines, parts: &ModuleParts) -> bool
     ensures { IsTrue result ↔ (slice_get (tokens_in lines.now.lines) 1 ≡ Some (head_line (module_seen parts.now))) }
 {
     is_line(
@@ -309,7 +324,7 @@ fn is_rule_line(lines: &Lines, parts: &ModuleParts) -> bool
     )
 }
 
-fn is_load_line(lines: &Lines, parts: &BuildParts) -> bool
+pub(crate) fn is_load_line(lines: &Lines, parts: &BuildParts) -> bool
     ensures { IsTrue result ↔ (slice_get (tokens_in lines.now.lines) 0 ≡ Some (load_line (build_seen parts.now))) }
 {
     is_line(
@@ -344,7 +359,7 @@ fn is_target_line(lines: &Lines, parts: &BuildParts) -> bool
 }
 
 /// Whether there is this line, and its first token is at the left margin.
-fn is_at_margin(lines: &Lines, line: usize) -> bool
+pub(crate) fn is_at_margin(lines: &Lines, line: usize) -> bool
     ensures { result ≡ is_at_margin (slice_get lines.now.lines line) }
 {
     if line >= lines.len() {
@@ -383,7 +398,7 @@ fn is_predeclared_for_rules(name: &str) -> bool
 }
 
 /// Whether each file finds this name bound.
-fn is_predeclared(name: &str) -> bool
+pub(crate) fn is_predeclared(name: &str) -> bool
     ensures { result ≡ is_predeclared name.now }
 {
     is_predeclared_value(name) || is_predeclared_function(name) || is_predeclared_for_rules(name)
@@ -399,7 +414,7 @@ fn is_hidden(name: &str) -> bool
     }
 }
 
-fn is_other(a: &str, b: &str) -> bool
+pub(crate) fn is_other(a: &str, b: &str) -> bool
     ensures { result ≡ is_other a.now b.now }
 {
     !spells(a, b)
@@ -432,14 +447,14 @@ fn are_free(parts: &ModuleParts) -> bool
         && !is_predeclared(parts.field)
 }
 
-fn are_module_names(parts: &ModuleParts) -> bool
+pub(crate) fn are_module_names(parts: &ModuleParts) -> bool
     ensures { result ≡ are_module_names (module_seen parts.now) }
 {
     are_distinct(parts) && are_free(parts) && !is_hidden(parts.rule)
 }
 
 /// Whether a `BUILD` file may load a name.
-fn is_loadable(name: &str) -> bool
+pub(crate) fn is_loadable(name: &str) -> bool
     ensures { result ≡ is_loadable name.now }
 {
     !is_predeclared(name) && !is_hidden(name)
@@ -499,7 +514,7 @@ fn is_build(lines: &Lines, parts: &BuildParts) -> bool
 }
 
 /// What stands where a module has its free parts.
-fn module_parts<'t>(lines: &'t Lines) -> ModuleParts<'t>
+pub(crate) fn module_parts<'t>(lines: &'t Lines) -> ModuleParts<'t>
     ensures { module_seen result ≡ module_parts (tokens_in lines.now.lines) }
 {
     ModuleParts {
@@ -543,6 +558,7 @@ fn module_form(alloc: Global, lines: &Lines) -> Result<Option<ModuleForm>, NoMem
 fn build_form(alloc: Global, lines: &Lines) -> Result<Option<BuildForm>, NoMemory>
     ensures form { IfOk result (λ r. IfSome r (λ f. IsBuild lines.now.lines f)) }
     ensures none { IfOk result (λ r. r ≡ None → (f : BuildForm) → IsBuild lines.now.lines f → ⊥) }
+    ensures one { IfOk result (λ r. (f : BuildForm) → IsBuild lines.now.lines f → r ≡ Some f) }
 {
     let module = string_at(alloc, lines, 0, 2)?;
     let rule = name_at(lines, 1, 0);
@@ -562,15 +578,47 @@ fn build_form(alloc: Global, lines: &Lines) -> Result<Option<BuildForm>, NoMemor
     }))
 }
 
-/// The free parts of a text of the first form, or `None` where the text is not of this form: because of a fault of its
-/// characters, tokens, brackets or columns, or because of a line that the form doesn't have.
+/// The form of the lines of a module.
+fn form_of_module(alloc: Global, lines: &Lines) -> Result<Option<FileForm>, NoMemory>
+    ensures form { IfOk result (λ r. IfSome r (λ f. AreLines lines.now.lines file.Module f)) }
+    ensures none { IfOk result (λ r. r ≡ None → (f : FileForm) → AreLines lines.now.lines file.Module f → ⊥) }
+{
+    if let Some(form) = module_form(alloc, lines)? {
+        return Ok(Some(FileForm::Module(form)));
+    }
+    match deps_module_form(alloc, lines)? {
+        Some(form) => Ok(Some(FileForm::DepsModule(form))),
+        None => Ok(None),
+    }
+}
+
+/// The form of the lines of a `BUILD` file.
+fn form_of_build(alloc: Global, lines: &Lines) -> Result<Option<FileForm>, NoMemory>
+    ensures form { IfOk result (λ r. IfSome r (λ f. AreLines lines.now.lines file.Build f)) }
+    ensures none { IfOk result (λ r. r ≡ None → (f : FileForm) → AreLines lines.now.lines file.Build f → ⊥) }
+    ensures first { IfOk result (λ r. (f : BuildForm) → IsBuild lines.now.lines f → r ≡ Some (found.Build f)) }
+{
+    if let Some(form) = build_form(alloc, lines)? {
+        return Ok(Some(FileForm::Build(form)));
+    }
+    match targets_form(alloc, lines)? {
+        Some(form) => Ok(Some(FileForm::Targets(form))),
+        None => Ok(None),
+    }
+}
+
+/// The free parts of a text of the first or the second form, or `None` where the text is of neither form: because of a
+/// fault of its characters, tokens, brackets or columns, or because of a line that the forms don't have.
+///
+/// A `BUILD` file with one target that has no dependencies has both forms; the first is given.
 ///
 /// # Errors
 ///
 /// `NoMemory` where memory for the tokens or for the parts was refused.
-pub fn form(alloc: Global, text: &str, kind: FileKind) -> Result<Option<FirstForm>, NoMemory>
+pub fn form(alloc: Global, text: &str, kind: FileKind) -> Result<Option<FileForm>, NoMemory>
     ensures form { IfOk result (λ r. IfSome r (λ f. HasForm text.now kind f)) }
-    ensures none { IfOk result (λ r. r ≡ None → (f : FirstForm) → HasForm text.now kind f → ⊥) }
+    ensures none { IfOk result (λ r. r ≡ None → (f : FileForm) → HasForm text.now kind f → ⊥) }
+    ensures first { IfOk result (λ r. (f : BuildForm) → HasForm text.now kind (found.Build f) → r ≡ Some (found.Build f)) }
 {
     let lines = match logical_lines(alloc, text) {
         Ok(lines) => lines,
@@ -578,13 +626,7 @@ pub fn form(alloc: Global, text: &str, kind: FileKind) -> Result<Option<FirstFor
         Err(ParseStop::NoMemory) => return Err(NoMemory),
     };
     match kind {
-        FileKind::Module => match module_form(alloc, &lines)? {
-            Some(form) => Ok(Some(FirstForm::Module(form))),
-            None => Ok(None),
-        },
-        FileKind::Build => match build_form(alloc, &lines)? {
-            Some(form) => Ok(Some(FirstForm::Build(form))),
-            None => Ok(None),
-        },
+        FileKind::Module => form_of_module(alloc, &lines),
+        FileKind::Build => form_of_build(alloc, &lines),
     }
 }

@@ -16,22 +16,26 @@ mod layout;
 mod lines;
 mod numbers;
 mod scan;
+mod second_form;
 mod strings;
 mod token;
 mod words;
 
 pub use fault::{FaultKind, ParseStop, SyntaxFault};
-pub use forms::{BuildForm, FileKind, FirstForm, ModuleForm, NoMemory, form};
+pub use forms::{BuildForm, FileForm, FileKind, ModuleForm, NoMemory, form};
 pub use laws::{
     at_most_one_reading, reads_what_is_laid_out, tokens_are_the_longest_that_fit,
     tokens_are_those_of_the_parts,
 };
 pub use layout::Bracket;
 pub use lines::{Lines, logical_lines};
+pub use second_form::{DepsModuleForm, TARGET_LIMIT, TargetForm, TargetsForm};
 pub use strings::unescape;
 pub use token::{Kind, Mark, Span, Token, Word};
 
 #[cfg(test)]
 mod form_tests;
+#[cfg(test)]
+mod second_form_tests;
 #[cfg(test)]
 mod tests;

@@ -1,12 +1,15 @@
 use Rattle.std.proofs.Common.{◌≡◌, ◌∙◌, Err, ap}
 use Rattle.bzlan.specs.FirstAnswer.{first_answer}
-use Rattle.bzlan.specs.Seen.{first_seen}
+use Rattle.bzlan.specs.SecondAnswer.{second_answer}
+use Rattle.bzlan.specs.SecondForm.{AsksSecond}
+use Rattle.bzlan.specs.Seen.{first_seen, second_seen}
 use Rattle.bzlan.specs.declared.stops.AnalyseStop.TheVariants.{Later}
-use Rattle.bzlan.proofs.AnswerLemmas.{first-Answers, first-quiet, nothing, nothing-Answers}
+use Rattle.bzlan.proofs.AnswerLemmas.{first-Answers, first-quiet, nothing, nothing-Answers, second-Answers}
+use Rattle.bzlan.proofs.BlockLemmas.{second-quiet}
 use Rattle.bzlan.proofs.engine.analysed.Goals as goal
 
 pub returns-in-Ok-Nothing-clause-ok : goal.returns-in-Ok-Nothing-clause-ok
-returns-in-Ok-Nothing-clause-ok c = record {
+returns-in-Ok-Nothing-clause-ok g c = record {
   answer = nothing;
   answers = nothing-Answers c.args.workspace.now c.args.labels.now c.args.limit (rw c.in-Ok-Nothing.field-0-is at c.in-Ok-Nothing.ensures.ok);
   told = ap (λ v. v.items) c.quiet.ensures.bytes ∙ c.new.ensures.items;
@@ -14,7 +17,7 @@ returns-in-Ok-Nothing-clause-ok c = record {
 }
 
 pub returns-in-Ok-clause-ok : goal.returns-in-Ok-clause-ok
-returns-in-Ok-clause-ok c =
+returns-in-Ok-clause-ok g c =
     let f = first_seen c.in-Ok-Target.first in
     record {
       answer = first_answer f c.args.labels.now;
@@ -24,6 +27,17 @@ returns-in-Ok-clause-ok c =
     }
 
 pub returns-clause-later : goal.returns-clause-later
-returns-clause-later c e =
+returns-clause-later g c e =
     let same : c.in-Err.stop ≡ Later = cc in
     c.in-Err.ensures.later (ap (λ s. Err s) same)
+
+pub returns-in-Ok-second_report-clause-ok : goal.returns-in-Ok-second_report-clause-ok
+returns-in-Ok-second_report-clause-ok g c =
+    let f = second_seen c.in-Ok-Targets.second in
+    let asks : AsksSecond c.args.workspace.now c.args.labels.now c.args.limit f = rw c.in-Ok-Targets.field-0-is at c.in-Ok-Targets.ensures.ok in
+    record {
+      answer = second_answer f c.args.labels.now;
+      answers = second-Answers c.args.workspace.now c.args.labels.now c.args.limit f asks;
+      told = ap (λ v. v.items) c.quiet-in-Ok-second_report.ensures.bytes ∙ c.in-Ok-second_report.ensures;
+      loud = c.quiet-in-Ok-second_report.ensures.loud ∙ second-quiet f asks.form.targets c.args.labels.now;
+    }

@@ -6,7 +6,7 @@ use Rattle.bzlan.proofs.AnswerLemmas.{first-text}
 use Rattle.bzlan.proofs.engine.target_report.Goals as goal
 
 pub returns-clause-bytes : goal.returns-clause-bytes
-returns-clause-bytes c =
+returns-clause-bytes g c =
     ap (λ v. v.items) c.quiet-2.ensures.bytes
     ∙ ap (λ v. v.items) c.into_bytes.ensures.value
     ∙ c.in_ok-text.ensures

@@ -1,6 +1,6 @@
 use Rattle.std.proofs.Common.{refl}
-use Rattle.lexer.specs.declared.forms.FirstForm.TheVariants as found
+use Rattle.lexer.specs.declared.forms.FileForm.TheVariants as found
 use Rattle.bzlan.proofs.first.module_form.Goals as goal
 
-pub returns-in-None-clause-none : goal.returns-in-None-clause-none
-returns-in-None-clause-none c _ f has = (rw c.in-None.is at c.in_ok-rules.ensures.none) refl (found.Module f) has
+pub returns-clause-none : goal.returns-clause-none
+returns-clause-none c _ f has = (rw c.in-None.is at c.in_ok-rules.ensures.none) refl (found.Module f) has
