@@ -33,3 +33,9 @@ pub mod BuiltLemmas
 pub mod CappedForms
 pub mod ListedForms
 pub mod SimpleForms
+pub mod CommaForms
+pub mod HeadForms
+pub mod WholeForms
+pub mod OutlinesMade
+pub mod ReadLemmas
+pub mod ScopeLemmas

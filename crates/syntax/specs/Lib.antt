@@ -27,3 +27,6 @@ pub mod Built
 pub mod LineView
 pub mod BuiltView
 pub mod FormDescent
+pub mod LineForm
+pub mod FormView
+pub mod ScopeView

@@ -1,17 +1,26 @@
-//! The grammar of `BUILD` files and modules: from the logical lines of a text to trees.
+//! The grammar of `BUILD` files and modules: from the bytes of a text to its tree, or to its first fault.
 //!
-//! The lines come from crate `lexer`. [`expressions`] reads a tree ([`tree`]) from the front of what is left of a line
-//! ([`ahead`]), and [`whole`] from a whole line.
+//! The first three of the five passes give the logical lines, and are those of crate `lexer`. The fourth
+//! ([`statement_pass`]) reads the form of each line ([`line_forms`]), its expressions ([`expressions`]) from the front of
+//! what is left of it ([`ahead`]), sees that the lines stand where they may ([`outline`]), and puts them into blocks
+//! ([`blocks`]). The fifth ([`scope_pass`]) looks at the names. [`parsing`] joins the five.
 #![tactic(auto)]
 
 mod ahead;
 mod blocks;
 mod expressions;
 pub mod file_laws;
+pub mod form_laws;
 pub mod grammar_laws;
+mod line_forms;
 mod names;
 mod outline;
+mod parsing;
 mod parts;
+mod scope;
+mod scope_pass;
+mod scope_rules;
+mod statement_pass;
 pub mod statements;
 mod tree;
 mod whole;
@@ -21,8 +30,11 @@ pub use lexer::{
     Word, logical_lines,
 };
 pub use names::{Predeclared, predeclared_as};
+pub use parsing::{Parsed, parse};
 pub use tree::{Clause, Entry, Expr, Keyword, Operator, Sign};
 pub use whole::{MAX_DEPTH, line_expression};
 
 #[cfg(test)]
 mod expression_tests;
+#[cfg(test)]
+mod parse_tests;

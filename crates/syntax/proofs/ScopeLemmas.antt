@@ -1,0 +1,263 @@
+-- Names among others: which are bound, and each once.
+use Rattle.std.proofs.Common.{◌≡◌, ℕ, suc, Bool, true, false, not, ◌&&◌, ◌||◌, List, [], ◌∷◌, ◌++◌, Option, Some, None, refl, sym, ap, ◌∙◌, subst, if◌then◌else◌, inl, inr, ◌⊎◌}
+use Rattle.std.specs.Prelude.{is_some, option_map, bytes_eq, fold}
+use Rattle.std.specs.Bool.{one_answer}
+use Rattle.std.specs.List.{list_any}
+use Rattle.std.proofs.lemmas.List.Folds.{list_any-append}
+use Rattle.std.proofs.lemmas.Slice.Eq.{bytes_eq-Decides}
+use Rattle.indexmap.specs.IndexSet.{insert_key, insert_all}
+use Rattle.syntax.specs.Names.{Name, Ref, slot, global, builtin, Scope, or_else, among, apart, distinct, once, without, last_place, predeclared, stands_for}
+use Rattle.syntax.specs.BareLines.{Form, Lines, no_lines, a_line}
+use Rattle.syntax.specs.Names.{form_binds, scope_of}
+use Rattle.syntax.specs.Scopes.{adds_to_name, is_bound, line_scoped, lines_fault, top_fault, top_line_scoped, unless}
+
+is_some_or : {A : Type 0} (a b : Option A) → is_some (or_else a b) ≡ (is_some a || is_some b)
+is_some_or None b = refl
+is_some_or (Some a) b = refl
+
+is_some_map : {A B : Type 0} (f : A → B) (o : Option A) → is_some (option_map f o) ≡ is_some o
+is_some_map f None = refl
+is_some_map f (Some a) = refl
+
+place_or : (b m : Bool) (n : ℕ) → (m || is_some (if b then Some n else None)) ≡ (b || m)
+place_or true true n = refl
+place_or true false n = refl
+place_or false true n = refl
+place_or false false n = refl
+
+place_some : (x : Name) (n : ℕ) (ys : List Name) → is_some (last_place x n ys) ≡ among x ys
+place_some x n [] = refl
+place_some x n (y ∷ ys) =
+    is_some_or (last_place x (suc n) ys) (if bytes_eq x y then Some n else None)
+    ∙ ap (λ m. m || is_some (if bytes_eq x y then Some n else None)) (place_some x (suc n) ys)
+    ∙ place_or (bytes_eq x y) (among x ys) n
+
+-- a name is bound where it is among the slots or the names of the top level, or is predeclared
+pub bound_is : (s : Scope) (x : Name) → is_bound s x ≡ (among x s.slots || (among x s.globals || is_some (predeclared x)))
+bound_is s x =
+    is_some_or (option_map slot (last_place x 0 s.slots)) (or_else (option_map global (last_place x 0 s.globals)) (option_map builtin (predeclared x)))
+    ∙ ap (λ b. b || is_some (or_else (option_map global (last_place x 0 s.globals)) (option_map builtin (predeclared x)))) (is_some_map slot (last_place x 0 s.slots) ∙ place_some x 0 s.slots)
+    ∙ ap (λ b. among x s.slots || b)
+    (is_some_or (option_map global (last_place x 0 s.globals)) (option_map builtin (predeclared x))
+    ∙ ap (λ b. b || is_some (option_map builtin (predeclared x))) (is_some_map global (last_place x 0 s.globals) ∙ place_some x 0 s.globals)
+    ∙ ap (λ b. among x s.globals || b) (is_some_map builtin (predeclared x)))
+
+-- names that are equal, by the test
+same_name : (x y : Name) → bytes_eq x y ≡ true → x ≡ y
+same_name x y e = (bytes_eq-Decides x y).0 e
+
+eq_sym : (x y : Name) → bytes_eq x y ≡ bytes_eq y x
+eq_sym x y = one_answer (bytes_eq x y) (bytes_eq y x) (bytes_eq-Decides x y) ((λ e. sym ((bytes_eq-Decides y x).0 e)), λ p. (bytes_eq-Decides y x).1 (sym p))
+
+-- the names that aren't among those
+abbrev pub lacking : List Name → List Name → List Name
+lacking ks [] = []
+lacking ks (y ∷ ys) = if among y ks then lacking ks ys else y ∷ lacking ks ys
+
+or_false : (b : Bool) → (b || false) ≡ b
+or_false true = refl
+or_false false = refl
+
+among_snoc : (y : Name) (ks : List Name) (x : Name) → among y (ks ++ x ∷ []) ≡ (among y ks || bytes_eq y x)
+among_snoc y ks x = list_any-append (bytes_eq y) ks (x ∷ []) ∙ ap (λ b. among y ks || b) (or_false (bytes_eq y x))
+
+lacking_without : (ks : List Name) (x : Name) → among x ks ≡ true → (ys : List Name) → lacking ks (without x ys) ≡ lacking ks ys
+lacking_without ks x h [] = refl
+lacking_without ks x h (y ∷ ys) = by (lacking_without ks x h ys) (bytes_eq x y) refl
+  where
+    by : lacking ks (without x ys) ≡ lacking ks ys → (b : Bool) → bytes_eq x y ≡ b → lacking ks (without x (y ∷ ys)) ≡ lacking ks (y ∷ ys)
+    by ih true e =
+        let there : among y ks ≡ true = subst (λ z. among z ks ≡ true) (same_name x y e) h in
+        ap (λ b. lacking ks (if b then without x ys else y ∷ without x ys)) e
+        ∙ ih
+        ∙ sym (ap (λ b. if b then lacking ks ys else y ∷ lacking ks ys) there)
+    by ih false e =
+        ap (λ b. lacking ks (if b then without x ys else y ∷ without x ys)) e
+        ∙ ap (λ l. if among y ks then l else y ∷ l) ih
+
+lacking_more : (ks : List Name) (x : Name) (ys : List Name) → lacking (ks ++ x ∷ []) ys ≡ lacking ks (without x ys)
+lacking_more ks x [] = refl
+lacking_more ks x (y ∷ ys) = by (lacking_more ks x ys) (bytes_eq x y) refl
+  where
+    or_true : (b : Bool) → (b || true) ≡ true
+    or_true true = refl
+    or_true false = refl
+
+    by : lacking (ks ++ x ∷ []) ys ≡ lacking ks (without x ys) → (b : Bool) → bytes_eq x y ≡ b → lacking (ks ++ x ∷ []) (y ∷ ys) ≡ lacking ks (without x (y ∷ ys))
+    by ih true e =
+        let there : among y (ks ++ x ∷ []) ≡ true = among_snoc y ks x ∙ ap (λ b. among y ks || b) (eq_sym y x ∙ e) ∙ or_true (among y ks) in
+        ap (λ b. if b then lacking (ks ++ x ∷ []) ys else y ∷ lacking (ks ++ x ∷ []) ys) there
+        ∙ ih
+        ∙ sym (ap (λ b. lacking ks (if b then without x ys else y ∷ without x ys)) e)
+    by ih false e =
+        let there : among y (ks ++ x ∷ []) ≡ among y ks = among_snoc y ks x ∙ ap (λ b. among y ks || b) (eq_sym y x ∙ e) ∙ or_false (among y ks) in
+        ap (λ b. if b then lacking (ks ++ x ∷ []) ys else y ∷ lacking (ks ++ x ∷ []) ys) there
+        ∙ ap (λ l. if among y ks then l else y ∷ l) ih
+        ∙ sym (ap (λ b. lacking ks (if b then without x ys else y ∷ without x ys)) e)
+
+append_none : (s : List Name) → s ++ [] ≡ s
+append_none [] = refl
+append_none (b ∷ s) = ap (λ t. b ∷ t) (append_none s)
+
+append_more : (s : List Name) (b : Name) (l : List Name) → (s ++ b ∷ []) ++ l ≡ s ++ b ∷ l
+append_more [] b l = refl
+append_more (c ∷ s) b l = ap (λ t. c ∷ t) (append_more s b l)
+
+-- names that are put into a set one after the other
+insert_lacking : (ks xs : List Name) → insert_all bytes_eq ks xs ≡ ks ++ lacking ks (once xs)
+insert_lacking ks [] = sym (append_none ks)
+insert_lacking ks (x ∷ xs) = by (insert_lacking ks xs) (insert_lacking (ks ++ x ∷ []) xs) (among x ks) refl
+  where
+    by : insert_all bytes_eq ks xs ≡ ks ++ lacking ks (once xs) → insert_all bytes_eq (ks ++ x ∷ []) xs ≡ (ks ++ x ∷ []) ++ lacking (ks ++ x ∷ []) (once xs) → (b : Bool) → among x ks ≡ b
+        → insert_all bytes_eq ks (x ∷ xs) ≡ ks ++ lacking ks (once (x ∷ xs))
+    by ih more true e =
+        ap (λ b. insert_all bytes_eq (if b then ks else ks ++ x ∷ []) xs) e
+        ∙ ih
+        ∙ ap (λ l. ks ++ l) (sym (lacking_without ks x e (once xs)) ∙ sym (ap (λ b. if b then lacking ks (without x (once xs)) else x ∷ lacking ks (without x (once xs))) e))
+    by ih more false e =
+        ap (λ b. insert_all bytes_eq (if b then ks else ks ++ x ∷ []) xs) e
+        ∙ more
+        ∙ append_more ks x (lacking (ks ++ x ∷ []) (once xs))
+        ∙ ap (λ l. ks ++ x ∷ l) (lacking_more ks x (once xs))
+        ∙ ap (λ l. ks ++ l) (sym (ap (λ b. if b then lacking ks (without x (once xs)) else x ∷ lacking ks (without x (once xs))) e))
+
+lacking_none : (ys : List Name) → lacking [] ys ≡ ys
+lacking_none [] = refl
+lacking_none (y ∷ ys) = ap (λ l. y ∷ l) (lacking_none ys)
+
+pub insert_once : (xs : List Name) → insert_all bytes_eq [] xs ≡ once xs
+insert_once xs = insert_lacking [] xs ∙ lacking_none (once xs)
+
+-- the same names
+without_other : (x y : Name) → bytes_eq x y ≡ false → (zs : List Name) → among x (without y zs) ≡ among x zs
+without_other x y e [] = refl
+without_other x y e (z ∷ zs) = by (without_other x y e zs) (bytes_eq y z) refl
+  where
+    by : among x (without y zs) ≡ among x zs → (b : Bool) → bytes_eq y z ≡ b → among x (without y (z ∷ zs)) ≡ among x (z ∷ zs)
+    by ih true h =
+        ap (λ b. among x (if b then without y zs else z ∷ without y zs)) h
+        ∙ ih
+        ∙ ap (λ b. b || among x zs) (sym (subst (λ w. bytes_eq x w ≡ false) (same_name y z h) e))
+    by ih false h =
+        ap (λ b. among x (if b then without y zs else z ∷ without y zs)) h
+        ∙ ap (λ b. bytes_eq x z || b) ih
+
+pub once_same : (x : Name) (ys : List Name) → among x (once ys) ≡ among x ys
+once_same x [] = refl
+once_same x (y ∷ ys) = by (once_same x ys) (bytes_eq x y) refl
+  where
+    by : among x (once ys) ≡ among x ys → (b : Bool) → bytes_eq x y ≡ b → among x (once (y ∷ ys)) ≡ among x (y ∷ ys)
+    by ih true e = ap (λ b. b || among x (without y (once ys))) e ∙ sym (ap (λ b. b || among x ys) e)
+    by ih false e = ap (λ b. bytes_eq x y || b) (without_other x y e (once ys) ∙ ih)
+
+-- names that are new beside others
+and_swap : (a b c d : Bool) → (not (a || b) && (c && not d)) ≡ ((not a && c) && not (b || d))
+and_swap true b c d = refl
+and_swap false true true d = refl
+and_swap false true false d = refl
+and_swap false false true d = refl
+and_swap false false false d = refl
+
+apart_snoc : (xs ks : List Name) (x : Name) → apart xs (ks ++ x ∷ []) ≡ (apart xs ks && not (among x xs))
+apart_snoc [] ks x = refl
+apart_snoc (y ∷ ys) ks x =
+    ap (λ b. not b && apart ys (ks ++ x ∷ [])) (among_snoc y ks x ∙ ap (λ b. among y ks || b) (eq_sym y x))
+    ∙ ap (λ b. not (among y ks || bytes_eq x y) && b) (apart_snoc ys ks x)
+    ∙ and_swap (among y ks) (bytes_eq x y) (apart ys ks) (among x ys)
+
+and_turn : (a b c : Bool) → ((not a && b) && (true && c)) ≡ (b && (c && not a))
+and_turn true true true = refl
+and_turn true true false = refl
+and_turn true false c = refl
+and_turn false true true = refl
+and_turn false true false = refl
+and_turn false false c = refl
+
+pub anew_next : (x : Name) (xs ks : List Name) → among x ks ≡ false → (distinct (x ∷ xs) && apart (x ∷ xs) ks) ≡ (distinct xs && apart xs (ks ++ x ∷ []))
+anew_next x xs ks e =
+    ap (λ b. (not (among x xs) && distinct xs) && (not b && apart xs ks)) e
+    ∙ and_turn (among x xs) (distinct xs) (apart xs ks)
+    ∙ ap (λ b. distinct xs && b) (sym (apart_snoc xs ks x))
+
+and_false : (a b : Bool) → (a && (false && b)) ≡ false
+and_false true b = refl
+and_false false b = refl
+
+pub anew_refused : (x : Name) (xs ks : List Name) → among x ks ≡ true → (distinct (x ∷ xs) && apart (x ∷ xs) ks) ≡ false
+anew_refused x xs ks e = ap (λ b. distinct (x ∷ xs) && (not b && apart xs ks)) e ∙ and_false (distinct (x ∷ xs)) (apart xs ks)
+
+pub new_keys : (ks : List Name) (k : Name) → among k ks ≡ false → insert_key bytes_eq ks k ≡ ks ++ k ∷ []
+new_keys ks k e = ap (λ b. if b then ks else ks ++ k ∷ []) e
+
+or_turn : (a b c : Bool) → (a || (b || (c || false))) ≡ (c || (a || b))
+or_turn true true true = refl
+or_turn true true false = refl
+or_turn true false true = refl
+or_turn true false false = refl
+or_turn false true true = refl
+or_turn false true false = refl
+or_turn false false true = refl
+or_turn false false false = refl
+
+pub among_turn : (x : Name) (xs ks : List Name) (y : Name) → among x (xs ++ (ks ++ y ∷ [])) ≡ among x ((y ∷ xs) ++ ks)
+among_turn x xs ks y =
+    list_any-append (bytes_eq x) xs (ks ++ y ∷ [])
+    ∙ ap (λ b. among x xs || b) (list_any-append (bytes_eq x) ks (y ∷ []))
+    ∙ or_turn (among x xs) (among x ks) (bytes_eq x y)
+    ∙ ap (λ b. bytes_eq x y || b) (sym (list_any-append (bytes_eq x) xs ks))
+
+and_true : (b : Bool) → (b && true) ≡ b
+and_true true = refl
+and_true false = refl
+
+apart_none : (xs : List Name) → apart xs [] ≡ true
+apart_none [] = refl
+apart_none (x ∷ xs) = apart_none xs
+
+pub distinct_alone : (xs : List Name) → (distinct xs && apart xs []) ≡ distinct xs
+distinct_alone xs = ap (λ b. distinct xs && b) (apart_none xs) ∙ and_true (distinct xs)
+
+-- the rules of the top level look only at which names were bound before
+apart_same : (b c : List Name) → ((x : Name) → among x b ≡ among x c) → (xs : List Name) → apart xs b ≡ apart xs c
+apart_same b c h [] = refl
+apart_same b c h (x ∷ xs) = ap (λ m. not m && apart xs b) (h x) ∙ ap (λ m. not (among x c) && m) (apart_same b c h xs)
+
+more_same : (b c : List Name) → ((x : Name) → among x b ≡ among x c) → (ys : List Name) (x : Name) → among x (ys ++ b) ≡ among x (ys ++ c)
+more_same b c h ys x = list_any-append (bytes_eq x) ys b ∙ ap (λ m. among x ys || m) (h x) ∙ sym (list_any-append (bytes_eq x) ys c)
+
+pub top_same : (s : Scope) (b c : List Name) → ((x : Name) → among x b ≡ among x c) → (ls : Lines) → top_fault s b ls ≡ top_fault s c ls
+top_same s b c h no_lines = refl
+top_same s b c h (a_line n f inner ls) =
+    ap (λ m. or_else (unless n (distinct (form_binds f) && (m && (not (adds_to_name f) && line_scoped s f)))) (or_else (lines_fault (scope_of s f inner) inner) (top_fault s (form_binds f ++ b) ls))) (apart_same b c h (form_binds f))
+    ∙ ap (λ m. or_else (unless n (top_line_scoped s c f)) (or_else (lines_fault (scope_of s f inner) inner) m)) (top_same s (form_binds f ++ b) (form_binds f ++ c) (more_same b c h (form_binds f)) ls)
+
+passed_by : (b : Bool) (n : ℕ) (o : Option ℕ) → or_else (unless n b) o ≡ None → (b ≡ true) × (o ≡ None)
+passed_by true n o e = (refl, e)
+passed_by false n o e = absurd cc
+
+-- a line of the top level that breaks no rule
+pub top_next : (s : Scope) (keys new : List Name) (n : ℕ) (f : Form) (inner rest : Lines) → or_else (unless n (top_line_scoped s keys f)) (lines_fault (scope_of s f inner) inner) ≡ None
+    → ((x : Name) → among x new ≡ among x (form_binds f ++ keys)) → top_fault s new rest ≡ top_fault s keys (a_line n f inner rest)
+top_next s keys new n f inner rest e h =
+    let p = passed_by (top_line_scoped s keys f) n (lines_fault (scope_of s f inner) inner) e in
+    top_same s new (form_binds f ++ keys) h rest
+    ∙ sym
+    (ap (λ b. or_else (unless n b) (or_else (lines_fault (scope_of s f inner) inner) (top_fault s (form_binds f ++ keys) rest))) p.0
+    ∙ ap (λ o. or_else o (top_fault s (form_binds f ++ keys) rest)) p.1)
+
+none_at : (o : Option ℕ) → is_some o ≡ false → o ≡ None
+none_at None e = refl
+none_at (Some n) e = absurd cc
+
+pub none_by : (o : Option ℕ) → false ≡ is_some o → o ≡ None
+none_by o e = none_at o (sym e)
+
+stays_by : (b : Bool) (n : ℕ) (o r : Option ℕ) → is_some (or_else (unless n b) o) ≡ true → or_else (unless n b) o ≡ or_else (unless n b) (or_else o r)
+stays_by true n None r e = absurd cc
+stays_by true n (Some m) r e = refl
+stays_by false n o r e = refl
+
+-- a line of the top level that breaks a rule, itself or in its block
+pub top_found : (s : Scope) (keys : List Name) (n : ℕ) (f : Form) (inner rest : Lines) → is_some (or_else (unless n (top_line_scoped s keys f)) (lines_fault (scope_of s f inner) inner)) ≡ true
+    → or_else (unless n (top_line_scoped s keys f)) (lines_fault (scope_of s f inner) inner) ≡ top_fault s keys (a_line n f inner rest)
+top_found s keys n f inner rest e = stays_by (top_line_scoped s keys f) n (lines_fault (scope_of s f inner) inner) (top_fault s (form_binds f ++ keys) rest) e

@@ -1,0 +1,6 @@
+use Rattle.std.proofs.Common.{◌≡◌, drop}
+use Rattle.syntax.specs.Scopes.{none_predeclared}
+use Rattle.syntax.proofs.scope.none_predeclared.Given as goal
+
+abbrev pub invariant-loop-i : goal.invariant-loop-i
+invariant-loop-i l = none_predeclared l.names ≡ none_predeclared (drop l.i l.names)

@@ -1,0 +1,12 @@
+use Rattle.std.proofs.Common.{sym, ap, ◌∙◌}
+use Rattle.std.specs.Prelude.{bytes_eq}
+use Rattle.std.proofs.lemmas.List.{drop_all}
+use Rattle.indexmap.specs.IndexSet.{insert_all}
+use Rattle.syntax.proofs.ScopeLemmas.{insert_once}
+use Rattle.syntax.proofs.scope.once.Goals as goal
+
+pub returns : goal.returns
+returns c =
+    sym (ap (insert_all bytes_eq c.loop-i.set.keys) (drop_all c.loop-i.i c.args.names.now c.loop-i-test.false))
+    ∙ sym c.loop-i.invariant
+    ∙ insert_once c.args.names.now

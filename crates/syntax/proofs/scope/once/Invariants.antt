@@ -1,0 +1,7 @@
+use Rattle.std.proofs.Common.{◌≡◌, [], drop}
+use Rattle.std.specs.Prelude.{bytes_eq}
+use Rattle.indexmap.specs.IndexSet.{insert_all}
+use Rattle.syntax.proofs.scope.once.Given as goal
+
+abbrev pub invariant-loop-i : goal.invariant-loop-i
+invariant-loop-i l = insert_all bytes_eq [] l.names ≡ insert_all bytes_eq l.set.keys (drop l.i l.names)
