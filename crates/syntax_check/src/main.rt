@@ -2,8 +2,8 @@
 //!
 //! Standard input is a JSON array of pairs of strings, a path and a text, as `bzlan` reads it. A path whose last segment
 //! is `BUILD` is a `BUILD` file's, one that ends in `.bzl` a module's; other files aren't looked at. For each file, in the
-//! order of the input, a line tells `PATH ok` or `PATH:LINE syntax KIND`. The status is 0 where every file has a tree, 1
-//! where one has a fault, and 2 where the input isn't of this form.
+//! order of the input, a line tells `PATH ok` or `PATH:LINE syntax KIND`. The status is 0 where every file has a tree, and
+//! 1 where one has a fault, or where the input isn't of this form, which an error line tells.
 #![tactic(auto)]
 
 use anyhow::{Result, bail};
