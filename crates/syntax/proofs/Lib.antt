@@ -38,4 +38,6 @@ pub mod HeadForms
 pub mod WholeForms
 pub mod OutlinesMade
 pub mod ReadLemmas
+pub mod ProgramLemmas
+pub mod Shortcut
 pub mod ScopeLemmas

@@ -6,41 +6,10 @@ use Rattle.std.specs.List.{list_any}
 use Rattle.std.proofs.lemmas.List.Folds.{list_any-append}
 use Rattle.std.proofs.lemmas.Slice.Eq.{bytes_eq-Decides}
 use Rattle.indexmap.specs.IndexSet.{insert_key, insert_all}
-use Rattle.syntax.specs.Names.{Name, Ref, slot, global, builtin, Scope, or_else, among, apart, distinct, once, without, last_place, predeclared, stands_for}
+use Rattle.syntax.specs.Names.{Name, Scope, or_else, among, apart, distinct, once, without}
 use Rattle.syntax.specs.BareLines.{Form, Lines, no_lines, a_line}
 use Rattle.syntax.specs.Names.{form_binds, scope_of}
-use Rattle.syntax.specs.Scopes.{adds_to_name, is_bound, line_scoped, lines_fault, top_fault, top_line_scoped, unless}
-
-is_some_or : {A : Type 0} (a b : Option A) → is_some (or_else a b) ≡ (is_some a || is_some b)
-is_some_or None b = refl
-is_some_or (Some a) b = refl
-
-is_some_map : {A B : Type 0} (f : A → B) (o : Option A) → is_some (option_map f o) ≡ is_some o
-is_some_map f None = refl
-is_some_map f (Some a) = refl
-
-place_or : (b m : Bool) (n : ℕ) → (m || is_some (if b then Some n else None)) ≡ (b || m)
-place_or true true n = refl
-place_or true false n = refl
-place_or false true n = refl
-place_or false false n = refl
-
-place_some : (x : Name) (n : ℕ) (ys : List Name) → is_some (last_place x n ys) ≡ among x ys
-place_some x n [] = refl
-place_some x n (y ∷ ys) =
-    is_some_or (last_place x (suc n) ys) (if bytes_eq x y then Some n else None)
-    ∙ ap (λ m. m || is_some (if bytes_eq x y then Some n else None)) (place_some x (suc n) ys)
-    ∙ place_or (bytes_eq x y) (among x ys) n
-
--- a name is bound where it is among the slots or the names of the top level, or is predeclared
-pub bound_is : (s : Scope) (x : Name) → is_bound s x ≡ (among x s.slots || (among x s.globals || is_some (predeclared x)))
-bound_is s x =
-    is_some_or (option_map slot (last_place x 0 s.slots)) (or_else (option_map global (last_place x 0 s.globals)) (option_map builtin (predeclared x)))
-    ∙ ap (λ b. b || is_some (or_else (option_map global (last_place x 0 s.globals)) (option_map builtin (predeclared x)))) (is_some_map slot (last_place x 0 s.slots) ∙ place_some x 0 s.slots)
-    ∙ ap (λ b. among x s.slots || b)
-    (is_some_or (option_map global (last_place x 0 s.globals)) (option_map builtin (predeclared x))
-    ∙ ap (λ b. b || is_some (option_map builtin (predeclared x))) (is_some_map global (last_place x 0 s.globals) ∙ place_some x 0 s.globals)
-    ∙ ap (λ b. among x s.globals || b) (is_some_map builtin (predeclared x)))
+use Rattle.syntax.specs.Scopes.{adds_to_name, line_scoped, lines_fault, top_fault, top_line_scoped, unless}
 
 -- names that are equal, by the test
 same_name : (x y : Name) → bytes_eq x y ≡ true → x ≡ y
@@ -127,28 +96,6 @@ lacking_none (y ∷ ys) = ap (λ l. y ∷ l) (lacking_none ys)
 
 pub insert_once : (xs : List Name) → insert_all bytes_eq [] xs ≡ once xs
 insert_once xs = insert_lacking [] xs ∙ lacking_none (once xs)
-
--- the same names
-without_other : (x y : Name) → bytes_eq x y ≡ false → (zs : List Name) → among x (without y zs) ≡ among x zs
-without_other x y e [] = refl
-without_other x y e (z ∷ zs) = by (without_other x y e zs) (bytes_eq y z) refl
-  where
-    by : among x (without y zs) ≡ among x zs → (b : Bool) → bytes_eq y z ≡ b → among x (without y (z ∷ zs)) ≡ among x (z ∷ zs)
-    by ih true h =
-        ap (λ b. among x (if b then without y zs else z ∷ without y zs)) h
-        ∙ ih
-        ∙ ap (λ b. b || among x zs) (sym (subst (λ w. bytes_eq x w ≡ false) (same_name y z h) e))
-    by ih false h =
-        ap (λ b. among x (if b then without y zs else z ∷ without y zs)) h
-        ∙ ap (λ b. bytes_eq x z || b) ih
-
-pub once_same : (x : Name) (ys : List Name) → among x (once ys) ≡ among x ys
-once_same x [] = refl
-once_same x (y ∷ ys) = by (once_same x ys) (bytes_eq x y) refl
-  where
-    by : among x (once ys) ≡ among x ys → (b : Bool) → bytes_eq x y ≡ b → among x (once (y ∷ ys)) ≡ among x (y ∷ ys)
-    by ih true e = ap (λ b. b || among x (without y (once ys))) e ∙ sym (ap (λ b. b || among x ys) e)
-    by ih false e = ap (λ b. bytes_eq x y || b) (without_other x y e (once ys) ∙ ih)
 
 -- names that are new beside others
 and_swap : (a b c d : Bool) → (not (a || b) && (c && not d)) ≡ ((not a && c) && not (b || d))

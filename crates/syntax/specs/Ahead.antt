@@ -85,6 +85,14 @@ unfoldable pub behind_if : List Token → Option (List Token)
 behind_if (word If ∷ ts) = Some ts
 behind_if _ = None
 
+-- no sign comes next
+abbrev pub Unsigned : List Token → Type 0
+Unsigned ts = (behind_not ts ≡ None) × (behind_minus ts ≡ None)
+
+-- no operator comes next
+abbrev pub Ends : List Token → Type 0
+Ends ts = (product_at ts ≡ None) × (sum_at ts ≡ None) × (comparison_at ts ≡ None) × (and_at ts ≡ None) × (or_at ts ≡ None) × (behind_if ts ≡ None)
+
 -- how an expression goes on: with a field, an index or a call
 unfoldable pub suffix_at : List Token → Option (Suffix × List Token)
 suffix_at (mark Dot ∷ ts) = Some (suffix.Attribute, ts)

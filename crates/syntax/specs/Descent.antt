@@ -300,6 +300,22 @@ module _ (inside : Row → ℕ → Parse Part) (most : ℕ) where
   unfoldable pub e1 : ℕ → Parse Part
   e1 r ts = then_read (e2 r ts) (λ a u. if_step r a u (behind_if u))
 
+  -- an expression whose first part was read already, with its fields, indexes and calls
+  unfoldable pub e6_on : ℕ → Part → Parse Part
+  e6_on r a u = then_read (chain product_at e8 r most a u) (chain sum_at e7 r most)
+
+  unfoldable pub e5_on : ℕ → Part → Parse Part
+  e5_on r a u = then_read (e6_on r a u) (λ b v. join_step e6 (λ c t. Some (c, t)) r b (comparison_at v) v)
+
+  unfoldable pub e3_on : ℕ → Part → Parse Part
+  e3_on r a u = then_read (e5_on r a u) (chain and_at e4 r most)
+
+  unfoldable pub e2_on : ℕ → Part → Parse Part
+  e2_on r a u = then_read (e3_on r a u) (chain or_at e3 r most)
+
+  unfoldable pub e1_on : ℕ → Part → Parse Part
+  e1_on r a u = then_read (e2_on r a u) (λ b v. if_step r b v (behind_if v))
+
   abbrev pub row : Row → ℕ → Parse Part
   row Whole = e1
   row Operand = e2

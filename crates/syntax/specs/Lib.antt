@@ -30,3 +30,6 @@ pub mod FormDescent
 pub mod LineForm
 pub mod FormView
 pub mod ScopeView
+pub mod ProgramView
+pub mod Resolves
+pub mod ParsedView

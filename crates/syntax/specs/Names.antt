@@ -1,8 +1,10 @@
 -- Names: which a file finds bound, which it binds, and for what a name stands.
-use Rattle.std.specs.Prelude.{ℕ, suc, Bool, true, not, ◌&&◌, List, [], ◌∷◌, ◌++◌, map, Option, Some, None, option_map, bytes_eq, codes, if◌then◌else◌}
+use Rattle.std.specs.Prelude.{ℕ, ◌+◌, Bool, true, not, ◌&&◌, List, [], ◌∷◌, ◌++◌, map, length, position, Option, Some, None, option_map, bytes_eq, codes, if◌then◌else◌}
 use Rattle.std.specs.List.{list_any, list_all}
 use Rattle.syntax.specs.Bare.{Rest, done, for_each, only_if}
 use Rattle.syntax.specs.BareLines.{Param, required, optional, Form, loads, defines, for_head, assigns, increases, Lines, no_lines, a_line}
+pub use Rattle.syntax.specs.declared.names.Binding.{Binding}
+pub use Rattle.syntax.specs.declared.names.Binding.TheVariants.{Slot as slot, Global as global, Builtin as builtin}
 pub use Rattle.syntax.specs.declared.names.Predeclared.{Predeclared}
 pub use Rattle.syntax.specs.declared.names.Predeclared.TheVariants.{NoneValue as none_value, TrueValue as true_value, FalseValue as false_value, LenFunction as len_function, StrFunction as str_function, RangeFunction as range_function, ListFunction as list_function, FailFunction as fail_function, DepsetFunction as depset_function, ProviderFunction as provider_function, RuleFunction as rule_function, AttrModule as attr_module, DefaultInfo as default_info}
 
@@ -97,35 +99,36 @@ clause_names done = []
 clause_names (for_each x xs a r) = x ∷ xs ++ clause_names r
 clause_names (only_if a r) = clause_names r
 
--- what is in scope somewhere in a file: the names that its top level binds, by number; and the names of the slots in use,
--- which are those of the function and of the comprehensions around, from the outside to the inside
+-- what is in scope somewhere in a file: the names that its top level binds, by number; and those of the slots in use, which
+-- the comprehensions and the function around bind, the innermost level first
 pub record Scope : Type 0 where
   pub globals : List Name
-  pub slots : List Name
+  pub levels : List (List Name)
 
--- what a name stands for: a slot of the function, a name of the top level, or what each file finds bound
-pub data Ref : Type 0 where
-  slot global : ℕ → Ref
-  builtin : Predeclared → Ref
+-- how many slots levels have
+abbrev pub width : List (List Name) → ℕ
+width [] = 0
+width (l ∷ ls) = width ls + length l
 
--- the last place of a name, counted from this number on
-abbrev pub last_place : Name → ℕ → List Name → Option ℕ
-last_place x n [] = None
-last_place x n (y ∷ ys) = or_else (last_place x (suc n) ys) (if bytes_eq x y then Some n else None)
+-- the slot of a name: its place in the innermost level that has it, behind the slots of the levels around that one
+abbrev pub slot_of : Name → List (List Name) → Option ℕ
+slot_of x [] = None
+slot_of x (l ∷ ls) = or_else (option_map (λ n. width ls + n) (position (bytes_eq x) l)) (slot_of x ls)
 
--- a name stands for the innermost binding that there is (Starlark specification, "Name binding and variables")
-abbrev pub stands_for : Scope → Name → Option Ref
+-- a name stands for the innermost binding that there is (Starlark specification, "Name binding and variables"): a slot of
+-- the function, a name of the top level, or what each file finds bound
+abbrev pub stands_for : Scope → Name → Option Binding
 stands_for s x =
-    or_else (option_map slot (last_place x 0 s.slots))
-    (or_else (option_map global (last_place x 0 s.globals)) (option_map builtin (predeclared x)))
+    or_else (option_map slot (slot_of x s.levels))
+    (or_else (option_map global (position (bytes_eq x) s.globals)) (option_map builtin (predeclared x)))
 
--- the top level of a file
+-- the top level of a file; a name has one number, by its first binding
 abbrev pub file_scope : Lines → Scope
-file_scope ls = record { globals = lines_bind ls; slots = [] }
+file_scope ls = record { globals = once (lines_bind ls); levels = [] }
 
 -- a function binds its parameters, then what its lines bind; a name has one slot, by its first binding
 abbrev pub function_scope : Scope → List Param → Lines → Scope
-function_scope s ps ls = record { globals = s.globals; slots = once (map param_name ps ++ lines_bind ls) }
+function_scope s ps ls = record { globals = s.globals; levels = once (map param_name ps ++ lines_bind ls) ∷ [] }
 
 -- the scope of the block of a head
 abbrev pub scope_of : Scope → Form → Lines → Scope
@@ -134,4 +137,4 @@ scope_of s f ls = s
 
 -- inside of a comprehension
 abbrev pub inside_of : Scope → Rest → Scope
-inside_of s r = record { globals = s.globals; slots = s.slots ++ once (clause_names r) }
+inside_of s r = record { globals = s.globals; levels = once (clause_names r) ∷ s.levels }

@@ -2,16 +2,19 @@
 --
 -- A function's names have slots, by the order of their first bindings; a comprehension's have the slots behind those in
 -- use around it. A name of the top level has its number, by the order of the bindings there.
-use Rattle.std.specs.Prelude.{ℕ, List, [], ◌∷◌, map, length, Option, option_map, unwrap_or}
+use Rattle.std.specs.Prelude.{ℕ, List, [], ◌∷◌, map, Option, option_map, unwrap_or}
+pub use Rattle.syntax.specs.declared.program.Loaded.{Loaded}
+pub use Rattle.syntax.specs.declared.steps.Role.{Role}
+pub use Rattle.syntax.specs.declared.steps.Role.TheVariants.{Begins as begins, TestsAgain as tests_again, IsLeft as is_left}
 use Rattle.syntax.specs.Tree.{Operator, Sign}
 use Rattle.syntax.specs.Bare as bare
 use Rattle.syntax.specs.BareLines.{Param, required, optional, Form, loads, defines, if_head, elif_head, else_head, for_head, assigns, assigns_at, increases, increases_at, evaluates, passes, breaks, continues, returns, Lines, no_lines, a_line}
-use Rattle.syntax.specs.Names.{Name, param_name, lines_bind, Ref, Scope, slot, stands_for, file_scope, scope_of, inside_of}
+use Rattle.syntax.specs.Names.{Name, param_name, lines_bind, once, Binding, Scope, width, slot, stands_for, file_scope, scope_of, inside_of}
 
 mutual
   -- an expression (Starlark specification, "Expressions")
   pub data Term : Type 0 where
-    named : Ref → Term
+    named : Binding → Term
     numeral : ℕ → Term
     quoted : List ℕ → Term
     tuple listing : Terms → Term
@@ -41,26 +44,26 @@ mutual
   -- the clauses of a comprehension; a `for` has the slots of its names
   pub data Rounds : Type 0 where
     done : Rounds
-    for_each : List Ref → Term → Rounds → Rounds
+    for_each : List Binding → Term → Rounds → Rounds
     only_if : Term → Rounds → Rounds
 
 mutual
   -- a statement (Starlark specification, "Statements"). One name is assigned to, or several, into which a sequence is
   -- unpacked. An `elif` is an `if` in the other branch
   pub data Statement : Type 0 where
-    load : List ℕ → List (Name × Ref) → Statement
-    assign : List Ref → Term → Statement
+    load : List ℕ → List Loaded → Statement
+    assign : List Binding → Term → Statement
     assign_item : Term → Term → Term → Statement
-    add_to : Ref → Term → Statement
+    add_to : Binding → Term → Statement
     add_to_item : Term → Term → Term → Statement
     evaluate : Term → Statement
     pass break_loop continue_loop : Statement
     give_back : Option Term → Statement
     branch : Term → Steps → Steps → Statement
-    loop : List Ref → Term → Steps → Statement
+    loop : List Binding → Term → Steps → Statement
     -- the name of a function, those of its parameters, the defaults of the last of them, how many slots it has, and its
     -- statements
-    define : Ref → List Name → Terms → ℕ → Steps → Statement
+    define : Binding → List Name → Terms → ℕ → Steps → Statement
 
   -- statements one after the other, each with the first line of its logical line
   pub data Steps : Type 0 where
@@ -73,12 +76,12 @@ pub record Program : Type 0 where
   pub steps : Steps
 
 -- what a name stands for; in a file without fault each stands for something
-abbrev pub ref_of : Scope → Name → Ref
-ref_of s x = unwrap_or (stands_for s x) (slot 0)
+abbrev pub binding_of : Scope → Name → Binding
+binding_of s x = unwrap_or (stands_for s x) (slot 0)
 
 abbrev mutual
   pub term : Scope → bare.Tree → Term
-  term s (bare.named x) = named (ref_of s x)
+  term s (bare.named x) = named (binding_of s x)
   term s (bare.numeral n) = numeral n
   term s (bare.quoted t) = quoted t
   term s (bare.tuple ts) = tuple (terms s ts)
@@ -108,53 +111,68 @@ abbrev mutual
   -- the operand of the first clause in one scope, all else in the other
   pub rounds : Scope → Scope → bare.Rest → Rounds
   rounds s inner bare.done = done
-  rounds s inner (bare.for_each x xs a r) = for_each (map (ref_of inner) (x ∷ xs)) (term s a) (rounds inner inner r)
+  rounds s inner (bare.for_each x xs a r) = for_each (map (binding_of inner) (x ∷ xs)) (term s a) (rounds inner inner r)
   rounds s inner (bare.only_if a r) = only_if (term s a) (rounds inner inner r)
 
 -- the defaults of parameters, which are those of the last ones
+abbrev pub with_default : Scope → Param → Terms → Terms
+with_default s (required x) ts = ts
+with_default s (optional x a) ts = more_terms (term s a) ts
+
 abbrev pub defaults : Scope → List Param → Terms
 defaults s [] = no_terms
-defaults s (required x ∷ ps) = defaults s ps
-defaults s (optional x a ∷ ps) = more_terms (term s a) (defaults s ps)
+defaults s (p ∷ ps) = with_default s p (defaults s ps)
 
--- the statement of a line, before those behind it: with the scope and the statements of its block, and with the other
--- branch of an `if`, which stands in the lines behind it. Lines of that branch are part of the statement before them
-abbrev pub line_steps : Scope → ℕ → Form → Scope → Steps → Steps → Steps → Steps
-line_steps s n (loads p items) t inner other rest = step n (load p (map (λ i. (i.asked, ref_of s i.binds)) items)) rest
-line_steps s n (defines x ps) t inner other rest =
-    step n (define (ref_of s x) (map param_name ps) (defaults s ps) (length t.slots) inner) rest
-line_steps s n (if_head a) t inner other rest = step n (branch (term s a) inner other) rest
-line_steps s n (elif_head a) t inner other rest = rest
-line_steps s n else_head t inner other rest = rest
-line_steps s n (for_head x xs a) t inner other rest = step n (loop (map (ref_of s) (x ∷ xs)) (term s a) inner) rest
-line_steps s n (assigns x xs a) t inner other rest = step n (assign (map (ref_of s) (x ∷ xs)) (term s a)) rest
-line_steps s n (assigns_at f a b) t inner other rest = step n (assign_item (term s f) (term s a) (term s b)) rest
-line_steps s n (increases x a) t inner other rest = step n (add_to (ref_of s x) (term s a)) rest
-line_steps s n (increases_at f a b) t inner other rest = step n (add_to_item (term s f) (term s a) (term s b)) rest
-line_steps s n (evaluates a) t inner other rest = step n (evaluate (term s a)) rest
-line_steps s n passes t inner other rest = step n pass rest
-line_steps s n breaks t inner other rest = step n break_loop rest
-line_steps s n continues t inner other rest = step n continue_loop rest
-line_steps s n (returns a) t inner other rest = step n (give_back (option_map (term s) a)) rest
+-- a line begins a statement, but for `elif` and `else`, which are the other branch of the one before them
+abbrev pub role_of : Form → Role
+role_of (elif_head a) = tests_again
+role_of else_head = is_left
+role_of f = begins
 
--- what the line behind an `if` or `elif` has of its other branch
-abbrev pub other_branch : Scope → ℕ → Form → Steps → Steps → Steps
-other_branch s n (elif_head a) inner other = step n (branch (term s a) inner other) no_steps
-other_branch s n else_head inner other = inner
-other_branch s n f inner other = no_steps
+-- the statement of a line: with the scope and the statements of its block, and with the other branch of an `if`, which
+-- stands in the lines behind it. An `else` has none of its own
+abbrev pub statement : Scope → Form → Scope → Steps → Steps → Statement
+statement s (loads p items) t inner other = load p (map (λ i. record { asked = i.asked; binds = binding_of s i.binds }) items)
+statement s (defines x ps) t inner other = define (binding_of s x) (map param_name ps) (defaults s ps) (width t.levels) inner
+statement s (if_head a) t inner other = branch (term s a) inner other
+statement s (elif_head a) t inner other = branch (term s a) inner other
+statement s else_head t inner other = pass
+statement s (for_head x xs a) t inner other = loop (map (binding_of s) (x ∷ xs)) (term s a) inner
+statement s (assigns x xs a) t inner other = assign (map (binding_of s) (x ∷ xs)) (term s a)
+statement s (assigns_at f a b) t inner other = assign_item (term s f) (term s a) (term s b)
+statement s (increases x a) t inner other = add_to (binding_of s x) (term s a)
+statement s (increases_at f a b) t inner other = add_to_item (term s f) (term s a) (term s b)
+statement s (evaluates a) t inner other = evaluate (term s a)
+statement s passes t inner other = pass
+statement s breaks t inner other = break_loop
+statement s continues t inner other = continue_loop
+statement s (returns a) t inner other = give_back (option_map (term s) a)
+
+-- a statement before those behind it, if the line begins one
+abbrev pub before : Role → ℕ → Statement → Steps → Steps
+before begins n st rest = step n st rest
+before tests_again n st rest = rest
+before is_left n st rest = rest
+
+-- what a line has of the other branch of an `if` or `elif` before it
+abbrev pub other_branch : Role → ℕ → Statement → Steps → Steps
+other_branch begins n st inner = no_steps
+other_branch tests_again n st inner = step n st no_steps
+other_branch is_left n st inner = inner
 
 abbrev mutual
   -- the statements of lines
   pub steps_of : Scope → Lines → Steps
   steps_of s no_lines = no_steps
   steps_of s (a_line n f inner ls) =
-      line_steps s n f (scope_of s f inner) (steps_of (scope_of s f inner) inner) (other_steps s ls) (steps_of s ls)
+      before (role_of f) n (statement s f (scope_of s f inner) (steps_of (scope_of s f inner) inner) (other_steps s ls)) (steps_of s ls)
 
   -- the other branch of an `if` or `elif` that these lines follow
   pub other_steps : Scope → Lines → Steps
   other_steps s no_lines = no_steps
-  other_steps s (a_line n f inner ls) = other_branch s n f (steps_of (scope_of s f inner) inner) (other_steps s ls)
+  other_steps s (a_line n f inner ls) =
+      other_branch (role_of f) n (statement s f (scope_of s f inner) (steps_of (scope_of s f inner) inner) (other_steps s ls)) (steps_of (scope_of s f inner) inner)
 
 -- a file with what its names stand for
 abbrev pub resolved : Lines → Program
-resolved ls = record { globals = lines_bind ls; steps = steps_of (file_scope ls) ls }
+resolved ls = record { globals = once (lines_bind ls); steps = steps_of (file_scope ls) ls }

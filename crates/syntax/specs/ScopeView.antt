@@ -11,33 +11,20 @@ use Rattle.syntax.specs.declared.statements.Line.{Line}
 use Rattle.syntax.specs.LineView.{lines}
 use Rattle.syntax.specs.TreeView.{tree_of}
 
--- the names that the top level of a file binds; and those that a function and the comprehensions in it bind, of the
--- innermost first
-pub record Levels : Type 0 where
-  pub globals : List Name
-  pub inner : List (List Name)
-
-abbrev pub slots_of : List (List Name) → List Name
-slots_of [] = []
-slots_of (l ∷ ls) = slots_of ls ++ l
-
-abbrev pub scope_seen : Levels → Scope
-scope_seen v = record { globals = v.globals; slots = slots_of v.inner }
-
 -- in a comprehension that binds these names, and behind it
-abbrev pub entered : List Name → Levels → Levels
-entered xs v = record { globals = v.globals; inner = once xs ∷ v.inner }
+abbrev pub entered : List Name → Scope → Scope
+entered xs s = record { globals = s.globals; levels = once xs ∷ s.levels }
 
-abbrev pub left : Levels → Levels
-left v = record { globals = v.globals; inner = around v.inner }
-  where
-    around : List (List Name) → List (List Name)
-    around [] = []
-    around (l ∷ ls) = ls
+abbrev pub outer : List (List Name) → List (List Name)
+outer [] = []
+outer (l ∷ ls) = ls
+
+abbrev pub left : Scope → Scope
+left s = record { globals = s.globals; levels = outer s.levels }
 
 -- in a function that binds these names
-abbrev pub in_function : List Name → Levels → Levels
-in_function xs v = record { globals = v.globals; inner = once xs ∷ [] }
+abbrev pub in_function : List Name → Scope → Scope
+in_function xs s = record { globals = s.globals; levels = once xs ∷ [] }
 
 -- the rules of the first clause of a comprehension, and of the others
 abbrev pub first_scoped : Scope → Rest → Bool
@@ -51,22 +38,22 @@ others_scoped s (for_each x xs a r) = rest_scoped s s r
 others_scoped s (only_if a r) = rest_scoped s s r
 
 -- what a function ensures that tells whether a part of a file breaks no rule: it leaves the scope as it was
-abbrev pub Tells : (Scope → Bool) → Levels → Result Bool AllocError → Levels → Type 0
-Tells meant old r new = IfOk r (λ b. (b ≡ meant (scope_seen old)) × (new ≡ old))
+abbrev pub Tells : (Scope → Bool) → Scope → Result Bool AllocError → Scope → Type 0
+Tells meant old r new = IfOk r (λ b. (b ≡ meant old) × (new ≡ old))
 
 -- a function value that tells it of the expressions inside
-pub record TellsInside (turns : ℕ) (pre : Global → MutBor Levels → Bor Expr → ℕ → Type 0)
-    (post : Global → MutBor Levels → Bor Expr → ℕ → Result Bool AllocError → MutBor Levels → Type 0) : Type 0 where
-  pub callable : (alloc : Global) (old : MutBor Levels) (e : Bor Expr) → pre alloc old e turns
-  pub tells : (alloc : Global) (old new : MutBor Levels) (e : Bor Expr) (r : Result Bool AllocError) → post alloc old e turns r new
+pub record TellsInside (turns : ℕ) (pre : Global → MutBor Scope → Bor Expr → ℕ → Type 0)
+    (post : Global → MutBor Scope → Bor Expr → ℕ → Result Bool AllocError → MutBor Scope → Type 0) : Type 0 where
+  pub callable : (alloc : Global) (old : MutBor Scope) (e : Bor Expr) → pre alloc old e turns
+  pub tells : (alloc : Global) (old new : MutBor Scope) (e : Bor Expr) (r : Result Bool AllocError) → post alloc old e turns r new
       → Tells (λ s. scoped s (tree_of e.now)) old.now r new.now
 
 -- the same of what finds a line that breaks a rule
-abbrev pub Finds : (Scope → Option ℕ) → Levels → Result (Option ℕ) AllocError → Levels → Type 0
-Finds meant old r new = IfOk r (λ n. (n ≡ meant (scope_seen old)) × (new ≡ old))
+abbrev pub Finds : (Scope → Option ℕ) → Scope → Result (Option ℕ) AllocError → Scope → Type 0
+Finds meant old r new = IfOk r (λ n. (n ≡ meant old) × (new ≡ old))
 
-pub record FindsInside (turns : ℕ) (pre : Global → MutBor Levels → Bor (List Line) → ℕ → Type 0)
-    (post : Global → MutBor Levels → Bor (List Line) → ℕ → Result (Option ℕ) AllocError → MutBor Levels → Type 0) : Type 0 where
-  pub callable : (alloc : Global) (old : MutBor Levels) (ls : Bor (List Line)) → pre alloc old ls turns
-  pub finds : (alloc : Global) (old new : MutBor Levels) (ls : Bor (List Line)) (r : Result (Option ℕ) AllocError) → post alloc old ls turns r new
+pub record FindsInside (turns : ℕ) (pre : Global → MutBor Scope → Bor (List Line) → ℕ → Type 0)
+    (post : Global → MutBor Scope → Bor (List Line) → ℕ → Result (Option ℕ) AllocError → MutBor Scope → Type 0) : Type 0 where
+  pub callable : (alloc : Global) (old : MutBor Scope) (ls : Bor (List Line)) → pre alloc old ls turns
+  pub finds : (alloc : Global) (old new : MutBor Scope) (ls : Bor (List Line)) (r : Result (Option ℕ) AllocError) → post alloc old ls turns r new
       → Finds (λ s. lines_fault s (lines ls.now)) old.now r new.now

@@ -1,8 +1,8 @@
 //! What is left of a logical line, and what is taken from its front.
 
-ghost use Rattle.std.specs.Prelude.{◌≡◌, length, IfSome, IfOk, map};
+ghost use Rattle.std.specs.Prelude.{◌≡◌, length, IfSome, IfOk, map, true};
 ghost use Rattle.std.specs.Option.{option_map};
-ghost use Rattle.syntax.specs.Ahead.{is_done, Passes, Takes, tokens_seen, or_at, and_at, comparison_at, sum_at, product_at, behind_not, behind_minus, behind_if, HasHead, suffix_at, named_at, number_at, string_at, bracket_at};
+ghost use Rattle.syntax.specs.Ahead.{is_done, Ends, Passes, Takes, Unsigned, tokens_seen, or_at, and_at, comparison_at, sum_at, product_at, behind_not, behind_minus, behind_if, HasHead, suffix_at, named_at, number_at, string_at, bracket_at};
 ghost use Rattle.syntax.specs.Front.{behind_comma, behind_colon, behind_else, behind_close, name_at, names_in, head_at, is_for};
 ghost use Rattle.syntax.specs.FormDescent.{opening_at, behind_assign, behind_add, behind_open};
 ghost use Rattle.syntax.specs.FormReading.{names_to};
@@ -279,6 +279,39 @@ impl<'l> Ahead<'l> {
                 self.tokens = rest;
                 true
             }
+            _ => false,
+        }
+    }
+
+    /// Whether neither `not` nor `-` comes next.
+    #[tactic(auto, unfolding(crate::specs::Ahead::behind_not, crate::specs::Ahead::behind_minus))]
+    pub(crate) fn is_unsigned(&self) -> bool
+        ensures { result ≡ true → Unsigned self.now }
+    {
+        let [first, ..] = self.tokens else {
+            return true;
+        };
+        match first.kind {
+            Kind::Mark(Mark::Minus) | Kind::Word(Word::Not) => false,
+            _ => true,
+        }
+    }
+
+    /// Whether a token comes next with which no expression goes on, or none at all.
+    #[tactic(auto, unfolding(crate::specs::Ahead::product_at, crate::specs::Ahead::sum_at, crate::specs::Ahead::comparison_at, crate::specs::Ahead::and_at, crate::specs::Ahead::or_at, crate::specs::Ahead::behind_if))]
+    pub(crate) fn ends_here(&self) -> bool
+        ensures { result ≡ true → Ends self.now }
+    {
+        let [first, ..] = self.tokens else {
+            return true;
+        };
+        match first.kind {
+            Kind::Mark(Mark::CloseParen)
+            | Kind::Mark(Mark::CloseBracket)
+            | Kind::Mark(Mark::CloseBrace)
+            | Kind::Mark(Mark::Comma)
+            | Kind::Mark(Mark::Colon)
+            | Kind::Mark(Mark::Assign) => true,
             _ => false,
         }
     }

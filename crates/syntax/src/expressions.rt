@@ -5,7 +5,7 @@
 //! that what would be too deep is refused before it is read.
 
 ghost use Rattle.std.specs.Prelude.{◌≡◌, Some};
-ghost use Rattle.syntax.specs.Ahead.{Reads, bracket_at};
+ghost use Rattle.syntax.specs.Ahead.{Reads, and_at, behind_if, bracket_at, comparison_at, or_at, product_at, sum_at};
 ghost use Rattle.syntax.specs.Front.{behind_close, behind_comma};
 ghost use Rattle.syntax.specs.Reading.{then_read};
 ghost use Rattle.lexer.specs.declared.layout.Bracket.TheVariants.{Square, Curly};
@@ -381,13 +381,12 @@ impl<F: Fn(Global, &mut Ahead<'_>, usize, Row, usize) -> Result<Part, Stop>> Rea
         self.e9(ahead, room)
     }
 
-    /// `*`, `//` and `%`.
-    #[tactic(auto, unfolding(crate::specs::Descent::e7, crate::specs::Descent::chain))]
-    fn e7(&self, ahead: &mut Ahead<'_>, room: usize) -> Result<Part, Stop>
+    /// `*`, `//` and `%` behind a part.
+    #[tactic(auto, unfolding(crate::specs::Descent::chain))]
+    fn products(&self, ahead: &mut Ahead<'_>, mut left: Part, room: usize) -> Result<Part, Stop>
         requires { Nests self.now.turns (F.pre self.now.expr) (F.post self.now.expr) }
-        ensures { Reads part_seen (spec.e7 (spec.read self.now.turns) self.now.most room ahead.old) result ahead.new }
+        ensures { Reads part_seen (spec.chain product_at (spec.e8 (spec.read self.now.turns) self.now.most) room self.now.most (part_seen left) ahead.old) result ahead.new }
     {
-        let mut left = self.e8(ahead, room)?;
         for _turn in 0..self.most {
             let Some(operator) = ahead.product_operator() else {
                 return Ok(left);
@@ -398,13 +397,22 @@ impl<F: Fn(Global, &mut Ahead<'_>, usize, Row, usize) -> Result<Part, Stop>> Rea
         Ok(left)
     }
 
-    /// `+` and `-`.
-    #[tactic(auto, unfolding(crate::specs::Descent::e6, crate::specs::Descent::chain))]
-    fn e6(&self, ahead: &mut Ahead<'_>, room: usize) -> Result<Part, Stop>
+    /// `*`, `//` and `%`.
+    #[tactic(auto, unfolding(crate::specs::Descent::e7))]
+    fn e7(&self, ahead: &mut Ahead<'_>, room: usize) -> Result<Part, Stop>
         requires { Nests self.now.turns (F.pre self.now.expr) (F.post self.now.expr) }
-        ensures { Reads part_seen (spec.e6 (spec.read self.now.turns) self.now.most room ahead.old) result ahead.new }
+        ensures { Reads part_seen (spec.e7 (spec.read self.now.turns) self.now.most room ahead.old) result ahead.new }
     {
-        let mut left = self.e7(ahead, room)?;
+        let left = self.e8(ahead, room)?;
+        self.products(ahead, left, room)
+    }
+
+    /// `+` and `-` behind a part.
+    #[tactic(auto, unfolding(crate::specs::Descent::chain))]
+    fn sums(&self, ahead: &mut Ahead<'_>, mut left: Part, room: usize) -> Result<Part, Stop>
+        requires { Nests self.now.turns (F.pre self.now.expr) (F.post self.now.expr) }
+        ensures { Reads part_seen (spec.chain sum_at (spec.e7 (spec.read self.now.turns) self.now.most) room self.now.most (part_seen left) ahead.old) result ahead.new }
+    {
         for _turn in 0..self.most {
             let Some(operator) = ahead.sum_operator() else {
                 return Ok(left);
@@ -415,6 +423,28 @@ impl<F: Fn(Global, &mut Ahead<'_>, usize, Row, usize) -> Result<Part, Stop>> Rea
         Ok(left)
     }
 
+    /// `+` and `-`.
+    #[tactic(auto, unfolding(crate::specs::Descent::e6))]
+    fn e6(&self, ahead: &mut Ahead<'_>, room: usize) -> Result<Part, Stop>
+        requires { Nests self.now.turns (F.pre self.now.expr) (F.post self.now.expr) }
+        ensures { Reads part_seen (spec.e6 (spec.read self.now.turns) self.now.most room ahead.old) result ahead.new }
+    {
+        let left = self.e7(ahead, room)?;
+        self.sums(ahead, left, room)
+    }
+
+    /// A comparison behind a part.
+    fn compared(&self, ahead: &mut Ahead<'_>, left: Part, room: usize) -> Result<Part, Stop>
+        requires { Nests self.now.turns (F.pre self.now.expr) (F.post self.now.expr) }
+        ensures { Reads part_seen (spec.join_step (spec.e6 (spec.read self.now.turns) self.now.most) (λ b v. Some (b, v)) room (part_seen left) (comparison_at ahead.old) ahead.old) result ahead.new }
+    {
+        let Some(operator) = ahead.comparison() else {
+            return Ok(left);
+        };
+        let right = self.e6(ahead, room.saturating_sub(1))?;
+        parts::operated(self.alloc, operator, left, right, room)
+    }
+
     /// Comparisons, which are not chained.
     #[tactic(auto, unfolding(crate::specs::Descent::e5))]
     fn e5(&self, ahead: &mut Ahead<'_>, room: usize) -> Result<Part, Stop>
@@ -422,11 +452,7 @@ impl<F: Fn(Global, &mut Ahead<'_>, usize, Row, usize) -> Result<Part, Stop>> Rea
         ensures { Reads part_seen (spec.e5 (spec.read self.now.turns) self.now.most room ahead.old) result ahead.new }
     {
         let left = self.e6(ahead, room)?;
-        let Some(operator) = ahead.comparison() else {
-            return Ok(left);
-        };
-        let right = self.e6(ahead, room.saturating_sub(1))?;
-        parts::operated(self.alloc, operator, left, right, room)
+        self.compared(ahead, left, room)
     }
 
     /// `not`.
@@ -442,13 +468,12 @@ impl<F: Fn(Global, &mut Ahead<'_>, usize, Row, usize) -> Result<Part, Stop>> Rea
         self.e5(ahead, room)
     }
 
-    /// `and`.
-    #[tactic(auto, unfolding(crate::specs::Descent::e3, crate::specs::Descent::chain))]
-    fn e3(&self, ahead: &mut Ahead<'_>, room: usize) -> Result<Part, Stop>
+    /// `and` behind a part.
+    #[tactic(auto, unfolding(crate::specs::Descent::chain))]
+    fn ands(&self, ahead: &mut Ahead<'_>, mut left: Part, room: usize) -> Result<Part, Stop>
         requires { Nests self.now.turns (F.pre self.now.expr) (F.post self.now.expr) }
-        ensures { Reads part_seen (spec.e3 (spec.read self.now.turns) self.now.most room ahead.old) result ahead.new }
+        ensures { Reads part_seen (spec.chain and_at (spec.e4 (spec.read self.now.turns) self.now.most) room self.now.most (part_seen left) ahead.old) result ahead.new }
     {
-        let mut left = self.e4(ahead, room)?;
         for _turn in 0..self.most {
             let Some(operator) = ahead.and_operator() else {
                 return Ok(left);
@@ -459,13 +484,22 @@ impl<F: Fn(Global, &mut Ahead<'_>, usize, Row, usize) -> Result<Part, Stop>> Rea
         Ok(left)
     }
 
-    /// `or`.
-    #[tactic(auto, unfolding(crate::specs::Descent::e2, crate::specs::Descent::chain))]
-    fn e2(&self, ahead: &mut Ahead<'_>, room: usize) -> Result<Part, Stop>
+    /// `and`.
+    #[tactic(auto, unfolding(crate::specs::Descent::e3))]
+    fn e3(&self, ahead: &mut Ahead<'_>, room: usize) -> Result<Part, Stop>
         requires { Nests self.now.turns (F.pre self.now.expr) (F.post self.now.expr) }
-        ensures { Reads part_seen (spec.e2 (spec.read self.now.turns) self.now.most room ahead.old) result ahead.new }
+        ensures { Reads part_seen (spec.e3 (spec.read self.now.turns) self.now.most room ahead.old) result ahead.new }
     {
-        let mut left = self.e3(ahead, room)?;
+        let left = self.e4(ahead, room)?;
+        self.ands(ahead, left, room)
+    }
+
+    /// `or` behind a part.
+    #[tactic(auto, unfolding(crate::specs::Descent::chain))]
+    fn ors(&self, ahead: &mut Ahead<'_>, mut left: Part, room: usize) -> Result<Part, Stop>
+        requires { Nests self.now.turns (F.pre self.now.expr) (F.post self.now.expr) }
+        ensures { Reads part_seen (spec.chain or_at (spec.e3 (spec.read self.now.turns) self.now.most) room self.now.most (part_seen left) ahead.old) result ahead.new }
+    {
         for _turn in 0..self.most {
             let Some(operator) = ahead.or_operator() else {
                 return Ok(left);
@@ -476,13 +510,21 @@ impl<F: Fn(Global, &mut Ahead<'_>, usize, Row, usize) -> Result<Part, Stop>> Rea
         Ok(left)
     }
 
-    /// The conditional.
-    #[tactic(auto, unfolding(crate::specs::Descent::e1))]
-    fn e1(&self, ahead: &mut Ahead<'_>, room: usize) -> Result<Part, Stop>
+    /// `or`.
+    #[tactic(auto, unfolding(crate::specs::Descent::e2))]
+    fn e2(&self, ahead: &mut Ahead<'_>, room: usize) -> Result<Part, Stop>
         requires { Nests self.now.turns (F.pre self.now.expr) (F.post self.now.expr) }
-        ensures { Reads part_seen (spec.e1 (spec.read self.now.turns) self.now.most room ahead.old) result ahead.new }
+        ensures { Reads part_seen (spec.e2 (spec.read self.now.turns) self.now.most room ahead.old) result ahead.new }
     {
-        let then = self.e2(ahead, room)?;
+        let left = self.e3(ahead, room)?;
+        self.ors(ahead, left, room)
+    }
+
+    /// A condition behind an expression, with the other one.
+    fn chosen(&self, ahead: &mut Ahead<'_>, then: Part, room: usize) -> Result<Part, Stop>
+        requires { Nests self.now.turns (F.pre self.now.expr) (F.post self.now.expr) }
+        ensures { Reads part_seen (spec.if_step (spec.read self.now.turns) self.now.most room (part_seen then) ahead.old (behind_if ahead.old)) result ahead.new }
+    {
         if !ahead.if_word() {
             return Ok(then);
         }
@@ -495,12 +537,95 @@ impl<F: Fn(Global, &mut Ahead<'_>, usize, Row, usize) -> Result<Part, Stop>> Rea
         parts::chosen(self.alloc, then, test, other, room)
     }
 
+    /// The conditional.
+    #[tactic(auto, unfolding(crate::specs::Descent::e1))]
+    fn e1(&self, ahead: &mut Ahead<'_>, room: usize) -> Result<Part, Stop>
+        requires { Nests self.now.turns (F.pre self.now.expr) (F.post self.now.expr) }
+        ensures { Reads part_seen (spec.e1 (spec.read self.now.turns) self.now.most room ahead.old) result ahead.new }
+    {
+        let then = self.e2(ahead, room)?;
+        self.chosen(ahead, then, room)
+    }
+
+    /// A sum whose first part was read already, with its fields, indexes and calls.
+    #[tactic(auto, unfolding(crate::specs::Descent::e6_on))]
+    fn e6_on(&self, ahead: &mut Ahead<'_>, left: Part, room: usize) -> Result<Part, Stop>
+        requires { Nests self.now.turns (F.pre self.now.expr) (F.post self.now.expr) }
+        ensures { Reads part_seen (spec.e6_on (spec.read self.now.turns) self.now.most room (part_seen left) ahead.old) result ahead.new }
+    {
+        let left = self.products(ahead, left, room)?;
+        self.sums(ahead, left, room)
+    }
+
+    /// The same of a comparison.
+    #[tactic(auto, unfolding(crate::specs::Descent::e5_on))]
+    fn e5_on(&self, ahead: &mut Ahead<'_>, left: Part, room: usize) -> Result<Part, Stop>
+        requires { Nests self.now.turns (F.pre self.now.expr) (F.post self.now.expr) }
+        ensures { Reads part_seen (spec.e5_on (spec.read self.now.turns) self.now.most room (part_seen left) ahead.old) result ahead.new }
+    {
+        let left = self.e6_on(ahead, left, room)?;
+        self.compared(ahead, left, room)
+    }
+
+    /// The same of `and`.
+    #[tactic(auto, unfolding(crate::specs::Descent::e3_on))]
+    fn e3_on(&self, ahead: &mut Ahead<'_>, left: Part, room: usize) -> Result<Part, Stop>
+        requires { Nests self.now.turns (F.pre self.now.expr) (F.post self.now.expr) }
+        ensures { Reads part_seen (spec.e3_on (spec.read self.now.turns) self.now.most room (part_seen left) ahead.old) result ahead.new }
+    {
+        let left = self.e5_on(ahead, left, room)?;
+        self.ands(ahead, left, room)
+    }
+
+    /// The same of `or`.
+    #[tactic(auto, unfolding(crate::specs::Descent::e2_on))]
+    fn e2_on(&self, ahead: &mut Ahead<'_>, left: Part, room: usize) -> Result<Part, Stop>
+        requires { Nests self.now.turns (F.pre self.now.expr) (F.post self.now.expr) }
+        ensures { Reads part_seen (spec.e2_on (spec.read self.now.turns) self.now.most room (part_seen left) ahead.old) result ahead.new }
+    {
+        let left = self.e3_on(ahead, left, room)?;
+        self.ors(ahead, left, room)
+    }
+
+    /// The same of a conditional.
+    #[tactic(auto, unfolding(crate::specs::Descent::e1_on))]
+    fn e1_on(&self, ahead: &mut Ahead<'_>, left: Part, room: usize) -> Result<Part, Stop>
+        requires { Nests self.now.turns (F.pre self.now.expr) (F.post self.now.expr) }
+        ensures { Reads part_seen (spec.e1_on (spec.read self.now.turns) self.now.most room (part_seen left) ahead.old) result ahead.new }
+    {
+        let left = self.e2_on(ahead, left, room)?;
+        self.chosen(ahead, left, room)
+    }
+
+    /// An expression without a sign before it. Most have no operator, and are read without going through all levels.
+    fn from_atom(&self, ahead: &mut Ahead<'_>, room: usize) -> Result<Part, Stop>
+        requires { Nests self.now.turns (F.pre self.now.expr) (F.post self.now.expr) }
+        ensures { Reads part_seen (then_read (spec.e9 (spec.read self.now.turns) self.now.most room ahead.old) (spec.e1_on (spec.read self.now.turns) self.now.most room)) result ahead.new }
+    {
+        let first = self.e9(ahead, room)?;
+        if ahead.ends_here() {
+            return Ok(first);
+        }
+        self.e1_on(ahead, first, room)
+    }
+
+    /// Any expression.
+    fn whole(&self, ahead: &mut Ahead<'_>, room: usize) -> Result<Part, Stop>
+        requires { Nests self.now.turns (F.pre self.now.expr) (F.post self.now.expr) }
+        ensures { Reads part_seen (spec.e1 (spec.read self.now.turns) self.now.most room ahead.old) result ahead.new }
+    {
+        if !ahead.is_unsigned() {
+            return self.e1(ahead, room);
+        }
+        self.from_atom(ahead, room)
+    }
+
     fn row(&self, ahead: &mut Ahead<'_>, row: Row, room: usize) -> Result<Part, Stop>
         requires { Nests self.now.turns (F.pre self.now.expr) (F.post self.now.expr) }
         ensures { Reads part_seen (spec.row (spec.read self.now.turns) self.now.most row room ahead.old) result ahead.new }
     {
         match row {
-            Row::Whole => self.e1(ahead, room),
+            Row::Whole => self.whole(ahead, room),
             Row::Operand => self.e2(ahead, room),
             Row::Negated => self.e4(ahead, room),
             Row::Opposed => self.e8(ahead, room),

@@ -3,7 +3,8 @@
 //! The first three of the five passes give the logical lines, and are those of crate `lexer`. The fourth
 //! ([`statement_pass`]) reads the form of each line ([`line_forms`]), its expressions ([`expressions`]) from the front of
 //! what is left of it ([`ahead`]), sees that the lines stand where they may ([`outline`]), and puts them into blocks
-//! ([`blocks`]). The fifth ([`scope_pass`]) looks at the names. [`parsing`] joins the five.
+//! ([`blocks`]). The fifth ([`scope_pass`]) looks at the names. [`parsing`] joins the five, and then has the names resolved
+//! in expressions ([`resolver`]) and statements ([`steps`]), which gives the tree that is handed on ([`program`]).
 #![tactic(auto)]
 
 mod ahead;
@@ -12,16 +13,20 @@ mod expressions;
 pub mod file_laws;
 pub mod form_laws;
 pub mod grammar_laws;
+mod levels;
 mod line_forms;
 mod names;
 mod outline;
 mod parsing;
 mod parts;
+mod program;
+mod resolver;
 mod scope;
 mod scope_pass;
 mod scope_rules;
 mod statement_pass;
-pub mod statements;
+mod statements;
+mod steps;
 mod tree;
 mod whole;
 
@@ -29,8 +34,9 @@ pub use lexer::{
     Bracket, FaultKind, FileKind, Kind, Lines, Mark, NoMemory, ParseStop, Span, SyntaxFault, Token,
     Word, logical_lines,
 };
-pub use names::{Predeclared, predeclared_as};
+pub use names::{Binding, Predeclared, predeclared_as};
 pub use parsing::{Parsed, parse};
+pub use program::{Argument, Function, Loaded, Pair, Round, Statement, Step, Term};
 pub use tree::{Clause, Entry, Expr, Keyword, Operator, Sign};
 pub use whole::{MAX_DEPTH, line_expression};
 
@@ -38,3 +44,5 @@ pub use whole::{MAX_DEPTH, line_expression};
 mod expression_tests;
 #[cfg(test)]
 mod parse_tests;
+#[cfg(test)]
+mod resolved_tests;

@@ -1,4 +1,4 @@
-//! The names that each file finds bound.
+//! What names stand for, and those that each file finds bound.
 
 ghost use Rattle.std.specs.Prelude.{◌≡◌};
 ghost use Rattle.syntax.specs.Names.{predeclared_value, predeclared_function, predeclared_for_rules, predeclared};
@@ -32,6 +32,18 @@ pub enum Predeclared {
     AttrModule,
     /// `DefaultInfo`.
     DefaultInfo,
+}
+
+/// What a name stands for.
+#[derive(Clone, Copy, PartialEq, Eq, Debug)]
+pub enum Binding {
+    /// A slot of the function around, or of the comprehensions around. The parameters of a function have its first slots,
+    /// then the names that its lines bind, each once, by their first bindings; those of a comprehension stand behind them.
+    Slot(usize),
+    /// A name of the file's top level, counted by first bindings.
+    Global(usize),
+    /// What each file finds bound.
+    Builtin(Predeclared),
 }
 
 fn predeclared_value(name: &str) -> Option<Predeclared>

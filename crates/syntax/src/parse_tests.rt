@@ -29,10 +29,10 @@ fn expect_trees(rt: &impl Abort, alloc: Global, kind: FileKind, texts: &[&str]) 
     }
 }
 
-/// How many lines the top level of a module has.
+/// How many statements the top level of a module has.
 fn lines_of(rt: &impl Abort, alloc: Global, text: &str) -> usize {
     match parse(alloc, text, FileKind::Module) {
-        Ok(parsed) => parsed.lines.len(),
+        Ok(parsed) => parsed.steps.len(),
         Err(_) => panic!(rt; "no tree of {text:?}"),
     }
 }

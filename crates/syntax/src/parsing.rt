@@ -1,21 +1,47 @@
 //! Reading a file: five passes over its text, each over the whole of it.
 
-ghost use Rattle.std.specs.Prelude.{◌≡◌, IfOk, Ok, Err};
+ghost use Rattle.std.specs.Prelude.{◌≡◌, IfOk, IfErr, Ok, Err};
 ghost use Rattle.syntax.specs.BareLines.{bare_lines};
 ghost use Rattle.syntax.specs.Blocks.{Block};
 ghost use Rattle.syntax.specs.Files.{syntax};
 ghost use Rattle.syntax.specs.LineView as view;
+ghost use Rattle.syntax.specs.Names.{file_scope};
+ghost use Rattle.syntax.specs.ParsedView.{program_of};
+ghost use Rattle.syntax.specs.Resolved.{resolved};
 
-use crate::scope_pass::scope_fault;
+use crate::program::Step;
+use crate::scope::Scope;
+use crate::scope_pass::{MAX_BLOCKS, file_scope, top_fault};
 use crate::statement_pass::read_file;
 use crate::statements::Line;
+use crate::steps::resolve_lines;
+use indexmap::IndexSet;
 use lexer::{FaultKind, FileKind, ParseStop, SyntaxFault, logical_lines};
+use plain::Text;
 use std::alloc::Global;
 
-/// The tree of a file: the lines of its top level, each with the lines of its block.
+/// The tree of a file, with its names resolved.
 #[derive(Drop)]
 pub struct Parsed {
-    pub lines: Vec<Line>,
+    /// The names that its top level binds, by number.
+    pub globals: IndexSet<Text>,
+    /// The statements of its top level.
+    pub steps: Vec<Step>,
+}
+
+/// The lines of a file with their names resolved, in the scope of its top level.
+fn with_names(alloc: Global, scope: Scope, lines: &[Line]) -> Result<Parsed, ParseStop>
+    ensures ok { scope ≡ file_scope (view.lines lines.now) → IfOk result (λ p. program_of p ≡ resolved (view.lines lines.now)) }
+    ensures memory { IfErr result (λ stop. stop ≡ ParseStop.NoMemory) }
+{
+    let mut scope = scope;
+    match resolve_lines(alloc, &mut scope, lines, MAX_BLOCKS) {
+        Ok(steps) => Ok(Parsed {
+            globals: scope.into_globals(),
+            steps,
+        }),
+        Err(_) => Err(ParseStop::NoMemory),
+    }
 }
 
 /// Reads a file: its characters, its tokens, its brackets and columns, its statements, and then its scopes. The grammar is
@@ -26,7 +52,7 @@ pub struct Parsed {
 /// [`ParseStop::Fault`] where the text has no tree of this kind: the first fault of the first of the five passes that
 /// finds one, with its line. [`ParseStop::NoMemory`] may come in place of any answer, where memory was refused.
 pub fn parse(alloc: Global, text: &str, kind: FileKind) -> Result<Parsed, ParseStop>
-    ensures tree { IfOk result (λ p. (tree : Block) × (syntax text.now kind ≡ Ok tree) × (view.lines p.lines.items ≡ bare_lines tree)) }
+    ensures tree { IfOk result (λ p. (tree : Block) × (syntax text.now kind ≡ Ok tree) × (program_of p ≡ resolved (bare_lines tree))) }
     ensures fault { (f : SyntaxFault) → result ≡ Err (ParseStop.Fault f) → syntax text.now kind ≡ Err f }
 {
     let read = match logical_lines(alloc, text) {
@@ -37,8 +63,11 @@ pub fn parse(alloc: Global, text: &str, kind: FileKind) -> Result<Parsed, ParseS
         Ok(lines) => lines,
         Err(stop) => return Err(stop),
     };
-    match scope_fault(alloc, lines.as_slice()) {
-        Ok(None) => Ok(Parsed { lines }),
+    let Ok(mut scope) = file_scope(alloc, lines.as_slice()) else {
+        return Err(ParseStop::NoMemory);
+    };
+    match top_fault(alloc, &mut scope, lines.as_slice()) {
+        Ok(None) => with_names(alloc, scope, lines.as_slice()),
         Ok(Some(line)) => Err(ParseStop::Fault(SyntaxFault {
             line,
             kind: FaultKind::Scope,

@@ -1,11 +1,13 @@
 //! What is in scope: the names of the top level, of a function and of the comprehensions in it.
 
-ghost use Rattle.std.specs.Prelude.{◌≡◌, ◌&&◌, ◌||◌, ◌++◌, ◌∷◌, [], ◌<◌, ◌+◌, ℕ, List, IfOk, OnOk, drop, is_some, length, map, reverse, true};
-ghost use Rattle.syntax.specs.Names.{among, apart, distinct, once, predeclared};
+ghost use Rattle.std.specs.Prelude.{◌≡◌, ◌&&◌, ◌++◌, ◌∷◌, [], ◌<◌, ◌+◌, ℕ, List, IfOk, OnOk, drop, length, true};
+ghost use Rattle.syntax.specs.Names.{among, apart, distinct, once, stands_for, width};
+ghost use Rattle.syntax.specs.Resolved.{binding_of};
 ghost use Rattle.syntax.specs.Scopes.{is_bound, none_predeclared};
-ghost use Rattle.syntax.specs.ScopeView.{entered, in_function, left, scope_seen, slots_of};
+ghost use Rattle.syntax.specs.ScopeView.{entered, in_function, left};
 
-use crate::names::predeclared_as;
+use crate::levels::Levels;
+use crate::names::{Binding, predeclared_as};
 use indexmap::IndexSet;
 use plain::Text;
 use std::alloc::{AllocError, Global};
@@ -13,7 +15,7 @@ use std::marker::Model;
 use std::mem;
 
 /// The name at a place.
-fn name_at(names: &[Text], place: usize) -> &Text
+pub(crate) fn name_at(names: &[Text], place: usize) -> &Text
     requires { place < length names.now }
     ensures { drop place names.now ≡ result.now ∷ drop (place + 1) names.now }
 {
@@ -77,93 +79,67 @@ pub(crate) fn are_distinct(alloc: Global, names: &[Text]) -> Result<bool, AllocE
     Ok(told)
 }
 
-/// The names that the top level of a file binds, in the order of their bindings.
-#[derive(Drop)]
-pub(crate) struct Globals {
-    names: Vec<Text>,
-    set: IndexSet<Text>,
-}
-
-impl Model for Globals {
-    ghost use Rattle.std.specs.Prelude.{◌≡◌, ℕ, List};
-    ghost use Rattle.syntax.specs.Names.{among};
-
-    ghost Value = { List (List ℕ) };
-
-    ghost view = { λ g. g.names.items };
-
-    ghost invariant = { λ g. (x : List ℕ) → among x g.set.keys ≡ among x g.names.items };
-}
-
-impl Globals {
-    pub(crate) fn new(alloc: Global, names: Vec<Text>) -> Result<Globals, AllocError>
-        ensures { IfOk result (λ g. g ≡ names.items) }
-    {
-        let set = once(alloc, names.as_slice())?;
-        Ok(Globals { names, set })
-    }
-
-    fn contains(&self, name: &Text) -> bool
-        ensures { result ≡ among name.now self.now }
-    {
-        self.set.contains(name)
-    }
-}
-
 /// What is in scope somewhere in a file.
 #[derive(Drop)]
 pub(crate) struct Scope {
-    globals: Globals,
-    inner: Vec<IndexSet<Text>>,
+    globals: IndexSet<Text>,
+    levels: Levels,
 }
 
 impl Model for Scope {
-    ghost use Rattle.std.specs.Prelude.{map, reverse};
-    ghost use Rattle.syntax.specs.ScopeView.{Levels};
+    ghost use Rattle.syntax.specs.Names.{Scope as Names};
 
-    ghost Value = { Levels };
+    ghost Value = { Names };
 
-    ghost view = { λ a. record { globals = a.globals; inner = map (λ s. s.keys) (reverse a.inner.items) } };
-}
-
-/// Whether a name is among those of these levels, of which the last is the innermost.
-fn in_levels(levels: &[IndexSet<Text>], name: &Text) -> bool
-    ensures { result ≡ among name.now (slots_of (map (λ s. s.keys) (reverse levels.now))) }
-{
-    match levels {
-        [outer @ .., innermost] => innermost.contains(name) || in_levels(outer, name),
-        [] => false,
-    }
-}
-
-fn is_known(globals: &Globals, levels: &[IndexSet<Text>], name: &Text) -> bool
-    ensures { result ≡ (among name.now (slots_of (map (λ s. s.keys) (reverse levels.now))) || (among name.now globals.now || is_some (predeclared name.now))) }
-{
-    if in_levels(levels, name) {
-        return true;
-    }
-    if globals.contains(name) {
-        return true;
-    }
-    predeclared_as(name.as_str()).is_some()
+    ghost view = { λ a. record { globals = a.globals.keys; levels = a.levels } };
 }
 
 impl Scope {
-    /// The scope of the top level.
-    pub(crate) fn new(alloc: Global, globals: Globals) -> Scope
-        ensures { result ≡ record { globals = globals; inner = [] } }
+    /// The scope of a top level that binds these names.
+    pub(crate) fn new(alloc: Global, names: &[Text]) -> Result<Scope, AllocError>
+        ensures { IfOk result (λ s. s ≡ record { globals = once names.now; levels = [] }) }
     {
-        Scope {
-            globals,
-            inner: Vec::new(alloc),
+        Ok(Scope {
+            globals: once(alloc, names)?,
+            levels: Levels::new(alloc),
+        })
+    }
+
+    /// What a name stands for; None where it is bound nowhere.
+    fn stands_for(&self, name: &Text) -> Option<Binding>
+        ensures { result ≡ stands_for self.now name.now }
+    {
+        if let Some(slot) = self.levels.slot(name) {
+            return Some(Binding::Slot(slot));
+        }
+        if let Some(place) = self.globals.get_index_of(name) {
+            return Some(Binding::Global(place));
+        }
+        match predeclared_as(name.as_str()) {
+            Some(what) => Some(Binding::Builtin(what)),
+            None => None,
         }
     }
 
     /// Whether a name stands for something.
     pub(crate) fn is_bound(&self, name: &Text) -> bool
-        ensures { result ≡ is_bound (scope_seen self.now) name.now }
+        ensures { result ≡ is_bound self.now name.now }
     {
-        is_known(&self.globals, self.inner.as_slice(), name)
+        self.stands_for(name).is_some()
+    }
+
+    /// What a name stands for; the first slot where it is bound nowhere, which no name of a file without fault is.
+    pub(crate) fn binding(&self, name: &Text) -> Binding
+        ensures { result ≡ binding_of self.now name.now }
+    {
+        self.stands_for(name).unwrap_or(Binding::Slot(0))
+    }
+
+    /// How many slots are in use.
+    pub(crate) fn slots(&self) -> usize
+        ensures { result ≡ width self.now.levels }
+    {
+        self.levels.width()
     }
 
     /// Goes into a comprehension that binds these names.
@@ -171,15 +147,14 @@ impl Scope {
         ensures { OnOk result (self.new ≡ entered names.now self.old) }
     {
         let level = once(alloc, names)?;
-        self.inner.push(level)?;
-        Ok(())
+        self.levels.enter(level)
     }
 
     /// Leaves a comprehension.
     pub(crate) fn leave(&mut self)
         ensures { self.new ≡ left self.old }
     {
-        self.inner.pop();
+        self.levels.leave();
     }
 
     /// Goes into a function that binds these names, and gives the levels that it came from.
@@ -187,20 +162,27 @@ impl Scope {
         &mut self,
         alloc: Global,
         names: &[Text],
-    ) -> Result<Vec<IndexSet<Text>>, AllocError>
+    ) -> Result<Levels, AllocError>
         ensures entered { OnOk result (self.new ≡ in_function names.now self.old) }
-        ensures left { IfOk result (λ levels. map (λ s. s.keys) (reverse levels.items) ≡ self.old.inner) }
+        ensures left { IfOk result (λ levels. levels ≡ self.old.levels) }
     {
         let level = once(alloc, names)?;
-        let mut inner = Vec::new(alloc);
-        inner.push(level)?;
-        Ok(mem::replace(&mut self.inner, inner))
+        let mut levels = Levels::new(alloc);
+        levels.enter(level)?;
+        Ok(mem::replace(&mut self.levels, levels))
     }
 
     /// Goes back to the levels that a function was entered from.
-    pub(crate) fn leave_function(&mut self, levels: Vec<IndexSet<Text>>)
-        ensures { self.new ≡ record { globals = self.old.globals; inner = map (λ s. s.keys) (reverse levels.items) } }
+    pub(crate) fn leave_function(&mut self, levels: Levels)
+        ensures { self.new ≡ record { globals = self.old.globals; levels = levels } }
     {
-        self.inner = levels;
+        self.levels = levels;
+    }
+
+    /// The names of the top level, by number.
+    pub(crate) fn into_globals(self) -> IndexSet<Text>
+        ensures { result.keys ≡ self.globals }
+    {
+        self.globals
     }
 }

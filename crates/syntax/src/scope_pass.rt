@@ -6,12 +6,12 @@ ghost use Rattle.syntax.specs.BareLines.{Lines, a_line};
 ghost use Rattle.syntax.specs.LineView as view;
 ghost use Rattle.syntax.specs.declared.statements.Line.{out-Line};
 ghost use Rattle.syntax.specs.LineView.{form_of, item_of, line_of, param_of};
-ghost use Rattle.syntax.specs.Names.{Name, among, form_binds, function_scope, lines_bind, or_else, param_name, passed_on, scope_of};
-ghost use Rattle.syntax.specs.Scopes.{adds_to_name, defaults_last, form_scoped, has_default, line_scoped, lines_fault, param_scoped, params_scoped, scope_fault, scoped, top_fault, top_line_scoped, unless};
+ghost use Rattle.syntax.specs.Names.{Name, among, form_binds, function_scope, file_scope, lines_bind, or_else, param_name, passed_on, scope_of};
+ghost use Rattle.syntax.specs.Scopes.{adds_to_name, defaults_last, form_scoped, has_default, line_scoped, lines_fault, param_scoped, params_scoped, scoped, top_fault, top_line_scoped, unless};
 ghost use Rattle.syntax.specs.ScopeView.{Finds, FindsInside, Tells};
 ghost use Rattle.syntax.specs.TreeView.{tree_of};
 
-use crate::scope::{Globals, Scope, add_names, are_distinct, bind_anew, none_predeclared};
+use crate::scope::{Scope, add_names, are_distinct, bind_anew, none_predeclared};
 use crate::scope_rules::expr_scoped;
 use crate::statements::{Form, Item, Line, Param};
 use crate::tree::Expr;
@@ -21,9 +21,9 @@ use plain::Text;
 use std::alloc::{AllocError, Global};
 
 /// How many blocks may be inside of one another: 32 in a text, and the lines on the lines of heads.
-const MAX_BLOCKS: usize = 40;
+pub(crate) const MAX_BLOCKS: usize = 40;
 
-fn line_at(lines: &[Line], place: usize) -> &Line
+pub(crate) fn line_at(lines: &[Line], place: usize) -> &Line
     requires { place < length lines.now }
     ensures at { drop place lines.now ≡ result.now ∷ drop (place + 1) lines.now }
     ensures seen { (rest : Lines) → line_of result.now rest ≡ a_line (out-Line result.now).number (form_of (out-Line result.now).form) (view.lines (out-Line result.now).block.items) rest }
@@ -31,14 +31,14 @@ fn line_at(lines: &[Line], place: usize) -> &Line
     &lines[place]
 }
 
-fn param_at(params: &[Param], place: usize) -> &Param
+pub(crate) fn param_at(params: &[Param], place: usize) -> &Param
     requires { place < length params.now }
     ensures { drop place params.now ≡ result.now ∷ drop (place + 1) params.now }
 {
     &params[place]
 }
 
-fn item_at(items: &[Item], place: usize) -> &Item
+pub(crate) fn item_at(items: &[Item], place: usize) -> &Item
     requires { place < length items.now }
     ensures { drop place items.now ≡ result.now ∷ drop (place + 1) items.now }
 {
@@ -99,7 +99,7 @@ fn form_names(alloc: Global, form: &Form) -> Result<Vec<Text>, AllocError>
 }
 
 /// Adds the names of parameters.
-fn add_params(found: &mut Vec<Text>, params: &[Param]) -> Result<(), AllocError>
+pub(crate) fn add_params(found: &mut Vec<Text>, params: &[Param]) -> Result<(), AllocError>
     ensures { OnOk result (found.new.items ≡ found.old.items ++ map param_name (map param_of params.now)) }
 {
     for i in 0..params.len() {
@@ -118,7 +118,11 @@ fn keeps_names(form: &Form) -> bool
 }
 
 /// Adds the names that lines bind, in the order of the text.
-fn add_lines(found: &mut Vec<Text>, lines: &[Line], turns: usize) -> Result<(), AllocError>
+pub(crate) fn add_lines(
+    found: &mut Vec<Text>,
+    lines: &[Line],
+    turns: usize,
+) -> Result<(), AllocError>
     ensures { OnOk result (found.new.items ≡ found.old.items ++ lines_bind (view.lines lines.now)) }
 {
     if turns == 0 {
@@ -396,8 +400,16 @@ fn top_step(
     Ok(found)
 }
 
-/// The first line of the top level, or of a function in it, that breaks a rule.
-fn top_fault(alloc: Global, scope: &mut Scope, lines: &[Line]) -> Result<Option<usize>, AllocError>
+/// The first line of a file, in the order of the text, that breaks a rule, in the scope of its top level.
+///
+/// # Errors
+///
+/// Where memory was refused; or where expressions or blocks are deeper than those of any text that was read.
+pub(crate) fn top_fault(
+    alloc: Global,
+    scope: &mut Scope,
+    lines: &[Line],
+) -> Result<Option<usize>, AllocError>
     ensures { Finds (λ s. top_fault s [] (view.lines lines.now)) scope.old result scope.new }
 {
     let mut before = IndexSet::new(alloc);
@@ -410,18 +422,15 @@ fn top_fault(alloc: Global, scope: &mut Scope, lines: &[Line]) -> Result<Option<
     Ok(None)
 }
 
-/// The first line of a file, in the order of the text, that breaks a rule of scopes.
+/// The scope of the top level of a file.
 ///
 /// # Errors
 ///
-/// Where memory was refused; or where expressions or blocks are deeper than those of any text that was read.
-pub(crate) fn scope_fault(alloc: Global, lines: &[Line]) -> Result<Option<usize>, AllocError>
-    ensures { IfOk result (λ r. r ≡ scope_fault (view.lines lines.now)) }
+/// Where memory was refused; or where blocks are deeper than those of any text that was read.
+pub(crate) fn file_scope(alloc: Global, lines: &[Line]) -> Result<Scope, AllocError>
+    ensures { IfOk result (λ s. s ≡ file_scope (view.lines lines.now)) }
 {
     let mut names = Vec::new(alloc);
     add_lines(&mut names, lines, MAX_BLOCKS)?;
-    let globals = Globals::new(alloc, names)?;
-    let mut scope = Scope::new(alloc, globals);
-    let found = top_fault(alloc, &mut scope, lines)?;
-    Ok(found)
+    Scope::new(alloc, names.as_slice())
 }

@@ -2,8 +2,9 @@
 //! comprehension binds a predeclared name. What tells it of the expressions inside is a parameter, so that each form is
 //! proved by itself.
 
-ghost use Rattle.std.specs.Prelude.{◌≡◌, ◌&&◌, ◌+◌, ◌<◌, ◌∷◌, ◌++◌, [], IfOk, MatchOption, OnOk, drop, length};
+ghost use Rattle.std.specs.Prelude.{◌≡◌, ◌&&◌, ◌+◌, ◌<◌, ◌∷◌, ◌++◌, [], IfOk, MatchOption, OnOk, Some, drop, length};
 ghost use Rattle.syntax.specs.Names as names;
+ghost use Rattle.syntax.specs.Resolves.{first_tree};
 ghost use Rattle.syntax.specs.Names.{Scope as Around};
 ghost use Rattle.syntax.specs.Scopes.{entries_scoped, keyword_names, keywords_scoped, rest_scoped, scoped, trees_scoped};
 ghost use Rattle.syntax.specs.ScopeView.{Tells, TellsInside, first_scoped, others_scoped};
@@ -15,28 +16,28 @@ use crate::tree::{Clause, Entry, Expr, Keyword};
 use plain::Text;
 use std::alloc::{AllocError, Global};
 
-fn expr_at(exprs: &[Expr], place: usize) -> &Expr
+pub(crate) fn expr_at(exprs: &[Expr], place: usize) -> &Expr
     requires { place < length exprs.now }
     ensures { drop place exprs.now ≡ result.now ∷ drop (place + 1) exprs.now }
 {
     &exprs[place]
 }
 
-fn entry_at(entries: &[Entry], place: usize) -> &Entry
+pub(crate) fn entry_at(entries: &[Entry], place: usize) -> &Entry
     requires { place < length entries.now }
     ensures { drop place entries.now ≡ result.now ∷ drop (place + 1) entries.now }
 {
     &entries[place]
 }
 
-fn keyword_at(keywords: &[Keyword], place: usize) -> &Keyword
+pub(crate) fn keyword_at(keywords: &[Keyword], place: usize) -> &Keyword
     requires { place < length keywords.now }
     ensures { drop place keywords.now ≡ result.now ∷ drop (place + 1) keywords.now }
 {
     &keywords[place]
 }
 
-fn clause_at(clauses: &[Clause], place: usize) -> &Clause
+pub(crate) fn clause_at(clauses: &[Clause], place: usize) -> &Clause
     requires { place < length clauses.now }
     ensures { drop place clauses.now ≡ result.now ∷ drop (place + 1) clauses.now }
 {
@@ -57,7 +58,7 @@ fn add_clause(found: &mut Vec<Text>, clause: &Clause) -> Result<(), AllocError>
 }
 
 /// The names that the clauses of a comprehension bind.
-fn clause_names(alloc: Global, clauses: &[Clause]) -> Result<Vec<Text>, AllocError>
+pub(crate) fn clause_names(alloc: Global, clauses: &[Clause]) -> Result<Vec<Text>, AllocError>
     ensures { IfOk result (λ v. v.items ≡ names.clause_names (rests clauses.now)) }
 {
     let mut found = Vec::new(alloc);
@@ -79,7 +80,7 @@ fn keyword_names(alloc: Global, named: &[Keyword]) -> Result<Vec<Text>, AllocErr
 }
 
 /// A clause and those behind it.
-fn split(clauses: &[Clause]) -> Option<(&Clause, &[Clause])>
+pub(crate) fn split(clauses: &[Clause]) -> Option<(&Clause, &[Clause])>
     ensures { MatchOption result (clauses.now ≡ []) (λ p. clauses.now ≡ p.0.now ∷ p.1.now) }
 {
     match clauses {
@@ -89,8 +90,9 @@ fn split(clauses: &[Clause]) -> Option<(&Clause, &[Clause])>
 }
 
 /// The expression of a clause.
-fn operand(clause: &Clause) -> &Expr
-    ensures { (s t : Around) (r : Rest) → rest_scoped s t (clause_of clause.now r) ≡ (scoped s (tree_of result.now) && rest_scoped t t r) }
+pub(crate) fn operand(clause: &Clause) -> &Expr
+    ensures scoped { (s t : Around) (r : Rest) → rest_scoped s t (clause_of clause.now r) ≡ (scoped s (tree_of result.now) && rest_scoped t t r) }
+    ensures first { (r : Rest) → first_tree (clause_of clause.now r) ≡ Some (tree_of result.now) }
 {
     match clause {
         Clause::For(_, _, operand) => operand,

@@ -1,0 +1,36 @@
+-- Things put before others, and comprehensions without clauses.
+use Rattle.std.proofs.Common.{◌≡◌, ℕ, List, [], ◌∷◌, ◌++◌, ◌∙◌, map, Option, Some, None, refl, ap, sym}
+use Rattle.std.specs.Prelude.{option_map}
+use Rattle.syntax.specs.Bare.{Tree, Rest, done, for_each, only_if}
+use Rattle.syntax.specs.ProgramView.{onto}
+use Rattle.syntax.specs.Resolves.{first_tree}
+use Rattle.syntax.specs.BareLines.{Form, Lines, a_line}
+use Rattle.syntax.specs.Names.{Scope, scope_of}
+use Rattle.syntax.specs.Resolved.{Role, Statement, Steps, before, other_branch, other_steps, role_of, statement, steps_of}
+
+pub onto_last : {A B R : Type 0} (f : B → R → R) (g : A → B) (xs : List A) (x : A) (r : R) → onto f (map g (xs ++ x ∷ [])) r ≡ onto f (map g xs) (f (g x) r)
+onto_last f g [] x r = refl
+onto_last f g (y ∷ ys) x r = ap (f (g y)) (onto_last f g ys x r)
+
+pub no_clause : {A B : Type 0} (f : A → B) (g : Tree → B) (o : Option A) (r : Rest) → o ≡ None → option_map f o ≡ option_map g (first_tree r) → r ≡ done
+no_clause f g None done n e = refl
+no_clause f g None (for_each x xs a r) n e = absurd cc
+no_clause f g None (only_if a r) n e = absurd cc
+no_clause f g (Some b) r n e = absurd cc
+
+-- a line before those behind it, by what was made of them, of its block, and of itself
+pub line_made : (s : Scope) (n : ℕ) (f : Form) (ls whole rest : Lines) (r : Role) (p : ℕ × Statement) (after other : Steps) → whole ≡ a_line n f ls rest → r ≡ role_of f
+    → p ≡ (n, statement s f (scope_of s f ls) (steps_of (scope_of s f ls) ls) other) → steps_of s rest ≡ after → other_steps s rest ≡ other
+    → (steps_of s whole ≡ before r p.0 p.1 after) × (other_steps s whole ≡ other_branch r p.0 p.1 (steps_of (scope_of s f ls) ls))
+line_made s n f ls whole rest r p after other ew er ep ea eo =
+    let t = scope_of s f ls in (
+      ap (steps_of s) ew
+          ∙ ap (λ o. before (role_of f) n (statement s f t (steps_of t ls) o) (steps_of s rest)) eo
+          ∙ ap (before (role_of f) n (statement s f t (steps_of t ls) other)) ea
+          ∙ ap (λ q. before (role_of f) q.0 q.1 after) (sym ep)
+          ∙ ap (λ k. before k p.0 p.1 after) (sym er),
+      ap (other_steps s) ew
+          ∙ ap (λ o. other_branch (role_of f) n (statement s f t (steps_of t ls) o) (steps_of t ls)) eo
+          ∙ ap (λ q. other_branch (role_of f) q.0 q.1 (steps_of t ls)) (sym ep)
+          ∙ ap (λ k. other_branch k p.0 p.1 (steps_of t ls)) (sym er),
+    )

@@ -1,0 +1,15 @@
+use Rattle.std.proofs.Common.{◌≡◌, ◌∙◌, ap, map, refl, sym}
+use Rattle.syntax.specs.LineView.{form_of, item_of}
+use Rattle.syntax.specs.ProgramView as view
+use Rattle.syntax.specs.Resolved as resolved
+use Rattle.syntax.specs.Resolved.{binding_of}
+use Rattle.syntax.proofs.steps.statement.Goals as goal
+
+pub returns-in_ok-made-in-Load : goal.returns-in_ok-made-in-Load
+returns-in_ok-made-in-Load c t h =
+    let s = c.args.scope.now in (
+      c.in_ok-made-in-Load.ensures
+          ∙ ap (λ is. resolved.load c.in-Load.path (map (λ i. record { asked = i.asked; binds = binding_of s i.binds }) (map item_of is))) c.as_slice.ensures.value
+          ∙ ap (λ f. resolved.statement s (form_of f) t (view.steps c.args.inner.steps.items) (view.steps c.args.other.items)) (sym c.in-Load.is),
+      refl,
+    )

@@ -1,0 +1,116 @@
+-- The file with resolved names that the program's tree stands for.
+use Rattle.std.specs.Prelude.{ℕ, List, [], ◌∷◌, map, option_map}
+use Rattle.syntax.specs.TreeView.{operator_seen, sign_seen}
+use Rattle.syntax.specs.Resolved as resolved
+use Rattle.syntax.specs.Resolved.{Terms, no_terms, more_terms, Pairs, no_pairs, more_pairs, Keywords, no_keywords, more_keywords, Rounds, done, for_each, only_if, Steps, no_steps, step}
+use Rattle.syntax.specs.declared.program.Term.{Term, fold-Term}
+use Rattle.syntax.specs.declared.program.Round.TheOpen.{Term-F, Pair-F, Argument-F, Round-F}
+use Rattle.syntax.specs.declared.program.Pair.{Pair, fold-Pair}
+use Rattle.syntax.specs.declared.program.Argument.{Argument, fold-Argument}
+use Rattle.syntax.specs.declared.program.Round.{Round, fold-Round}
+use Rattle.syntax.specs.declared.program.Statement.{Statement, fold-Statement}
+use Rattle.syntax.specs.declared.program.Statement.TheOpen.{Statement-F, Function-F, Step-F}
+use Rattle.syntax.specs.declared.program.Function.{Function, fold-Function}
+use Rattle.syntax.specs.declared.program.Step.{Step, fold-Step}
+
+-- things one after the other, before others
+abbrev pub onto : {A R : Type 0} → (A → R → R) → List A → R → R
+onto f [] r = r
+onto f (x ∷ xs) r = f x (onto f xs r)
+
+abbrev pub terms_onto : List resolved.Term → Terms → Terms
+terms_onto = onto more_terms
+
+abbrev pub pairs_onto : List (resolved.Term × resolved.Term) → Pairs → Pairs
+pairs_onto = onto (λ p r. more_pairs p.0 p.1 r)
+
+abbrev pub keywords_onto : List (List ℕ × resolved.Term) → Keywords → Keywords
+keywords_onto = onto (λ k r. more_keywords k.0 k.1 r)
+
+abbrev pub rounds_onto : List (Rounds → Rounds) → Rounds → Rounds
+rounds_onto = onto (λ f r. f r)
+
+abbrev pub steps_onto : List (ℕ × resolved.Statement) → Steps → Steps
+steps_onto = onto (λ s r. step s.0 s.1 r)
+
+-- one layer, whose parts are seen already
+abbrev pub term_step : Term-F (Rounds → Rounds) resolved.Term (List ℕ × resolved.Term) (resolved.Term × resolved.Term) → resolved.Term
+term_step (Term-F.Name b) = resolved.named b
+term_step (Term-F.Number n) = resolved.numeral n
+term_step (Term-F.Str t) = resolved.quoted t
+term_step (Term-F.Tuple ts) = resolved.tuple (terms_onto ts.items no_terms)
+term_step (Term-F.ListOf ts) = resolved.listing (terms_onto ts.items no_terms)
+term_step (Term-F.DictOf ps) = resolved.dict (pairs_onto ps.items no_pairs)
+term_step (Term-F.Choice a c b) = resolved.choice a.value c.value b.value
+term_step (Term-F.Binary op a b) = resolved.operates (operator_seen op) a.value b.value
+term_step (Term-F.Unary sign a) = resolved.turned (sign_seen sign) a.value
+term_step (Term-F.Attribute f x) = resolved.selects f.value x
+term_step (Term-F.Index f a) = resolved.subscript f.value a.value
+term_step (Term-F.Call f ts ks) = resolved.invokes f.value (terms_onto ts.items no_terms) (keywords_onto ks.items no_keywords)
+term_step (Term-F.ListEach a rs) = resolved.each a.value (rounds_onto rs.items done)
+term_step (Term-F.DictEach k v rs) = resolved.each_pair k.value v.value (rounds_onto rs.items done)
+
+abbrev pub pair_step : Pair-F (Rounds → Rounds) resolved.Term (List ℕ × resolved.Term) (resolved.Term × resolved.Term) → resolved.Term × resolved.Term
+pair_step p = (p.key, p.value)
+
+abbrev pub argument_step : Argument-F (Rounds → Rounds) resolved.Term (List ℕ × resolved.Term) (resolved.Term × resolved.Term) → List ℕ × resolved.Term
+argument_step k = (k.name, k.value)
+
+abbrev pub round_step : Round-F (Rounds → Rounds) resolved.Term (List ℕ × resolved.Term) (resolved.Term × resolved.Term) → Rounds → Rounds
+round_step (Round-F.For bs t) = for_each bs.items t
+round_step (Round-F.If t) = only_if t
+
+abbrev pub term : Term → resolved.Term
+term = fold-Term (Rounds → Rounds) resolved.Term (List ℕ × resolved.Term) (resolved.Term × resolved.Term) round_step term_step argument_step pair_step
+
+abbrev pub pair : Pair → resolved.Term × resolved.Term
+pair = fold-Pair (Rounds → Rounds) resolved.Term (List ℕ × resolved.Term) (resolved.Term × resolved.Term) round_step term_step argument_step pair_step
+
+abbrev pub argument : Argument → List ℕ × resolved.Term
+argument = fold-Argument (Rounds → Rounds) resolved.Term (List ℕ × resolved.Term) (resolved.Term × resolved.Term) round_step term_step argument_step pair_step
+
+abbrev pub round : Round → Rounds → Rounds
+round = fold-Round (Rounds → Rounds) resolved.Term (List ℕ × resolved.Term) (resolved.Term × resolved.Term) round_step term_step argument_step pair_step
+
+abbrev pub terms : List Term → Terms
+terms ts = terms_onto (map term ts) no_terms
+
+abbrev pub pairs : List Pair → Pairs
+pairs ps = pairs_onto (map pair ps) no_pairs
+
+abbrev pub keywords : List Argument → Keywords
+keywords ks = keywords_onto (map argument ks) no_keywords
+
+abbrev pub rounds : List Round → Rounds
+rounds rs = rounds_onto (map round rs) done
+
+-- a statement, whose blocks are seen already
+abbrev pub statement_step : Statement-F resolved.Statement resolved.Statement (ℕ × resolved.Statement) → resolved.Statement
+statement_step (Statement-F.Load p items) = resolved.load p items.items
+statement_step (Statement-F.Define f) = f
+statement_step (Statement-F.If a inner other) = resolved.branch (term a) (steps_onto inner.items no_steps) (steps_onto other.items no_steps)
+statement_step (Statement-F.For bs a inner) = resolved.loop bs.items (term a) (steps_onto inner.items no_steps)
+statement_step (Statement-F.Assign bs a) = resolved.assign bs.items (term a)
+statement_step (Statement-F.AssignAt f a b) = resolved.assign_item (term f) (term a) (term b)
+statement_step (Statement-F.Add x a) = resolved.add_to x (term a)
+statement_step (Statement-F.AddAt f a b) = resolved.add_to_item (term f) (term a) (term b)
+statement_step (Statement-F.Evaluate a) = resolved.evaluate (term a)
+statement_step Statement-F.Pass = resolved.pass
+statement_step Statement-F.Break = resolved.break_loop
+statement_step Statement-F.Continue = resolved.continue_loop
+statement_step (Statement-F.Return a) = resolved.give_back (option_map term a)
+
+abbrev pub function_step : Function-F resolved.Statement resolved.Statement (ℕ × resolved.Statement) → resolved.Statement
+function_step f = resolved.define f.binds f.params.items (terms f.defaults.items) f.slots (steps_onto f.steps.items no_steps)
+
+abbrev pub step_step : Step-F resolved.Statement resolved.Statement (ℕ × resolved.Statement) → ℕ × resolved.Statement
+step_step s = (s.line, s.statement)
+
+abbrev pub statement : Statement → resolved.Statement
+statement = fold-Statement resolved.Statement resolved.Statement (ℕ × resolved.Statement) statement_step function_step step_step
+
+abbrev pub line_and_statement : Step → ℕ × resolved.Statement
+line_and_statement = fold-Step resolved.Statement resolved.Statement (ℕ × resolved.Statement) statement_step function_step step_step
+
+abbrev pub steps : List Step → Steps
+steps ss = steps_onto (map line_and_statement ss) no_steps

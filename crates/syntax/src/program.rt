@@ -1,0 +1,232 @@
+//! A file whose names are resolved: what a program that runs it reads.
+
+ghost use Rattle.std.specs.Prelude.{◌≡◌, IfOk};
+ghost use Rattle.syntax.specs.ProgramView as view;
+ghost use Rattle.syntax.specs.Resolved as resolved;
+ghost use Rattle.syntax.specs.TreeView.{operator_seen, sign_seen};
+
+use crate::names::Binding;
+use crate::tree::{Operator, Sign};
+use plain::Text;
+use std::alloc::{AllocError, Global};
+
+/// An expression. It is at most 200 deep in a file that was read.
+#[cycle(terms)]
+#[derive(Drop)]
+pub enum Term {
+    Name(Binding),
+    Number(u64),
+    /// A string, with its escapes read.
+    Str(Text),
+    Tuple(Vec<Term>),
+    ListOf(Vec<Term>),
+    DictOf(Vec<Pair>),
+    /// `THEN if TEST else OTHER`, in the order of the text.
+    Choice(Box<Term>, Box<Term>, Box<Term>),
+    Binary(Operator, Box<Term>, Box<Term>),
+    Unary(Sign, Box<Term>),
+    Attribute(Box<Term>, Text),
+    Index(Box<Term>, Box<Term>),
+    /// A call, with its positional arguments and then those with names.
+    Call(Box<Term>, Vec<Term>, Vec<Argument>),
+    /// `[ELEMENT for ..]`, with all its clauses; the first one is a `for`.
+    ListEach(Box<Term>, Vec<Round>),
+    /// `{KEY: VALUE for ..}`.
+    DictEach(Box<Term>, Box<Term>, Vec<Round>),
+}
+
+/// An entry of a dict.
+#[cycle(terms)]
+#[derive(Drop)]
+pub struct Pair {
+    pub key: Term,
+    pub value: Term,
+}
+
+/// An argument with its name.
+#[cycle(terms)]
+#[derive(Drop)]
+pub struct Argument {
+    pub name: Text,
+    pub value: Term,
+}
+
+/// A clause of a comprehension.
+#[cycle(terms)]
+#[derive(Drop)]
+pub enum Round {
+    /// `for`, with what its names stand for, and its operand.
+    For(Vec<Binding>, Term),
+    If(Term),
+}
+
+/// What a `load` binds: the name in the module, and what it is in this file.
+#[derive(Drop)]
+pub struct Loaded {
+    pub asked: Text,
+    pub binds: Binding,
+}
+
+/// A statement. Where several names are bound, the items of a sequence go to them.
+#[cycle(steps)]
+#[derive(Drop)]
+pub enum Statement {
+    /// `load(MODULE, ..)`.
+    Load(Text, Vec<Loaded>),
+    Define(Function),
+    /// A condition, and the statements of both branches. An `elif` is an `if` in the other branch.
+    If(Term, Vec<Step>, Vec<Step>),
+    For(Vec<Binding>, Term, Vec<Step>),
+    Assign(Vec<Binding>, Term),
+    /// `BASE[INDEX] = VALUE`.
+    AssignAt(Term, Term, Term),
+    /// `NAME += VALUE`.
+    Add(Binding, Term),
+    /// `BASE[INDEX] += VALUE`.
+    AddAt(Term, Term, Term),
+    Evaluate(Term),
+    Pass,
+    Break,
+    Continue,
+    Return(Option<Term>),
+}
+
+/// A function.
+#[cycle(steps)]
+#[derive(Drop)]
+pub struct Function {
+    pub binds: Binding,
+    pub params: Vec<Text>,
+    /// The defaults of the last parameters.
+    pub defaults: Vec<Term>,
+    /// How many slots its parameters and its lines have; comprehensions in it have more behind them.
+    pub slots: usize,
+    pub steps: Vec<Step>,
+}
+
+/// A statement, with the number of its first line in the file, counted from 1.
+#[cycle(steps)]
+#[derive(Drop)]
+pub struct Step {
+    pub line: usize,
+    pub statement: Statement,
+}
+
+pub(crate) fn binary(
+    alloc: Global,
+    operator: Operator,
+    left: Term,
+    right: Term,
+) -> Result<Term, AllocError>
+    ensures { IfOk result (λ t. view.term t ≡ resolved.operates (operator_seen operator) (view.term left) (view.term right)) }
+{
+    Ok(Term::Binary(operator, Box::new(alloc, left)?, Box::new(alloc, right)?))
+}
+
+pub(crate) fn unary(alloc: Global, sign: Sign, operand: Term) -> Result<Term, AllocError>
+    ensures { IfOk result (λ t. view.term t ≡ resolved.turned (sign_seen sign) (view.term operand)) }
+{
+    Ok(Term::Unary(sign, Box::new(alloc, operand)?))
+}
+
+pub(crate) fn choice(alloc: Global, then: Term, test: Term, other: Term) -> Result<Term, AllocError>
+    ensures { IfOk result (λ t. view.term t ≡ resolved.choice (view.term then) (view.term test) (view.term other)) }
+{
+    Ok(Term::Choice(
+        Box::new(alloc, then)?,
+        Box::new(alloc, test)?,
+        Box::new(alloc, other)?,
+    ))
+}
+
+pub(crate) fn attribute(alloc: Global, of: Term, name: Text) -> Result<Term, AllocError>
+    ensures { IfOk result (λ t. view.term t ≡ resolved.selects (view.term of) name) }
+{
+    Ok(Term::Attribute(Box::new(alloc, of)?, name))
+}
+
+pub(crate) fn index(alloc: Global, of: Term, at: Term) -> Result<Term, AllocError>
+    ensures { IfOk result (λ t. view.term t ≡ resolved.subscript (view.term of) (view.term at)) }
+{
+    Ok(Term::Index(Box::new(alloc, of)?, Box::new(alloc, at)?))
+}
+
+pub(crate) fn call(
+    alloc: Global,
+    callee: Term,
+    items: Vec<Term>,
+    named: Vec<Argument>,
+) -> Result<Term, AllocError>
+    ensures { IfOk result (λ t. view.term t ≡ resolved.invokes (view.term callee) (view.terms items.items) (view.keywords named.items)) }
+{
+    Ok(Term::Call(Box::new(alloc, callee)?, items, named))
+}
+
+pub(crate) fn list_each(
+    alloc: Global,
+    element: Term,
+    clauses: Vec<Round>,
+) -> Result<Term, AllocError>
+    ensures { IfOk result (λ t. view.term t ≡ resolved.each (view.term element) (view.rounds clauses.items)) }
+{
+    Ok(Term::ListEach(Box::new(alloc, element)?, clauses))
+}
+
+pub(crate) fn dict_each(
+    alloc: Global,
+    key: Term,
+    value: Term,
+    clauses: Vec<Round>,
+) -> Result<Term, AllocError>
+    ensures { IfOk result (λ t. view.term t ≡ resolved.each_pair (view.term key) (view.term value) (view.rounds clauses.items)) }
+{
+    Ok(Term::DictEach(Box::new(alloc, key)?, Box::new(alloc, value)?, clauses))
+}
+
+pub(crate) fn tuple(items: Vec<Term>) -> Term
+    ensures { view.term result ≡ resolved.tuple (view.terms items.items) }
+{
+    Term::Tuple(items)
+}
+
+pub(crate) fn list_of(items: Vec<Term>) -> Term
+    ensures { view.term result ≡ resolved.listing (view.terms items.items) }
+{
+    Term::ListOf(items)
+}
+
+pub(crate) fn dict_of(found: Vec<Pair>) -> Term
+    ensures { view.term result ≡ resolved.dict (view.pairs found.items) }
+{
+    Term::DictOf(found)
+}
+
+pub(crate) fn name(binding: Binding) -> Term
+    ensures { view.term result ≡ resolved.named binding }
+{
+    Term::Name(binding)
+}
+
+pub(crate) fn number(value: u64) -> Term
+    ensures { view.term result ≡ resolved.numeral value }
+{
+    Term::Number(value)
+}
+
+pub(crate) fn string(text: Text) -> Term
+    ensures { view.term result ≡ resolved.quoted text }
+{
+    Term::Str(text)
+}
+
+pub(crate) fn entry(key: Term, value: Term) -> Pair
+    ensures { view.pair result ≡ (view.term key, view.term value) }
+{
+    Pair { key, value }
+}
+
+pub(crate) fn keyword(name: Text, value: Term) -> Argument
+    ensures { view.argument result ≡ (name, view.term value) }
+{
+    Argument { name, value }
+}
