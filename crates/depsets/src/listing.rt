@@ -78,6 +78,7 @@ impl Depset {
     ///
     /// `Large` exactly where the listing has more items; `NoMemory` as for `list_whole`.
     pub fn to_list(&self, alloc: Global) -> Result<Listing, ListError>
+        ensures walk { IfOk result (λ l. l.items.keys ≡ walked self.now) }
         ensures items { IfOk result (λ l. IsCoherent self.now → l.items.keys ≡ flat self.now) }
         ensures steps { IfOk result (λ l. IsCoherent self.now → l.steps ≡ work self.now) }
         ensures fits { IfOk result (λ l. IsCoherent self.now → length (flat self.now) ≤ ITEMS) }

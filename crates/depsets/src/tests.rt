@@ -1,5 +1,5 @@
 //! Worked depsets: orders, mixed orders, refusals in order, levels, steps and sizes at their exact numbers.
-use crate::{Depset, DepsetError, Element, Id, ListError, Order};
+use crate::{Depset, DepsetError, Element, FileRef, Id, ListError, Order};
 use plain::Text;
 use std::alloc::Global;
 use std::test::Fail;
@@ -113,6 +113,26 @@ fn elements_of_one_type(rt: HostRuntime) -> Result<(), Fail> {
     );
     assert!(rt; matches!(mixed, Err(DepsetError::Mixed)));
     assert!(rt; strings(alloc, 6, Order::Default, &[], &[&none, &one])?.is_ok());
+    Ok(())
+}
+
+/// Whether a depset of this element alone lists it.
+fn lists_itself(alloc: Global, element: Element) -> Result<bool, Fail> {
+    let direct = Vec::from_array(alloc, [element.share()?])?;
+    let id = numbered(alloc, 1)?;
+    let one = made(Depset::new(alloc, id, Order::Default, direct, Vec::new(alloc)))?;
+    let listing = one.list_whole(alloc)?;
+    Ok(listing.items.len() == 1 && listing.items.contains(&element))
+}
+
+#[test]
+fn elements_of_each_type(rt: HostRuntime) -> Result<(), Fail> {
+    let alloc = rt.alloc();
+    assert!(rt; lists_itself(alloc, Element::Truth(true))?);
+    assert!(rt; lists_itself(alloc, Element::Label(Text::new(alloc, "//a:x")?))?);
+    let path = Text::new(alloc, "a/x.txt")?;
+    let owner = Text::new(alloc, "//a:x")?;
+    assert!(rt; lists_itself(alloc, Element::File(FileRef { path, owner }))?);
     Ok(())
 }
 

@@ -43,6 +43,8 @@ pub use value::Value;
 #[cfg(test)]
 mod repr_tests;
 #[cfg(test)]
+mod script;
+#[cfg(test)]
 mod tests;
 #[cfg(test)]
 mod text_tests;

@@ -1,8 +1,8 @@
 //! `str`: texts, ticks and refusals at their exact numbers.
-use crate::world::World;
+use crate::script::{Ask, Make, all_hold};
+use crate::world::{Change, World};
 use crate::{
-    AttributeKind, AttributeRef, FileRef, FunctionRef, Kind, LARGEST_TEXT, Leaf, Object,
-    ProviderRef,
+    AttributeKind, AttributeRef, FileRef, FunctionRef, LARGEST_TEXT, Leaf, Object, ProviderRef,
 };
 use plain::Text;
 use std::alloc::Global;
@@ -21,7 +21,7 @@ fn refuses(alloc: Global, leaf: Leaf) -> Result<bool, Fail> {
     let mut world = World::new(alloc);
     world.leaf(leaf)?;
     world.list(&[0])?;
-    Ok(world.prints_not(0, 1, &Kind::Wrong)? && world.prints_not(1, 2, &Kind::Wrong)?)
+    Ok(world.prints_not(0, 1, "type")? && world.prints_not(1, 2, "type")?)
 }
 
 #[test]
@@ -73,52 +73,61 @@ fn leaves_without_a_text(rt: HostRuntime) -> Result<(), Fail> {
 
 #[test]
 fn dict_after_a_change(rt: HostRuntime) -> Result<(), Fail> {
-    let mut world = World::new(rt.alloc());
-    world.leaf(Leaf::Number(1))?;
-    world.leaf(Leaf::Number(2))?;
-    world.leaf(Leaf::Number(3))?;
-    world.dict(&[("b", 0), ("a", 1)])?;
-    world.set_key(3, "b", 2)?;
-    assert!(rt; world.prints(3, 5, "{\"b\": 3, \"a\": 2}")?);
+    let steps = [
+        Make::Number(1),
+        Make::Number(2),
+        Make::Number(3),
+        Make::Dict(&[("b", 0), ("a", 1)]),
+        Make::Changed(Change::SetKey(3, "b", 2)),
+    ];
+    let asks = [Ask::Prints(3, 5, "{\"b\": 3, \"a\": 2}")];
+    assert!(rt; all_hold(rt.alloc(), &steps, &asks)?);
+    Ok(())
+}
+
+#[test]
+fn list_after_it_is_extended(rt: HostRuntime) -> Result<(), Fail> {
+    let steps = [
+        Make::Number(1),
+        Make::List(&[0]),
+        Make::Changed(Change::Extend(1, &[0, 0])),
+    ];
+    let asks = [Ask::Prints(1, 4, "[1, 1, 1]")];
+    assert!(rt; all_hold(rt.alloc(), &steps, &asks)?);
     Ok(())
 }
 
 #[test]
 fn sequences_and_what_is_frozen(rt: HostRuntime) -> Result<(), Fail> {
-    let mut world = World::new(rt.alloc());
-    world.leaf(Leaf::Number(1))?;
-    world.tuple(&[])?;
-    world.tuple(&[0])?;
-    world.list(&[1, 2, 0])?;
-    assert!(rt; world.prints(3, 5, "[(), (1,), 1]")?);
-    world.frozen(3, 5)?;
-    assert!(rt; world.prints(4, 5, "[(), (1,), 1]")?);
-    world.dict(&[("a\"", 4)])?;
-    assert!(rt; world.prints(5, 7, "{\"a\\\"\": [(), (1,), 1]}")?);
-    world.tuple(&[4, 4])?;
-    assert!(rt; world.prints(6, 11, "([(), (1,), 1], [(), (1,), 1])")?);
+    let steps = [
+        Make::Number(1),
+        Make::Tuple(&[]),
+        Make::Tuple(&[0]),
+        Make::List(&[1, 2, 0]),
+        Make::Frozen(3, 5),
+        Make::Dict(&[("a\"", 4)]),
+        Make::Tuple(&[4, 4]),
+    ];
+    let asks = [
+        Ask::Prints(3, 5, "[(), (1,), 1]"),
+        Ask::Prints(4, 5, "[(), (1,), 1]"),
+        Ask::Prints(5, 7, "{\"a\\\"\": [(), (1,), 1]}"),
+        Ask::Prints(6, 11, "([(), (1,), 1], [(), (1,), 1])"),
+    ];
+    assert!(rt; all_hold(rt.alloc(), &steps, &asks)?);
     Ok(())
 }
 
 #[test]
 fn instances_have_no_text(rt: HostRuntime) -> Result<(), Fail> {
-    let mut world = World::new(rt.alloc());
-    world.instance(&[])?;
-    world.frozen(0, 1)?;
-    world.list(&[0])?;
-    assert!(rt; world.prints_not(0, 1, &Kind::Wrong)?);
-    assert!(rt; world.prints_not(1, 1, &Kind::Wrong)?);
-    assert!(rt; world.prints_not(2, 2, &Kind::Wrong)?);
+    let steps = [Make::Instance(&[]), Make::Frozen(0, 1), Make::List(&[0])];
+    let asks = [
+        Ask::PrintsNot(0, 1, "type"),
+        Ask::PrintsNot(1, 1, "type"),
+        Ask::PrintsNot(2, 2, "type"),
+    ];
+    assert!(rt; all_hold(rt.alloc(), &steps, &asks)?);
     Ok(())
-}
-
-/// Adds a string of so many bytes.
-fn add_string(world: &mut World, alloc: Global, bytes: usize) -> Result<(), Fail> {
-    let mut text = String::new(alloc);
-    for _ in 0..bytes {
-        text.push_str("a")?;
-    }
-    world.leaf(Leaf::Text(Text::from_string(text)?))
 }
 
 /// So many bytes less than a string may have.
@@ -126,34 +135,28 @@ fn below_greatest(bytes: usize) -> usize {
     LARGEST_TEXT.saturating_sub(bytes)
 }
 
-/// Whether `str` of a list of a string of so many bytes has four more.
-fn prints_string(alloc: Global, bytes: usize) -> Result<bool, Fail> {
-    let mut world = World::new(alloc);
-    add_string(&mut world, alloc, bytes)?;
-    world.list(&[0])?;
-    Ok(world.printed_bytes(1)? == Ok(bytes.saturating_add(4)))
-}
-
-/// Whether `str` of a list of a string of so many bytes is `large`, but not of the string itself, and `type`
-/// where a part without a text comes after it.
-fn is_too_large(alloc: Global, bytes: usize) -> Result<bool, Fail> {
-    let mut world = World::new(alloc);
-    add_string(&mut world, alloc, bytes)?;
-    world.list(&[0])?;
-    world.leaf(Leaf::Target(0))?;
-    world.list(&[0, 0, 2])?;
-    let itself = world.printed_bytes(0)? == Ok(bytes);
-    Ok(itself && world.prints_not(1, 2, &Kind::Large)? && world.prints_not(3, 4, &Kind::Wrong)?)
-}
-
 #[test]
 fn greatest_text(rt: HostRuntime) -> Result<(), Fail> {
-    assert!(rt; prints_string(rt.alloc(), below_greatest(4))?);
+    let steps = [Make::Letters(below_greatest(4)), Make::List(&[0])];
+    let asks = [Ask::PrintedBytes(1, LARGEST_TEXT)];
+    assert!(rt; all_hold(rt.alloc(), &steps, &asks)?);
     Ok(())
 }
 
 #[test]
 fn text_one_byte_too_large(rt: HostRuntime) -> Result<(), Fail> {
-    assert!(rt; is_too_large(rt.alloc(), below_greatest(3))?);
+    let bytes = below_greatest(3);
+    let steps = [
+        Make::Letters(bytes),
+        Make::List(&[0]),
+        Make::Target(0),
+        Make::List(&[0, 0, 2]),
+    ];
+    let asks = [
+        Ask::PrintedBytes(0, bytes),
+        Ask::PrintsNot(1, 2, "large"),
+        Ask::PrintsNot(3, 4, "type"),
+    ];
+    assert!(rt; all_hold(rt.alloc(), &steps, &asks)?);
     Ok(())
 }

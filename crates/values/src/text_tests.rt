@@ -1,4 +1,5 @@
 //! The text of each kind of value, as the table of texts has it.
+use crate::script::{Ask, Make, all_hold};
 use crate::{
     AttributeKind, AttributeRef, Depset, Element, ExportName, Exported, FileRef, Frozen,
     FunctionRef, Id, Key, Leaf, Order, ProviderRef, text,
@@ -43,8 +44,14 @@ fn is_text(alloc: Global, value: &Frozen, want: &str) -> Result<bool, Fail> {
     Ok(found.as_str() == want)
 }
 
+/// Whether this is the text of a second name of the leaf.
 fn is_leaf_text(alloc: Global, leaf: Leaf, want: &str) -> Result<bool, Fail> {
-    is_text(alloc, &Frozen::of_leaf(leaf), want)
+    is_text(alloc, &Frozen::of_leaf(leaf.share()?), want)
+}
+
+/// Whether this is the text of the key as a leaf.
+fn is_key_text(alloc: Global, key: Key, want: &str) -> Result<bool, Fail> {
+    is_leaf_text(alloc, key.to_leaf()?, want)
 }
 
 fn number(number: i64) -> Frozen {
@@ -131,5 +138,29 @@ fn lists_tuples_dicts_and_instances(rt: HostRuntime) -> Result<(), Fail> {
     let values = Vec::from_array(alloc, [dict])?;
     let instance = Frozen::instance(alloc, provider(alloc, "P")?, names, values)?;
     assert!(rt; is_text(alloc, &instance, "a/f.bzl%P(m={\"a\": [(1,), (1, 2)]})")?);
+    Ok(())
+}
+
+#[test]
+fn keys_as_leaves(rt: HostRuntime) -> Result<(), Fail> {
+    let alloc = rt.alloc();
+    assert!(rt; is_key_text(alloc, Key::Text(Text::new(alloc, "a")?), "\"a\"")?);
+    assert!(rt; is_key_text(alloc, Key::Number(1), "1")?);
+    assert!(rt; is_key_text(alloc, Key::Truth(true), "True")?);
+    Ok(())
+}
+
+#[test]
+fn entries_of_several_kinds(rt: HostRuntime) -> Result<(), Fail> {
+    let steps = [
+        Make::Number(1),
+        Make::Text("s"),
+        Make::Dict(&[("b", 0), ("a", 1)]),
+        Make::Tuple(&[1]),
+        Make::Dict(&[("d", 2), ("c", 3)]),
+        Make::Frozen(4, 10),
+    ];
+    let want = "{\"d\": {\"b\": 1, \"a\": \"s\"}, \"c\": (\"s\",)}";
+    assert!(rt; all_hold(rt.alloc(), &steps, &[Ask::Reports(5, want)])?);
     Ok(())
 }

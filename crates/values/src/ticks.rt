@@ -1,5 +1,5 @@
 //! Ticks, the kinds of fault, and what a visit costs.
-ghost use Rattle.std.specs.Prelude.{◌≡◌, ◌+◌, ◌≤◌, ◌<◌, Ok, Err, MatchResult};
+ghost use Rattle.std.specs.Prelude.{◌≡◌, ◌+◌, ◌≤◌, ◌<◌, Ok, Err, MatchResult, OnErr};
 ghost use Rattle.values.specs.Ticking.{ticked, entered, FaultOr};
 ghost use Rattle.values.specs.KindText.{kind_text};
 
@@ -169,9 +169,10 @@ impl Ticks {
         self.used
     }
 
-    /// One tick more, or the fault `steps` where the limit is used up.
+    /// One tick more, or the fault `steps` where the limit is used up; then they stay as they were.
     pub fn tick(&mut self) -> Result<(), Broken>
-        ensures { MatchResult result (λ _. ticked self.old ≡ Ok self.new) (λ e. (e ≡ Broken.Kind Kind.Steps) × (ticked self.old ≡ Err Kind.Steps)) }
+        ensures answer { MatchResult result (λ _. ticked self.old ≡ Ok self.new) (λ e. (e ≡ Broken.Kind Kind.Steps) × (ticked self.old ≡ Err Kind.Steps)) }
+        ensures spent { OnErr result (self.new ≡ self.old) }
     {
         if self.used < self.limit {
             self.used += 1;
