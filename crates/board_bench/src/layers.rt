@@ -1,4 +1,6 @@
 //! The graph that is timed: nodes in layers, each of which depends on nodes a layer before.
+ghost use Rattle.std.specs.Prelude.{◌≡◌, length, IfOk, IfSome};
+
 use crate::graph::Graph;
 use std::alloc::{AllocError, Global};
 
@@ -33,7 +35,9 @@ fn users_of(alloc: Global, node: usize) -> Result<Vec<usize>, AllocError> {
 }
 
 /// The graph of all layers.
-pub fn layers(alloc: Global) -> Result<Option<Graph>, AllocError> {
+pub fn layers(alloc: Global) -> Result<Option<Graph>, AllocError>
+    ensures { IfOk result (λ found. IfSome found (λ g. length g.plan ≡ NODES)) }
+{
     let mut plan = Vec::new(alloc);
     let mut users = Vec::new(alloc);
     for node in 0..NODES {

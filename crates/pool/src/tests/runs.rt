@@ -150,27 +150,39 @@ fn each_node_is_entered_and_left_once(rt: HostRuntime) -> Result<(), Fail> {
     Ok(())
 }
 
-/// Runs workers for whom there is no memory at one node of the diamond. Whether they say so.
+/// Runs so many workers for whom there is no memory at one node. Whether they say so.
+fn is_refused<G: Gate, R: Threads + Wait + Sync>(
+    rt: &R,
+    alloc: Global,
+    graph: &Graph,
+    workers: usize,
+    at: usize,
+    gate: &G,
+) -> bool {
+    if workers == 0 || workers > 64 {
+        return false;
+    }
+    let mixing = Mixing {
+        nodes: graph.nodes(),
+    };
+    let refusing = Refusing { mixing, at };
+    match run(rt, alloc, graph, &refusing, workers, gate) {
+        Ok(_) => false,
+        Err(refused) => refused == Refused::NoMemory,
+    }
+}
+
+/// Whether workers for whom there is no memory at one node of the diamond say so.
 fn refused_at<R: Threads + Wait + Sync>(
     rt: &R,
     alloc: Global,
     workers: usize,
     at: usize,
 ) -> Result<bool, Fail> {
-    if workers == 0 || workers > 64 {
-        return Ok(false);
-    }
     let Some(graph) = diamond(alloc)? else {
         return Ok(false);
     };
-    let mixing = Mixing {
-        nodes: graph.nodes(),
-    };
-    let refusing = Refusing { mixing, at };
-    Ok(match run(rt, alloc, &graph, &refusing, workers, &NoGate) {
-        Ok(_) => false,
-        Err(refused) => refused == Refused::NoMemory,
-    })
+    Ok(is_refused(rt, alloc, &graph, workers, at, &NoGate))
 }
 
 #[test]
@@ -179,6 +191,20 @@ fn a_worker_without_memory_ends_the_run(rt: HostRuntime) -> Result<(), Fail> {
     assert!(rt; refused_at(&rt, alloc, 1, 0)?);
     assert!(rt; refused_at(&rt, alloc, 2, 2)?);
     assert!(rt; refused_at(&rt, alloc, 64, 3)?);
+    Ok(())
+}
+
+#[test]
+fn the_halt_reaches_workers_that_were_refused_nothing(rt: HostRuntime) -> Result<(), Fail> {
+    let alloc = rt.alloc();
+    let Some(four) = apart(alloc, 4)? else {
+        panic!(rt; "no graph")
+    };
+    // Each worker is at a node of its own when node 2 is refused; this one stays left, so that only
+    // the halt ends the others.
+    let gate = Meeting::of(0, 3, 4);
+    assert!(rt; is_refused(&rt, alloc, &four, 4, 2, &gate));
+    assert!(rt; gate.met());
     Ok(())
 }
 

@@ -1,6 +1,4 @@
-use Rattle.std.proofs.Common.{◌≡◌, ◌<◌, ℕ, List, length, sym, subst, arith}
-use Rattle.std.specs.Prelude.{Some}
-use Rattle.board.specs.Views.{told}
+use Rattle.std.proofs.Common.{◌<◌, ℕ, List, length, sym, subst, arith}
 use Rattle.pool.specs.Examples.{bracketed}
 use Rattle.pool.specs.Outcomes.{AreOutcomes}
 use Rattle.pool.proofs.Pair.{pair_text, pair_outcomes}

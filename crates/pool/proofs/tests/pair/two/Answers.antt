@@ -1,4 +1,4 @@
-use Rattle.std.proofs.Common.{List, ℕ, sym, subst}
+use Rattle.std.proofs.Common.{sym, subst}
 use Rattle.pool.specs.Graph.{AllDistinct, AllInside, IsAcyclic}
 use Rattle.pool.proofs.Pair.{pair_distinct, pair_inside, pair_acyclic}
 use Rattle.pool.proofs.tests.pair.two.Goals as goal
