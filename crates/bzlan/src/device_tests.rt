@@ -1,7 +1,8 @@
 //! Reading and writing over devices that give and take little, or fail at any of their calls.
 
-use crate::devices::{InputStop, WriteFailed, read_input, write_all};
+use crate::devices::{Counted, InputStop, WriteFailed, read_input, write_all};
 use crate::memory::{Failing, Page, Tape, long_text};
+use std::io::BufWriter;
 use std::test::Fail;
 
 #[test]
@@ -36,14 +37,15 @@ fn inputs_are_read_whole_or_fail(rt: HostRuntime) -> Result<(), Fail> {
 #[test]
 fn texts_are_written_whole_or_fail(rt: HostRuntime) {
     let alloc = rt.alloc();
-    for piece in [1, 3, 10_000] {
+    for (piece, calls) in [(1, 9), (3, 4), (10_000, 2)] {
         let mut page = Page::new(alloc, piece, None, Failing::Interrupted);
         assert!(rt; write_all(&mut page, b"a report").is_ok());
         assert!(rt;
             page.bytes.as_slice() == b"a report".as_slice(),
             "pieces of {piece}"
         );
-        let calls = page.calls;
+        // The writes, and one flush.
+        assert_eq!(rt; page.calls, calls, "pieces of {piece}");
         for call in 0..calls {
             let mut page = Page::new(alloc, piece, Some(call), Failing::Interrupted);
             let answer = write_all(&mut page, b"a report");
@@ -57,4 +59,13 @@ fn texts_are_written_whole_or_fail(rt: HostRuntime) {
             assert!(rt; b"a report".starts_with(page.bytes.as_slice()));
         }
     }
+}
+
+#[test]
+fn what_a_writer_keeps_back_is_handed_on(rt: HostRuntime) -> Result<(), Fail> {
+    let alloc = rt.alloc();
+    let mut sink = Counted::new(BufWriter::new(alloc, Vec::new(alloc))?);
+    assert!(rt; write_all(&mut sink, b"a report").is_ok());
+    assert!(rt; sink.device.get_ref().as_slice() == b"a report".as_slice());
+    Ok(())
 }

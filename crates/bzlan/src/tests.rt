@@ -49,6 +49,8 @@ fn labels_are_read(rt: HostRuntime) -> Result<(), Fail> {
                     label.package() == package && label.name() == name,
                     "{text}"
                 );
+                let same = label.share()?;
+                assert!(rt; same == *label, "{text}");
             }
             (Err(LabelRefused::Illegal), None) => {}
             _ => panic!(rt; "{text}"),
