@@ -15,6 +15,3 @@ mod listing;
 pub use depset::{Depset, DepsetError, Id, LEVELS, Order};
 pub use element::{Element, ElementType, FileRef};
 pub use listing::{ITEMS, ListError, Listing};
-
-#[cfg(test)]
-mod tests;

@@ -32,10 +32,3 @@ pub use lines::{Lines, logical_lines};
 pub use second_form::{DepsModuleForm, TARGET_LIMIT, TargetForm, TargetsForm};
 pub use strings::unescape;
 pub use token::{Kind, Mark, Span, Token, Word};
-
-#[cfg(test)]
-mod form_tests;
-#[cfg(test)]
-mod second_form_tests;
-#[cfg(test)]
-mod tests;

@@ -2,4 +2,3 @@ pub mod Graph
 pub mod Outcomes
 pub mod Settled
 pub mod Ends
-pub mod Examples

@@ -13,8 +13,6 @@ mod graph;
 mod node;
 mod running;
 mod shelf;
-#[cfg(test)]
-mod tests;
 mod threads;
 mod worker;
 

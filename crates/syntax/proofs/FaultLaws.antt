@@ -6,16 +6,17 @@ use Rattle.lexer.specs.declared.fault.SyntaxFault.{SyntaxFault}
 use Rattle.lexer.specs.declared.forms.FileKind.{FileKind}
 use Rattle.lexer.specs.Tokens.{Placed}
 use Rattle.lexer.specs.Lines.{fault, reading}
-use Rattle.syntax.specs.Blocks.{Block, laid}
-use Rattle.syntax.specs.BlockReading.{file_reads}
-use Rattle.syntax.specs.BareLines.{bare_lines}
+use Rattle.grammar.specs.Blocks.{Block, laid}
+use Rattle.grammar.specs.BlockReading.{file_reads}
+use Rattle.grammar.specs.BareLines.{bare_lines}
 use Rattle.syntax.specs.Scopes.{scope_fault}
-use Rattle.syntax.specs.Files.{top_of, with_scopes, with_statements, with_lines, syntax}
+use Rattle.grammar.specs.Places.{top_of}
+use Rattle.syntax.specs.Files.{with_scopes, with_statements, with_lines, syntax}
 use Rattle.syntax.specs.FirstFault.{IsFault, below_lines, in_statements, in_scopes}
 use Rattle.lexer.proofs.ReadingLaws.{reading_is, reading_as}
-use Rattle.syntax.proofs.FilesRead.{file_sound, file_complete}
-use Rattle.syntax.proofs.StatementFaults.{first_fault, fault_refused}
-use Rattle.syntax.proofs.ColonLaws.{last_shut}
+use Rattle.grammar.proofs.FilesRead.{file_sound, file_complete}
+use Rattle.grammar.proofs.StatementFaults.{first_fault, fault_refused}
+use Rattle.grammar.proofs.ColonLaws.{last_shut}
 
 -- the pass that finds a fault
 scope_found : (tree : Block) (r : Option ℕ) (f : SyntaxFault) → with_scopes tree r ≡ Err f → (r ≡ Some f.line) × (f.kind ≡ pass.Scope)

@@ -4,13 +4,14 @@ use Rattle.lexer.specs.declared.fault.SyntaxFault.{SyntaxFault}
 use Rattle.lexer.specs.declared.forms.FileKind.{FileKind}
 use Rattle.lexer.specs.Tokens.{Placed}
 use Rattle.lexer.specs.Lines.{reading}
-use Rattle.syntax.specs.Blocks.{Block, laid}
-use Rattle.syntax.specs.BlockReading.{file_reads}
-use Rattle.syntax.specs.BareLines.{bare_lines}
+use Rattle.grammar.specs.Blocks.{Block, laid}
+use Rattle.grammar.specs.BlockReading.{file_reads}
+use Rattle.grammar.specs.BareLines.{bare_lines}
 use Rattle.syntax.specs.Scopes.{scope_fault}
-use Rattle.syntax.specs.Files.{top_of, IsFile, with_scopes, with_statements, with_lines, syntax}
+use Rattle.grammar.specs.Places.{top_of}
+use Rattle.syntax.specs.Files.{IsFile, with_scopes, with_statements, with_lines, syntax}
 use Rattle.lexer.proofs.ReadingLaws.{reading_is, reading_as}
-use Rattle.syntax.proofs.FilesRead.{file_sound, file_complete}
+use Rattle.grammar.proofs.FilesRead.{file_sound, file_complete}
 
 -- what the passes go through without fault
 scopes_passed : (tree read : Block) (r : Option ℕ) → with_scopes tree r ≡ Ok read → (r ≡ None) × (tree ≡ read)

@@ -8,12 +8,12 @@ use Rattle.lexer.specs.Begins.{begins}
 use Rattle.lexer.specs.Scan.{tokens_of, scan}
 use Rattle.lexer.specs.Layout.{line_starts, turn}
 use Rattle.lexer.specs.Lines.{reading}
-use Rattle.syntax.specs.Front.{next, sign_at, name_at, keyword_at, behind_close, behind_comma, behind_colon, behind_else, is_for, names_in, head_at}
-use Rattle.syntax.specs.Reading.{chain, member, members, clauses, atom, suffixes, e9, e8, e7, e6, e5, e4, e3, e2, e1, read}
-use Rattle.syntax.specs.FormReading.{lead, then_at, names_to, string_at, commas, listed, simple_at, form_at}
-use Rattle.syntax.specs.Blocks.{Block}
-use Rattle.syntax.specs.BlockReading.{read_lines}
-use Rattle.syntax.specs.BareLines.{bare_lines}
+use Rattle.grammar.specs.Front.{next, sign_at, name_at, keyword_at, behind_close, behind_comma, behind_colon, behind_else, is_for, names_in, head_at}
+use Rattle.grammar.specs.Reading.{chain, member, members, clauses, atom, suffixes, e9, e8, e7, e6, e5, e4, e3, e2, e1, read}
+use Rattle.grammar.specs.FormReading.{lead, then_at, names_to, string_at, commas, listed, simple_at, form_at}
+use Rattle.grammar.specs.Blocks.{Block}
+use Rattle.grammar.specs.BlockReading.{read_lines}
+use Rattle.grammar.specs.BareLines.{bare_lines}
 use Rattle.syntax.specs.Names.{global, slot, builtin, len_function}
 use Rattle.syntax.specs.Resolved.{Program, named, numeral, invokes, each, more_terms, no_terms, no_keywords, done, for_each, assign, give_back, branch, define, no_steps, step, resolved}
 use Rattle.syntax.specs.Files.{syntax}

@@ -1,10 +1,10 @@
 -- Things put before others, and comprehensions without clauses.
 use Rattle.std.proofs.Common.{◌≡◌, ℕ, List, [], ◌∷◌, ◌++◌, ◌∙◌, map, Option, Some, None, refl, ap, sym}
 use Rattle.std.specs.Prelude.{option_map}
-use Rattle.syntax.specs.Bare.{Tree, Rest, done, for_each, only_if}
+use Rattle.grammar.specs.Bare.{Tree, Rest, done, for_each, only_if}
 use Rattle.syntax.specs.ProgramView.{onto}
 use Rattle.syntax.specs.Resolves.{first_tree}
-use Rattle.syntax.specs.BareLines.{Form, Lines, a_line}
+use Rattle.grammar.specs.BareLines.{Form, Lines, a_line}
 use Rattle.syntax.specs.Names.{Scope, scope_of}
 use Rattle.syntax.specs.Resolved.{Role, Statement, Steps, before, other_branch, other_steps, role_of, statement, steps_of}
 

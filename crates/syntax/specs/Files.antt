@@ -3,20 +3,14 @@ use Rattle.std.specs.Prelude.{◌≡◌, ℕ, List, map, Option, Some, None, Res
 use Rattle.lexer.specs.declared.fault.FaultKind.TheVariants as kind
 use Rattle.lexer.specs.declared.fault.SyntaxFault.{SyntaxFault}
 use Rattle.lexer.specs.declared.forms.FileKind.{FileKind}
-use Rattle.lexer.specs.declared.forms.FileKind.TheVariants.{Module, Build}
 use Rattle.lexer.specs.Tokens.{Placed}
 use Rattle.lexer.specs.Lines.{fault, reading}
 use Rattle.lexer.specs.LaidOut.{IsReading}
-use Rattle.syntax.specs.Places.{Place, top_of_module, top_of_build}
-use Rattle.syntax.specs.Blocks.{Block, laid, SpellsFile}
-use Rattle.syntax.specs.BlockReading.{file_reads}
-use Rattle.syntax.specs.BareLines.{bare_lines}
+use Rattle.grammar.specs.Places.{top_of}
+use Rattle.grammar.specs.Blocks.{Block, laid, SpellsFile}
+use Rattle.grammar.specs.BlockReading.{file_reads}
+use Rattle.grammar.specs.BareLines.{bare_lines}
 use Rattle.syntax.specs.Scopes.{scope_fault}
-
--- where the lines of the top level stand
-abbrev pub top_of : FileKind → Place
-top_of Module = top_of_module
-top_of Build = top_of_build
 
 -- a text is a file of this kind with this tree: it reads as logical lines, which are those of the tree, and no line of
 -- it breaks a rule of scopes

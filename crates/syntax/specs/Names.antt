@@ -1,8 +1,8 @@
 -- Names: which a file finds bound, which it binds, and for what a name stands.
 use Rattle.std.specs.Prelude.{ℕ, ◌+◌, Bool, true, not, ◌&&◌, List, [], ◌∷◌, ◌++◌, map, length, position, Option, Some, None, option_map, bytes_eq, codes, if◌then◌else◌}
 use Rattle.std.specs.List.{list_any, list_all}
-use Rattle.syntax.specs.Bare.{Rest, done, for_each, only_if}
-use Rattle.syntax.specs.BareLines.{Param, required, optional, Form, loads, defines, for_head, assigns, increases, Lines, no_lines, a_line}
+use Rattle.grammar.specs.Bare.{Rest, done, for_each, only_if}
+use Rattle.grammar.specs.BareLines.{Param, required, optional, Form, loads, defines, for_head, assigns, increases, Lines, no_lines, a_line}
 pub use Rattle.syntax.specs.declared.names.Binding.{Binding}
 pub use Rattle.syntax.specs.declared.names.Binding.TheVariants.{Slot as slot, Global as global, Builtin as builtin}
 pub use Rattle.syntax.specs.declared.names.Predeclared.{Predeclared}

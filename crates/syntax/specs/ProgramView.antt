@@ -1,6 +1,6 @@
 -- The file with resolved names that the program's tree stands for.
 use Rattle.std.specs.Prelude.{ℕ, List, [], ◌∷◌, map, option_map}
-use Rattle.syntax.specs.TreeView.{operator_seen, sign_seen}
+use Rattle.grammar.specs.TreeView.{operator_seen, sign_seen}
 use Rattle.syntax.specs.Resolved as resolved
 use Rattle.syntax.specs.Resolved.{Terms, no_terms, more_terms, Pairs, no_pairs, more_pairs, Keywords, no_keywords, more_keywords, Rounds, done, for_each, only_if, Steps, no_steps, step}
 use Rattle.syntax.specs.declared.program.Term.{Term, fold-Term}

@@ -6,9 +6,9 @@ use Rattle.std.specs.Prelude.{ℕ, List, [], ◌∷◌, map, Option, option_map,
 pub use Rattle.syntax.specs.declared.program.Loaded.{Loaded}
 pub use Rattle.syntax.specs.declared.steps.Role.{Role}
 pub use Rattle.syntax.specs.declared.steps.Role.TheVariants.{Begins as begins, TestsAgain as tests_again, IsLeft as is_left}
-use Rattle.syntax.specs.Tree.{Operator, Sign}
-use Rattle.syntax.specs.Bare as bare
-use Rattle.syntax.specs.BareLines.{Param, required, optional, Form, loads, defines, if_head, elif_head, else_head, for_head, assigns, assigns_at, increases, increases_at, evaluates, passes, breaks, continues, returns, Lines, no_lines, a_line}
+use Rattle.grammar.specs.Tree.{Operator, Sign}
+use Rattle.grammar.specs.Bare as bare
+use Rattle.grammar.specs.BareLines.{Param, required, optional, Form, loads, defines, if_head, elif_head, else_head, for_head, assigns, assigns_at, increases, increases_at, evaluates, passes, breaks, continues, returns, Lines, no_lines, a_line}
 use Rattle.syntax.specs.Names.{Name, param_name, lines_bind, once, Binding, Scope, width, slot, stands_for, file_scope, scope_of, inside_of}
 
 mutual

@@ -4,14 +4,14 @@ use Rattle.std.specs.declared.alloc.Global.{Global}
 use Rattle.std.specs.declared.alloc.AllocError.{AllocError}
 use Rattle.std.specs.declared.vec.Vec.{Vec}
 use denote.Ref.{Bor, MutBor}
-use Rattle.syntax.specs.declared.tree.Expr.{Expr}
-use Rattle.syntax.specs.declared.statements.Line.{Line}
+use Rattle.grammar.specs.declared.tree.Expr.{Expr}
+use Rattle.grammar.specs.declared.statements.Line.{Line}
 use Rattle.syntax.specs.declared.program.Term.{Term}
 use Rattle.syntax.specs.declared.program.Step.{Step}
-use Rattle.syntax.specs.Bare.{Tree, Rest, done, for_each, only_if}
+use Rattle.grammar.specs.Bare.{Tree, Rest, done, for_each, only_if}
 use Rattle.syntax.specs.Names.{Scope}
-use Rattle.syntax.specs.LineView.{lines}
-use Rattle.syntax.specs.TreeView.{tree_of}
+use Rattle.grammar.specs.LineView.{lines}
+use Rattle.grammar.specs.TreeView.{tree_of}
 use Rattle.syntax.specs.ProgramView as view
 use Rattle.syntax.specs.Resolved as resolved
 

@@ -3,13 +3,13 @@ use Rattle.std.specs.Prelude.{◌≡◌, ℕ, Bool, true, List, [], ◌∷◌, �
 use Rattle.std.specs.declared.alloc.Global.{Global}
 use Rattle.std.specs.declared.alloc.AllocError.{AllocError}
 use denote.Ref.{Bor, MutBor}
-use Rattle.syntax.specs.declared.tree.Expr.{Expr}
-use Rattle.syntax.specs.Bare.{Rest, done, for_each, only_if}
+use Rattle.grammar.specs.declared.tree.Expr.{Expr}
+use Rattle.grammar.specs.Bare.{Rest, done, for_each, only_if}
 use Rattle.syntax.specs.Names.{Name, Scope, once}
 use Rattle.syntax.specs.Scopes.{lines_fault, scoped, rest_scoped}
-use Rattle.syntax.specs.declared.statements.Line.{Line}
-use Rattle.syntax.specs.LineView.{lines}
-use Rattle.syntax.specs.TreeView.{tree_of}
+use Rattle.grammar.specs.declared.statements.Line.{Line}
+use Rattle.grammar.specs.LineView.{lines}
+use Rattle.grammar.specs.TreeView.{tree_of}
 
 -- in a comprehension that binds these names, and behind it
 abbrev pub entered : List Name → Scope → Scope

@@ -1,10 +1,10 @@
 //! Reading a file: five passes over its text, each over the whole of it.
 
 ghost use Rattle.std.specs.Prelude.{◌≡◌, IfOk, IfErr, Ok, Err};
-ghost use Rattle.syntax.specs.BareLines.{bare_lines};
-ghost use Rattle.syntax.specs.Blocks.{Block};
+ghost use Rattle.grammar.specs.BareLines.{bare_lines};
+ghost use Rattle.grammar.specs.Blocks.{Block};
 ghost use Rattle.syntax.specs.Files.{syntax};
-ghost use Rattle.syntax.specs.LineView as view;
+ghost use Rattle.grammar.specs.LineView as view;
 ghost use Rattle.syntax.specs.Names.{file_scope};
 ghost use Rattle.syntax.specs.ParsedView.{program_of};
 ghost use Rattle.syntax.specs.Resolved.{resolved};
@@ -12,9 +12,8 @@ ghost use Rattle.syntax.specs.Resolved.{resolved};
 use crate::program::Step;
 use crate::scope::Scope;
 use crate::scope_pass::{MAX_BLOCKS, file_scope, top_fault};
-use crate::statement_pass::read_file;
-use crate::statements::Line;
 use crate::steps::resolve_lines;
+use grammar::{Line, read_file};
 use indexmap::IndexSet;
 use lexer::{FaultKind, FileKind, ParseStop, SyntaxFault, logical_lines};
 use plain::Text;

@@ -3,10 +3,10 @@
 ghost use Rattle.std.specs.Prelude.{◌≡◌, IfOk};
 ghost use Rattle.syntax.specs.ProgramView as view;
 ghost use Rattle.syntax.specs.Resolved as resolved;
-ghost use Rattle.syntax.specs.TreeView.{operator_seen, sign_seen};
+ghost use Rattle.grammar.specs.TreeView.{operator_seen, sign_seen};
 
 use crate::names::Binding;
-use crate::tree::{Operator, Sign};
+use grammar::{Operator, Sign};
 use plain::Text;
 use std::alloc::{AllocError, Global};
 

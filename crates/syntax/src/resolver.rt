@@ -3,14 +3,14 @@
 
 ghost use Rattle.std.specs.Prelude.{◌≡◌, ◌∷◌, IfOk, Some, map};
 ghost use Rattle.std.specs.Option.{option_map};
-ghost use Rattle.syntax.specs.Bare.{Rest, choice as choice_tree, each, each_entry, invokes, operates};
+ghost use Rattle.grammar.specs.Bare.{Rest, choice as choice_tree, each, each_entry, invokes, operates};
 ghost use Rattle.syntax.specs.Names.{Scope as Around};
 ghost use Rattle.syntax.specs.ProgramView as view;
 ghost use Rattle.syntax.specs.ProgramView.{rounds_onto};
 ghost use Rattle.syntax.specs.Resolved as resolved;
 ghost use Rattle.syntax.specs.Resolved.{binding_of, done};
 ghost use Rattle.syntax.specs.Resolves.{Gives, ResolvesInside, first_tree};
-ghost use Rattle.syntax.specs.TreeView.{clause_of, entries, entry_of, keyword_of, keywords, operator_seen, rests, tree_of, trees};
+ghost use Rattle.grammar.specs.TreeView.{clause_of, entries, entry_of, keyword_of, keywords, operator_seen, rests, tree_of, trees};
 
 use crate::names::Binding;
 use crate::program::{
@@ -19,7 +19,7 @@ use crate::program::{
 };
 use crate::scope::{Scope, name_at};
 use crate::scope_rules::{clause_at, clause_names, entry_at, expr_at, keyword_at, operand, split};
-use crate::tree::{Clause, Entry, Expr, Keyword, Operator};
+use grammar::{Clause, Entry, Expr, Keyword, Operator};
 use plain::Text;
 use std::alloc::{AllocError, Global};
 

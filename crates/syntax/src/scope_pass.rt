@@ -2,20 +2,18 @@
 
 ghost use Rattle.std.specs.Prelude.{◌≡◌, ◌&&◌, ◌+◌, ◌<◌, ◌∷◌, ◌++◌, [], ℕ, List, None, IfOk, OnOk, drop, length, map, true, if◌then◌else◌};
 ghost use Rattle.std.specs.List.{list_all};
-ghost use Rattle.syntax.specs.BareLines.{Lines, a_line};
-ghost use Rattle.syntax.specs.LineView as view;
-ghost use Rattle.syntax.specs.declared.statements.Line.{out-Line};
-ghost use Rattle.syntax.specs.LineView.{form_of, item_of, line_of, param_of};
+ghost use Rattle.grammar.specs.BareLines.{Lines, a_line};
+ghost use Rattle.grammar.specs.LineView as view;
+ghost use Rattle.grammar.specs.declared.statements.Line.{out-Line};
+ghost use Rattle.grammar.specs.LineView.{form_of, item_of, line_of, param_of};
 ghost use Rattle.syntax.specs.Names.{Name, among, form_binds, function_scope, file_scope, lines_bind, or_else, param_name, passed_on, scope_of};
 ghost use Rattle.syntax.specs.Scopes.{adds_to_name, defaults_last, form_scoped, has_default, line_scoped, lines_fault, param_scoped, params_scoped, scoped, top_fault, top_line_scoped, unless};
 ghost use Rattle.syntax.specs.ScopeView.{Finds, FindsInside, Tells};
-ghost use Rattle.syntax.specs.TreeView.{tree_of};
+ghost use Rattle.grammar.specs.TreeView.{tree_of};
 
 use crate::scope::{Scope, add_names, are_distinct, bind_anew, none_predeclared};
 use crate::scope_rules::expr_scoped;
-use crate::statements::{Form, Item, Line, Param};
-use crate::tree::Expr;
-use crate::whole::MAX_DEPTH;
+use grammar::{Expr, Form, Item, Line, MAX_DEPTH, Param};
 use indexmap::IndexSet;
 use plain::Text;
 use std::alloc::{AllocError, Global};

@@ -8,11 +8,11 @@ ghost use Rattle.syntax.specs.Resolves.{first_tree};
 ghost use Rattle.syntax.specs.Names.{Scope as Around};
 ghost use Rattle.syntax.specs.Scopes.{entries_scoped, keyword_names, keywords_scoped, rest_scoped, scoped, trees_scoped};
 ghost use Rattle.syntax.specs.ScopeView.{Tells, TellsInside, first_scoped, others_scoped};
-ghost use Rattle.syntax.specs.Bare.{Rest, each, each_entry, invokes};
-ghost use Rattle.syntax.specs.TreeView.{clause_of, entries, keyword_of, keywords, rests, tree_of, trees};
+ghost use Rattle.grammar.specs.Bare.{Rest, each, each_entry, invokes};
+ghost use Rattle.grammar.specs.TreeView.{clause_of, entries, keyword_of, keywords, rests, tree_of, trees};
 
 use crate::scope::{Scope, add_names, are_distinct, none_predeclared};
-use crate::tree::{Clause, Entry, Expr, Keyword};
+use grammar::{Clause, Entry, Expr, Keyword};
 use plain::Text;
 use std::alloc::{AllocError, Global};
 

@@ -3,25 +3,23 @@
 
 ghost use Rattle.std.specs.Prelude.{◌≡◌, ◌+◌, IfOk, OnOk, drop, map, reverse};
 ghost use Rattle.std.specs.Option.{option_map};
-ghost use Rattle.syntax.specs.BareLines.{Lines, a_line};
-ghost use Rattle.syntax.specs.LineView as seen;
-ghost use Rattle.syntax.specs.LineView.{form_of, item_of, line_of, param_of};
+ghost use Rattle.grammar.specs.BareLines.{Lines, a_line};
+ghost use Rattle.grammar.specs.LineView as seen;
+ghost use Rattle.grammar.specs.LineView.{form_of, item_of, line_of, param_of};
 ghost use Rattle.syntax.specs.Names.{Scope as Around, function_scope, param_name, scope_of, width};
 ghost use Rattle.syntax.specs.ProgramView as view;
 ghost use Rattle.syntax.specs.ProgramView.{terms_onto};
 ghost use Rattle.syntax.specs.Resolved as resolved;
 ghost use Rattle.syntax.specs.Resolved.{Terms, binding_of, defaults, no_steps, other_steps, role_of, steps_of, with_default};
 ghost use Rattle.syntax.specs.Resolves.{Gives, ResolvesLines};
-ghost use Rattle.syntax.specs.TreeView.{tree_of};
-ghost use Rattle.syntax.specs.declared.statements.Line.{out-Line};
+ghost use Rattle.grammar.specs.TreeView.{tree_of};
+ghost use Rattle.grammar.specs.declared.statements.Line.{out-Line};
 
 use crate::program::{Function, Loaded, Statement, Step, Term};
 use crate::resolver::{bindings, resolve};
 use crate::scope::Scope;
 use crate::scope_pass::{MAX_BLOCKS, add_lines, add_params, item_at, line_at, param_at};
-use crate::statements::{Form, Item, Line, Param};
-use crate::tree::Expr;
-use crate::whole::MAX_DEPTH;
+use grammar::{Expr, Form, Item, Line, MAX_DEPTH, Param};
 use plain::Text;
 use std::alloc::{AllocError, Global};
 

@@ -39,18 +39,3 @@ pub use sees::{Group, Item, Seen, Table};
 pub use ticks::{Broken, Kind, Ticks};
 pub use tree_texts::text;
 pub use value::Value;
-
-#[cfg(test)]
-mod repr_tests;
-#[cfg(test)]
-mod script;
-#[cfg(test)]
-mod tests;
-#[cfg(test)]
-mod text_tests;
-#[cfg(test)]
-mod thread_tests;
-#[cfg(test)]
-mod visit_tests;
-#[cfg(test)]
-mod world;

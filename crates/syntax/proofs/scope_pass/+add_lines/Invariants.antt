@@ -1,5 +1,5 @@
 use Rattle.std.proofs.Common.{◌≡◌, ◌++◌, drop}
-use Rattle.syntax.specs.LineView.{lines}
+use Rattle.grammar.specs.LineView.{lines}
 use Rattle.syntax.specs.Names.{lines_bind}
 use Rattle.syntax.proofs.scope_pass.+add_lines.Given as goal
 

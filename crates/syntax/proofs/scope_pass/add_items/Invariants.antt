@@ -1,5 +1,5 @@
 use Rattle.std.proofs.Common.{◌≡◌, ◌++◌, [], drop, map, true, false, if◌then◌else◌}
-use Rattle.syntax.specs.LineView.{item_of}
+use Rattle.grammar.specs.LineView.{item_of}
 use Rattle.syntax.proofs.scope_pass.add_items.Given as goal
 
 abbrev pub invariant-loop-i : goal.invariant-loop-i

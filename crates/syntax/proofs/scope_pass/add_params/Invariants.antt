@@ -1,5 +1,5 @@
 use Rattle.std.proofs.Common.{◌≡◌, ◌++◌, [], drop, map, true, false, if◌then◌else◌}
-use Rattle.syntax.specs.LineView.{param_of}
+use Rattle.grammar.specs.LineView.{param_of}
 use Rattle.syntax.specs.Names.{param_name}
 use Rattle.syntax.proofs.scope_pass.add_params.Given as goal
 

@@ -1,6 +1,6 @@
 use Rattle.std.proofs.Common.{◌≡◌, ◌++◌, [], drop, map, true, false, if◌then◌else◌}
 use Rattle.std.specs.List.{list_all}
-use Rattle.syntax.specs.LineView.{param_of}
+use Rattle.grammar.specs.LineView.{param_of}
 use Rattle.syntax.specs.Scopes.{param_scoped}
 use Rattle.syntax.proofs.scope_pass.defaults_scoped.Given as goal
 

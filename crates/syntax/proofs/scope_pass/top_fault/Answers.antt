@@ -1,8 +1,8 @@
 use Rattle.std.proofs.Common.{◌≡◌, ◌+◌, drop, sym, ap, ◌∙◌, None}
 use Rattle.std.specs.Prelude.{is_some}
-use Rattle.syntax.specs.declared.statements.Line.{out-Line}
-use Rattle.syntax.specs.BareLines.{a_line}
-use Rattle.syntax.specs.LineView.{form_of, lines}
+use Rattle.grammar.specs.declared.statements.Line.{out-Line}
+use Rattle.grammar.specs.BareLines.{a_line}
+use Rattle.grammar.specs.LineView.{form_of, lines}
 use Rattle.syntax.specs.Names.{or_else, scope_of}
 use Rattle.syntax.specs.Scopes.{lines_fault, top_fault, top_line_scoped, unless}
 use Rattle.syntax.proofs.ScopeLemmas.{none_by, top_found, top_next}

@@ -1,5 +1,5 @@
 use Rattle.std.proofs.Common.{◌≡◌, ◌++◌, [], drop, map, true, false, if◌then◌else◌}
-use Rattle.syntax.specs.LineView.{lines}
+use Rattle.grammar.specs.LineView.{lines}
 use Rattle.syntax.specs.Scopes.{top_fault}
 use Rattle.syntax.proofs.scope_pass.top_fault.Given as goal
 

@@ -1,6 +1,6 @@
 use Rattle.std.proofs.Common.{◌≡◌, ◌++◌, drop}
 use Rattle.syntax.specs.Names.{clause_names}
-use Rattle.syntax.specs.TreeView.{rests}
+use Rattle.grammar.specs.TreeView.{rests}
 use Rattle.syntax.proofs.scope_rules.clause_names.Given as goal
 
 abbrev pub invariant-loop-i : goal.invariant-loop-i

@@ -1,6 +1,6 @@
 use Rattle.std.proofs.Common.{◌≡◌, ◌++◌, drop}
 use Rattle.syntax.specs.Scopes.{keyword_names}
-use Rattle.syntax.specs.TreeView.{keywords}
+use Rattle.grammar.specs.TreeView.{keywords}
 use Rattle.syntax.proofs.scope_rules.keyword_names.Given as goal
 
 abbrev pub invariant-loop-i : goal.invariant-loop-i

@@ -1,5 +1,5 @@
 use Rattle.std.proofs.Common.{◌≡◌, drop, map}
-use Rattle.syntax.specs.LineView.{param_of}
+use Rattle.grammar.specs.LineView.{param_of}
 use Rattle.syntax.specs.ProgramView as view
 use Rattle.syntax.specs.ProgramView.{terms_onto}
 use Rattle.syntax.specs.Resolved.{defaults}

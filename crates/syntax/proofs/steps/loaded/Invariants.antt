@@ -1,5 +1,5 @@
 use Rattle.std.proofs.Common.{◌≡◌, ◌++◌, drop, map}
-use Rattle.syntax.specs.LineView.{item_of}
+use Rattle.grammar.specs.LineView.{item_of}
 use Rattle.syntax.specs.Resolved.{binding_of}
 use Rattle.syntax.proofs.steps.loaded.Given as goal
 

@@ -1,5 +1,5 @@
 use Rattle.std.proofs.Common.{◌≡◌, ◌∙◌, ap, map, refl, sym}
-use Rattle.syntax.specs.LineView.{form_of, item_of}
+use Rattle.grammar.specs.LineView.{form_of, item_of}
 use Rattle.syntax.specs.ProgramView as view
 use Rattle.syntax.specs.Resolved as resolved
 use Rattle.syntax.specs.Resolved.{binding_of}

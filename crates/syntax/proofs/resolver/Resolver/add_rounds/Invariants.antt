@@ -2,7 +2,7 @@ use Rattle.std.proofs.Common.{◌≡◌, drop, map}
 use Rattle.syntax.specs.ProgramView as view
 use Rattle.syntax.specs.ProgramView.{rounds_onto}
 use Rattle.syntax.specs.Resolved as resolved
-use Rattle.syntax.specs.TreeView.{rests}
+use Rattle.grammar.specs.TreeView.{rests}
 use Rattle.syntax.proofs.resolver.Resolver.add_rounds.Given as goal
 
 -- what was resolved, before what is left

@@ -3,7 +3,7 @@ use Rattle.std.proofs.lemmas.Grind.{common_steps}
 use Rattle.syntax.specs.ProgramView as view
 use Rattle.syntax.specs.ProgramView.{terms_onto}
 use Rattle.syntax.specs.Resolved as resolved
-use Rattle.syntax.specs.TreeView.{tree_of, trees}
+use Rattle.grammar.specs.TreeView.{tree_of, trees}
 use Rattle.syntax.proofs.ProgramLemmas.{onto_last}
 use Rattle.syntax.proofs.resolver.Resolver.all.Goals as goal
 

@@ -2,7 +2,7 @@ use Rattle.std.proofs.Common.{◌≡◌, drop, map}
 use Rattle.syntax.specs.ProgramView as view
 use Rattle.syntax.specs.ProgramView.{terms_onto}
 use Rattle.syntax.specs.Resolved as resolved
-use Rattle.syntax.specs.TreeView.{trees}
+use Rattle.grammar.specs.TreeView.{trees}
 use Rattle.syntax.proofs.resolver.Resolver.all.Given as goal
 
 -- what was resolved, before what is left

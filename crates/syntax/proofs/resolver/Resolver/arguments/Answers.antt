@@ -3,7 +3,7 @@ use Rattle.syntax.specs.ProgramView as view
 use Rattle.syntax.specs.ProgramView.{keywords_onto}
 use Rattle.syntax.specs.Resolved as resolved
 use Rattle.syntax.specs.Resolved.{more_keywords}
-use Rattle.syntax.specs.TreeView.{keywords, tree_of}
+use Rattle.grammar.specs.TreeView.{keywords, tree_of}
 use Rattle.syntax.proofs.ProgramLemmas.{onto_last}
 use Rattle.syntax.proofs.resolver.Resolver.arguments.Goals as goal
 

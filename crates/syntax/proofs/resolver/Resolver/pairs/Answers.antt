@@ -3,7 +3,7 @@ use Rattle.syntax.specs.ProgramView as view
 use Rattle.syntax.specs.ProgramView.{pairs_onto}
 use Rattle.syntax.specs.Resolved as resolved
 use Rattle.syntax.specs.Resolved.{more_pairs}
-use Rattle.syntax.specs.TreeView.{entries, tree_of}
+use Rattle.grammar.specs.TreeView.{entries, tree_of}
 use Rattle.syntax.proofs.ProgramLemmas.{onto_last}
 use Rattle.syntax.proofs.resolver.Resolver.pairs.Goals as goal
 

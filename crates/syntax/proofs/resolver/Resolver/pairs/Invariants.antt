@@ -2,7 +2,7 @@ use Rattle.std.proofs.Common.{◌≡◌, drop, map}
 use Rattle.syntax.specs.ProgramView as view
 use Rattle.syntax.specs.ProgramView.{pairs_onto}
 use Rattle.syntax.specs.Resolved as resolved
-use Rattle.syntax.specs.TreeView.{entries}
+use Rattle.grammar.specs.TreeView.{entries}
 use Rattle.syntax.proofs.resolver.Resolver.pairs.Given as goal
 
 -- what was resolved, before what is left

@@ -1,6 +1,6 @@
 use Rattle.std.proofs.Common.{◌≡◌, drop}
 use Rattle.syntax.specs.Scopes.{trees_scoped}
-use Rattle.syntax.specs.TreeView.{trees}
+use Rattle.grammar.specs.TreeView.{trees}
 use Rattle.syntax.proofs.scope_rules.Checker.all.Given as goal
 
 -- what is left breaks no rule where all breaks none

@@ -1,6 +1,6 @@
 use Rattle.std.proofs.Common.{◌≡◌, drop}
 use Rattle.syntax.specs.Scopes.{entries_scoped}
-use Rattle.syntax.specs.TreeView.{entries}
+use Rattle.grammar.specs.TreeView.{entries}
 use Rattle.syntax.proofs.scope_rules.Checker.entries.Given as goal
 
 -- what is left breaks no rule where all breaks none

@@ -1,6 +1,6 @@
 use Rattle.std.proofs.Common.{◌≡◌, drop}
 use Rattle.syntax.specs.Scopes.{rest_scoped}
-use Rattle.syntax.specs.TreeView.{rests}
+use Rattle.grammar.specs.TreeView.{rests}
 use Rattle.syntax.proofs.scope_rules.Checker.operands.Given as goal
 
 -- what is left breaks no rule where all breaks none

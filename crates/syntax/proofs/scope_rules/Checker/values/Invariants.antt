@@ -1,6 +1,6 @@
 use Rattle.std.proofs.Common.{◌≡◌, drop}
 use Rattle.syntax.specs.Scopes.{keywords_scoped}
-use Rattle.syntax.specs.TreeView.{keywords}
+use Rattle.grammar.specs.TreeView.{keywords}
 use Rattle.syntax.proofs.scope_rules.Checker.values.Given as goal
 
 -- what is left breaks no rule where all breaks none

@@ -1,7 +1,7 @@
 use Rattle.std.proofs.Common.{◌≡◌, ◌∙◌, ap, reverse, sym}
-use Rattle.syntax.specs.declared.statements.Line.{out-Line}
-use Rattle.syntax.specs.LineView as seen
-use Rattle.syntax.specs.LineView.{form_of}
+use Rattle.grammar.specs.declared.statements.Line.{out-Line}
+use Rattle.grammar.specs.LineView as seen
+use Rattle.grammar.specs.LineView.{form_of}
 use Rattle.syntax.specs.Names.{scope_of, width}
 use Rattle.syntax.specs.ProgramView as view
 use Rattle.syntax.specs.Resolved.{statement, steps_of}

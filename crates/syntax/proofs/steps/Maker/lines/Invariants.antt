@@ -1,5 +1,5 @@
 use Rattle.std.proofs.Common.{◌≡◌, ◌≤◌, drop, length, reverse}
-use Rattle.syntax.specs.LineView as seen
+use Rattle.grammar.specs.LineView as seen
 use Rattle.syntax.specs.ProgramView as view
 use Rattle.syntax.specs.Resolved.{other_steps, steps_of}
 use Rattle.syntax.proofs.steps.Maker.lines.Given as goal

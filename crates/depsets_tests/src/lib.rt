@@ -1,0 +1,5 @@
+//! Tests of crate `depsets`. They are a crate of their own, so that `depsets` is proved once.
+#![tactic(auto)]
+
+#[cfg(test)]
+mod listings;

@@ -1,0 +1,51 @@
+-- The lines that the program's lines stand for.
+use Rattle.std.specs.Prelude.{List, [], ◌∷◌, map, option_map}
+use Rattle.grammar.specs.TreeView.{tree_of}
+use Rattle.grammar.specs.BareLines as bare
+use Rattle.grammar.specs.BareLines.{Lines, no_lines, a_line}
+use Rattle.grammar.specs.declared.statements.Param.{Param}
+use Rattle.grammar.specs.declared.statements.Param.TheVariants.{Required, Optional}
+use Rattle.grammar.specs.declared.statements.Item.{Item}
+use Rattle.grammar.specs.declared.statements.Form.{Form}
+use Rattle.grammar.specs.declared.statements.Form.TheVariants.{Load, Def, If, Elif, Else, For, Assign, AssignAt, Add, AddAt, Evaluate, Pass, Break, Continue, Return}
+use Rattle.grammar.specs.declared.statements.Line.{Line, fold-Line}
+use Rattle.grammar.specs.declared.statements.Line.TheOpen.{Line-F}
+
+abbrev pub param_of : Param → bare.Param
+param_of (Required x) = bare.required x
+param_of (Optional x a) = bare.optional x (tree_of a)
+
+abbrev pub item_of : Item → bare.Item
+item_of i = record { binds = i.binds; asked = i.asked }
+
+abbrev pub form_of : Form → bare.Form
+form_of (Load s items) = bare.loads s (map item_of items.items)
+form_of (Def x ps) = bare.defines x (map param_of ps.items)
+form_of (If a) = bare.if_head (tree_of a)
+form_of (Elif a) = bare.elif_head (tree_of a)
+form_of Else = bare.else_head
+form_of (For x xs a) = bare.for_head x xs.items (tree_of a)
+form_of (Assign x xs a) = bare.assigns x xs.items (tree_of a)
+form_of (AssignAt f a b) = bare.assigns_at (tree_of f) (tree_of a) (tree_of b)
+form_of (Add x a) = bare.increases x (tree_of a)
+form_of (AddAt f a b) = bare.increases_at (tree_of f) (tree_of a) (tree_of b)
+form_of (Evaluate a) = bare.evaluates (tree_of a)
+form_of Pass = bare.passes
+form_of Break = bare.breaks
+form_of Continue = bare.continues
+form_of (Return a) = bare.returns (option_map tree_of a)
+
+-- lines before others, one after the other
+abbrev pub lines_of : List (Lines → Lines) → Lines
+lines_of [] = no_lines
+lines_of (l ∷ ls) = l (lines_of ls)
+
+-- a line before others, whose block is seen already
+abbrev pub line_step : Line-F (Lines → Lines) → Lines → Lines
+line_step l rest = a_line l.number (form_of l.form) (lines_of l.block.items) rest
+
+abbrev pub line_of : Line → Lines → Lines
+line_of = fold-Line (Lines → Lines) line_step
+
+abbrev pub lines : List Line → Lines
+lines ls = lines_of (map line_of ls)

@@ -1,0 +1,659 @@
+//! Expressions, read from a line by descent: a function for each level, and one for each form of an atom. What reads
+//! the expressions inside of others is a parameter, so that each is proved by itself.
+//!
+//! A reader is given room: how deep the expression may be. It goes down by one at each form that adds to the depth, so
+//! that what would be too deep is refused before it is read.
+
+ghost use Rattle.std.specs.Prelude.{◌≡◌, Some};
+ghost use Rattle.grammar.specs.Ahead.{Reads, and_at, behind_if, bracket_at, comparison_at, or_at, product_at, sum_at};
+ghost use Rattle.grammar.specs.Front.{behind_close, behind_comma};
+ghost use Rattle.grammar.specs.Reading.{then_read};
+ghost use Rattle.lexer.specs.declared.layout.Bracket.TheVariants.{Square, Curly};
+ghost use Rattle.grammar.specs.Descent as spec;
+ghost use Rattle.grammar.specs.Descended.{Nests, part_seen, pair_seen, several_seen, pairs_seen, arguments_seen, conditions_seen};
+
+use crate::ahead::{Ahead, Head, Stop, Suffix};
+use crate::parts;
+use crate::parts::{Arguments, Conditions, Pairs, Part, Several};
+use crate::tree::Sign;
+use lexer::{Bracket, unescape};
+use plain::Text;
+use std::alloc::Global;
+
+/// Which expressions may stand inside of a form.
+#[derive(Clone, Copy, PartialEq, Eq, Debug)]
+pub(crate) enum Row {
+    /// Any.
+    Whole,
+    /// Any but a conditional.
+    Operand,
+    /// What may stand behind `not`.
+    Negated,
+    /// What may stand behind `-`.
+    Opposed,
+}
+
+/// Reads expressions, by what reads those inside.
+#[derive(Clone, Copy)]
+struct Reader<F> {
+    alloc: Global,
+    /// How many expressions may still be inside of one another.
+    turns: usize,
+    /// How many turns a loop may make.
+    most: usize,
+    expr: F,
+}
+
+impl<F: Fn(Global, &mut Ahead<'_>, usize, Row, usize) -> Result<Part, Stop>> Reader<F> {
+    fn inside(&self, ahead: &mut Ahead<'_>, row: Row, room: usize) -> Result<Part, Stop>
+        requires { Nests self.now.turns (F.pre self.now.expr) (F.post self.now.expr) }
+        ensures { Reads part_seen (spec.read self.now.turns row room ahead.old) result ahead.new }
+    {
+        (self.expr)(self.alloc, ahead, self.turns, row, room)
+    }
+
+    /// The items up to a closing bracket, behind those that were found.
+    #[tactic(auto, unfolding(crate::specs::Descent::items, crate::specs::Descent::gather))]
+    fn items(
+        &self,
+        ahead: &mut Ahead<'_>,
+        bracket: Bracket,
+        room: usize,
+        mut found: Several,
+    ) -> Result<Several, Stop>
+        requires { Nests self.now.turns (F.pre self.now.expr) (F.post self.now.expr) }
+        ensures { Reads several_seen (spec.items (spec.read self.now.turns) self.now.most room bracket (several_seen found) ahead.old) result ahead.new }
+    {
+        for _turn in 0..self.most {
+            if ahead.close(bracket) {
+                return Ok(found);
+            }
+            let item = self.inside(ahead, Row::Whole, room)?;
+            found = parts::with_item(found, item)?;
+            if ahead.close(bracket) {
+                return Ok(found);
+            }
+            if !ahead.comma() {
+                return Err(Stop::NoForm);
+            }
+        }
+        Err(Stop::NoForm)
+    }
+
+    /// An entry of a dict.
+    #[tactic(auto, unfolding(crate::specs::Descent::pair))]
+    fn pair(&self, ahead: &mut Ahead<'_>, room: usize) -> Result<(Part, Part), Stop>
+        requires { Nests self.now.turns (F.pre self.now.expr) (F.post self.now.expr) }
+        ensures { Reads pair_seen (spec.pair (spec.read self.now.turns) self.now.most room ahead.old) result ahead.new }
+    {
+        let key = self.inside(ahead, Row::Whole, room)?;
+        if !ahead.colon() {
+            return Err(Stop::NoForm);
+        }
+        let value = self.inside(ahead, Row::Whole, room)?;
+        Ok((key, value))
+    }
+
+    /// The entries up to the closing bracket, behind those that were found.
+    #[tactic(auto, unfolding(crate::specs::Descent::pairs, crate::specs::Descent::gather))]
+    fn pairs(&self, ahead: &mut Ahead<'_>, room: usize, mut found: Pairs) -> Result<Pairs, Stop>
+        requires { Nests self.now.turns (F.pre self.now.expr) (F.post self.now.expr) }
+        ensures { Reads pairs_seen (spec.pairs (spec.read self.now.turns) self.now.most room (pairs_seen found) ahead.old) result ahead.new }
+    {
+        for _turn in 0..self.most {
+            if ahead.close(Bracket::Curly) {
+                return Ok(found);
+            }
+            let pair = self.pair(ahead, room)?;
+            found = parts::with_pair(found, pair)?;
+            if ahead.close(Bracket::Curly) {
+                return Ok(found);
+            }
+            if !ahead.comma() {
+                return Err(Stop::NoForm);
+            }
+        }
+        Err(Stop::NoForm)
+    }
+
+    /// One more argument.
+    #[tactic(auto, unfolding(crate::specs::Descent::argument))]
+    fn argument(
+        &self,
+        ahead: &mut Ahead<'_>,
+        room: usize,
+        found: Arguments,
+    ) -> Result<Arguments, Stop>
+        requires { Nests self.now.turns (F.pre self.now.expr) (F.post self.now.expr) }
+        ensures { Reads arguments_seen (then_read (spec.argument (spec.read self.now.turns) self.now.most room ahead.old) (λ a u. Some (spec.with_argument (arguments_seen found) a, u))) result ahead.new }
+    {
+        match ahead.named() {
+            Some(name) => {
+                let name = Text::new(self.alloc, name)?;
+                let value = self.inside(ahead, Row::Whole, room)?;
+                Ok(parts::with_keyword(found, name, value)?)
+            }
+            None => {
+                let value = self.inside(ahead, Row::Whole, room)?;
+                Ok(parts::with_positional(found, value)?)
+            }
+        }
+    }
+
+    /// The arguments of a call, up to its closing bracket.
+    #[tactic(auto, unfolding(crate::specs::Descent::arguments, crate::specs::Descent::gather))]
+    fn arguments(&self, ahead: &mut Ahead<'_>, room: usize) -> Result<Arguments, Stop>
+        requires { Nests self.now.turns (F.pre self.now.expr) (F.post self.now.expr) }
+        ensures { Reads arguments_seen (spec.arguments (spec.read self.now.turns) self.now.most room ahead.old) result ahead.new }
+    {
+        let mut found = parts::no_arguments(self.alloc);
+        for _turn in 0..self.most {
+            if ahead.close(Bracket::Round) {
+                return Ok(found);
+            }
+            found = self.argument(ahead, room, found)?;
+            if ahead.close(Bracket::Round) {
+                return Ok(found);
+            }
+            if !ahead.comma() {
+                return Err(Stop::NoForm);
+            }
+        }
+        Err(Stop::NoForm)
+    }
+
+    /// The clauses of a comprehension.
+    #[tactic(auto, unfolding(crate::specs::Descent::clauses))]
+    fn clauses(&self, ahead: &mut Ahead<'_>, room: usize) -> Result<Conditions, Stop>
+        requires { Nests self.now.turns (F.pre self.now.expr) (F.post self.now.expr) }
+        ensures { Reads conditions_seen (spec.clauses (spec.read self.now.turns) self.now.most room self.now.most spec.no_conditions ahead.old) result ahead.new }
+    {
+        let mut found = parts::no_conditions(self.alloc);
+        for _turn in 0..self.most {
+            match ahead.head(self.alloc)? {
+                Head::For(first, others) => {
+                    let operand = self.inside(ahead, Row::Operand, room)?;
+                    found = parts::with_for(found, first, others, operand)?;
+                }
+                Head::If => {
+                    let condition = self.inside(ahead, Row::Operand, room)?;
+                    found = parts::with_if(found, condition)?;
+                }
+                Head::Other => return Ok(found),
+            }
+        }
+        Err(Stop::NoForm)
+    }
+
+    /// Behind `(`: a tuple, or an expression in brackets.
+    #[tactic(auto, unfolding(crate::specs::Descent::round))]
+    fn round(&self, ahead: &mut Ahead<'_>, room: usize) -> Result<Part, Stop>
+        requires { Nests self.now.turns (F.pre self.now.expr) (F.post self.now.expr) }
+        ensures { Reads part_seen (spec.round (spec.read self.now.turns) self.now.most room ahead.old) result ahead.new }
+    {
+        if ahead.close(Bracket::Round) {
+            return parts::tuple(parts::no_items(self.alloc), room);
+        }
+        let first = self.inside(ahead, Row::Whole, room)?;
+        if ahead.close(Bracket::Round) {
+            return Ok(parts::bracketed(first));
+        }
+        if !ahead.comma() {
+            return Err(Stop::NoForm);
+        }
+        let found = parts::with_item(parts::no_items(self.alloc), first)?;
+        let found = self.items(ahead, Bracket::Round, room.saturating_sub(1), found)?;
+        parts::tuple(found, room)
+    }
+
+    /// Behind the first item of a list.
+    fn items_behind(
+        &self,
+        ahead: &mut Ahead<'_>,
+        room: usize,
+        found: Several,
+    ) -> Result<Several, Stop>
+        requires { Nests self.now.turns (F.pre self.now.expr) (F.post self.now.expr) }
+        ensures { Reads several_seen (spec.after_one (spec.items (spec.read self.now.turns) self.now.most room Square) (several_seen found) (behind_close Square ahead.old) (behind_comma ahead.old)) result ahead.new }
+    {
+        if ahead.close(Bracket::Square) {
+            return Ok(found);
+        }
+        if !ahead.comma() {
+            return Err(Stop::NoForm);
+        }
+        self.items(ahead, Bracket::Square, room, found)
+    }
+
+    /// Behind `[`: a list, or a comprehension.
+    #[tactic(auto, unfolding(crate::specs::Descent::square))]
+    fn square(&self, ahead: &mut Ahead<'_>, room: usize) -> Result<Part, Stop>
+        requires { Nests self.now.turns (F.pre self.now.expr) (F.post self.now.expr) }
+        ensures { Reads part_seen (spec.square (spec.read self.now.turns) self.now.most room ahead.old) result ahead.new }
+    {
+        if ahead.close(Bracket::Square) {
+            return parts::list(parts::no_items(self.alloc), room);
+        }
+        let below = room.saturating_sub(1);
+        let first = self.inside(ahead, Row::Whole, below)?;
+        if ahead.is_for() {
+            let clauses = self.clauses(ahead, below)?;
+            if !ahead.close(Bracket::Square) {
+                return Err(Stop::NoForm);
+            }
+            return parts::list_each(self.alloc, first, clauses, room);
+        }
+        let found = parts::with_item(parts::no_items(self.alloc), first)?;
+        let found = self.items_behind(ahead, below, found)?;
+        parts::list(found, room)
+    }
+
+    /// Behind the first entry of a dict.
+    fn pairs_behind(&self, ahead: &mut Ahead<'_>, room: usize, found: Pairs) -> Result<Pairs, Stop>
+        requires { Nests self.now.turns (F.pre self.now.expr) (F.post self.now.expr) }
+        ensures { Reads pairs_seen (spec.after_one (spec.pairs (spec.read self.now.turns) self.now.most room) (pairs_seen found) (behind_close Curly ahead.old) (behind_comma ahead.old)) result ahead.new }
+    {
+        if ahead.close(Bracket::Curly) {
+            return Ok(found);
+        }
+        if !ahead.comma() {
+            return Err(Stop::NoForm);
+        }
+        self.pairs(ahead, room, found)
+    }
+
+    /// Behind `{`: a dict, or a comprehension.
+    #[tactic(auto, unfolding(crate::specs::Descent::curly))]
+    fn curly(&self, ahead: &mut Ahead<'_>, room: usize) -> Result<Part, Stop>
+        requires { Nests self.now.turns (F.pre self.now.expr) (F.post self.now.expr) }
+        ensures { Reads part_seen (spec.curly (spec.read self.now.turns) self.now.most room ahead.old) result ahead.new }
+    {
+        if ahead.close(Bracket::Curly) {
+            return parts::dict(parts::no_pairs(self.alloc), room);
+        }
+        let below = room.saturating_sub(1);
+        let first = self.pair(ahead, below)?;
+        if ahead.is_for() {
+            let clauses = self.clauses(ahead, below)?;
+            if !ahead.close(Bracket::Curly) {
+                return Err(Stop::NoForm);
+            }
+            return parts::dict_each(self.alloc, first, clauses, room);
+        }
+        let found = parts::with_pair(parts::no_pairs(self.alloc), first)?;
+        let found = self.pairs_behind(ahead, below, found)?;
+        parts::dict(found, room)
+    }
+
+    /// What begins with a bracket.
+    fn display(&self, ahead: &mut Ahead<'_>, room: usize) -> Result<Part, Stop>
+        requires { Nests self.now.turns (F.pre self.now.expr) (F.post self.now.expr) }
+        ensures { Reads part_seen (spec.display_step (spec.read self.now.turns) self.now.most room (bracket_at ahead.old)) result ahead.new }
+    {
+        match ahead.bracket() {
+            Some(Bracket::Round) => self.round(ahead, room),
+            Some(Bracket::Square) => self.square(ahead, room),
+            Some(Bracket::Curly) => self.curly(ahead, room),
+            None => Err(Stop::NoForm),
+        }
+    }
+
+    /// A name, a literal, or what stands in brackets.
+    #[tactic(auto, unfolding(crate::specs::Descent::atom))]
+    fn atom(&self, ahead: &mut Ahead<'_>, room: usize) -> Result<Part, Stop>
+        requires { Nests self.now.turns (F.pre self.now.expr) (F.post self.now.expr) }
+        ensures { Reads part_seen (spec.atom (spec.read self.now.turns) self.now.most room ahead.old) result ahead.new }
+    {
+        if let Some(name) = ahead.name() {
+            return parts::name(self.alloc, name, room);
+        }
+        if let Some(value) = ahead.number() {
+            return parts::number(value, room);
+        }
+        if let Some(body) = ahead.string() {
+            let text = Text::from_string(unescape(self.alloc, body.as_bytes())?)?;
+            return parts::string(text, room);
+        }
+        self.display(ahead, room)
+    }
+
+    /// An expression with one field, index or call behind it.
+    #[tactic(auto, unfolding(crate::specs::Descent::suffixed))]
+    fn suffixed(
+        &self,
+        ahead: &mut Ahead<'_>,
+        of: Part,
+        suffix: Suffix,
+        room: usize,
+    ) -> Result<Part, Stop>
+        requires { Nests self.now.turns (F.pre self.now.expr) (F.post self.now.expr) }
+        ensures { Reads part_seen (spec.suffixed (spec.read self.now.turns) self.now.most room (part_seen of) suffix ahead.old) result ahead.new }
+    {
+        let below = room.saturating_sub(1);
+        match suffix {
+            Suffix::Attribute => match ahead.name() {
+                Some(name) => parts::selected(self.alloc, of, name, room),
+                None => Err(Stop::NoForm),
+            },
+            Suffix::Index => {
+                let at = self.inside(ahead, Row::Whole, below)?;
+                if !ahead.close(Bracket::Square) {
+                    return Err(Stop::NoForm);
+                }
+                parts::subscripted(self.alloc, of, at, room)
+            }
+            Suffix::Call => {
+                let arguments = self.arguments(ahead, below)?;
+                if !arguments.in_order {
+                    return Err(Stop::NoForm);
+                }
+                parts::called(self.alloc, of, arguments, room)
+            }
+        }
+    }
+
+    /// An atom, with its fields, indexes and calls.
+    #[tactic(auto, unfolding(crate::specs::Descent::e9, crate::specs::Descent::suffixes))]
+    fn e9(&self, ahead: &mut Ahead<'_>, room: usize) -> Result<Part, Stop>
+        requires { Nests self.now.turns (F.pre self.now.expr) (F.post self.now.expr) }
+        ensures { Reads part_seen (spec.e9 (spec.read self.now.turns) self.now.most room ahead.old) result ahead.new }
+    {
+        let mut whole = self.atom(ahead, room)?;
+        for _turn in 0..self.most {
+            match ahead.suffix() {
+                Some(suffix) => whole = self.suffixed(ahead, whole, suffix, room)?,
+                None => return Ok(whole),
+            }
+        }
+        Ok(whole)
+    }
+
+    /// `-`.
+    #[tactic(auto, unfolding(crate::specs::Descent::e8))]
+    fn e8(&self, ahead: &mut Ahead<'_>, room: usize) -> Result<Part, Stop>
+        requires { Nests self.now.turns (F.pre self.now.expr) (F.post self.now.expr) }
+        ensures { Reads part_seen (spec.e8 (spec.read self.now.turns) self.now.most room ahead.old) result ahead.new }
+    {
+        if ahead.minus() {
+            let operand = self.inside(ahead, Row::Opposed, room.saturating_sub(1))?;
+            return parts::signed(self.alloc, Sign::Minus, operand, room);
+        }
+        self.e9(ahead, room)
+    }
+
+    /// `*`, `//` and `%` behind a part.
+    #[tactic(auto, unfolding(crate::specs::Descent::chain))]
+    fn products(&self, ahead: &mut Ahead<'_>, mut left: Part, room: usize) -> Result<Part, Stop>
+        requires { Nests self.now.turns (F.pre self.now.expr) (F.post self.now.expr) }
+        ensures { Reads part_seen (spec.chain product_at (spec.e8 (spec.read self.now.turns) self.now.most) room self.now.most (part_seen left) ahead.old) result ahead.new }
+    {
+        for _turn in 0..self.most {
+            let Some(operator) = ahead.product_operator() else {
+                return Ok(left);
+            };
+            let right = self.e8(ahead, room.saturating_sub(1))?;
+            left = parts::operated(self.alloc, operator, left, right, room)?;
+        }
+        Ok(left)
+    }
+
+    /// `*`, `//` and `%`.
+    #[tactic(auto, unfolding(crate::specs::Descent::e7))]
+    fn e7(&self, ahead: &mut Ahead<'_>, room: usize) -> Result<Part, Stop>
+        requires { Nests self.now.turns (F.pre self.now.expr) (F.post self.now.expr) }
+        ensures { Reads part_seen (spec.e7 (spec.read self.now.turns) self.now.most room ahead.old) result ahead.new }
+    {
+        let left = self.e8(ahead, room)?;
+        self.products(ahead, left, room)
+    }
+
+    /// `+` and `-` behind a part.
+    #[tactic(auto, unfolding(crate::specs::Descent::chain))]
+    fn sums(&self, ahead: &mut Ahead<'_>, mut left: Part, room: usize) -> Result<Part, Stop>
+        requires { Nests self.now.turns (F.pre self.now.expr) (F.post self.now.expr) }
+        ensures { Reads part_seen (spec.chain sum_at (spec.e7 (spec.read self.now.turns) self.now.most) room self.now.most (part_seen left) ahead.old) result ahead.new }
+    {
+        for _turn in 0..self.most {
+            let Some(operator) = ahead.sum_operator() else {
+                return Ok(left);
+            };
+            let right = self.e7(ahead, room.saturating_sub(1))?;
+            left = parts::operated(self.alloc, operator, left, right, room)?;
+        }
+        Ok(left)
+    }
+
+    /// `+` and `-`.
+    #[tactic(auto, unfolding(crate::specs::Descent::e6))]
+    fn e6(&self, ahead: &mut Ahead<'_>, room: usize) -> Result<Part, Stop>
+        requires { Nests self.now.turns (F.pre self.now.expr) (F.post self.now.expr) }
+        ensures { Reads part_seen (spec.e6 (spec.read self.now.turns) self.now.most room ahead.old) result ahead.new }
+    {
+        let left = self.e7(ahead, room)?;
+        self.sums(ahead, left, room)
+    }
+
+    /// A comparison behind a part.
+    fn compared(&self, ahead: &mut Ahead<'_>, left: Part, room: usize) -> Result<Part, Stop>
+        requires { Nests self.now.turns (F.pre self.now.expr) (F.post self.now.expr) }
+        ensures { Reads part_seen (spec.join_step (spec.e6 (spec.read self.now.turns) self.now.most) (λ b v. Some (b, v)) room (part_seen left) (comparison_at ahead.old) ahead.old) result ahead.new }
+    {
+        let Some(operator) = ahead.comparison() else {
+            return Ok(left);
+        };
+        let right = self.e6(ahead, room.saturating_sub(1))?;
+        parts::operated(self.alloc, operator, left, right, room)
+    }
+
+    /// Comparisons, which are not chained.
+    #[tactic(auto, unfolding(crate::specs::Descent::e5))]
+    fn e5(&self, ahead: &mut Ahead<'_>, room: usize) -> Result<Part, Stop>
+        requires { Nests self.now.turns (F.pre self.now.expr) (F.post self.now.expr) }
+        ensures { Reads part_seen (spec.e5 (spec.read self.now.turns) self.now.most room ahead.old) result ahead.new }
+    {
+        let left = self.e6(ahead, room)?;
+        self.compared(ahead, left, room)
+    }
+
+    /// `not`.
+    #[tactic(auto, unfolding(crate::specs::Descent::e4))]
+    fn e4(&self, ahead: &mut Ahead<'_>, room: usize) -> Result<Part, Stop>
+        requires { Nests self.now.turns (F.pre self.now.expr) (F.post self.now.expr) }
+        ensures { Reads part_seen (spec.e4 (spec.read self.now.turns) self.now.most room ahead.old) result ahead.new }
+    {
+        if ahead.not_word() {
+            let operand = self.inside(ahead, Row::Negated, room.saturating_sub(1))?;
+            return parts::signed(self.alloc, Sign::Not, operand, room);
+        }
+        self.e5(ahead, room)
+    }
+
+    /// `and` behind a part.
+    #[tactic(auto, unfolding(crate::specs::Descent::chain))]
+    fn ands(&self, ahead: &mut Ahead<'_>, mut left: Part, room: usize) -> Result<Part, Stop>
+        requires { Nests self.now.turns (F.pre self.now.expr) (F.post self.now.expr) }
+        ensures { Reads part_seen (spec.chain and_at (spec.e4 (spec.read self.now.turns) self.now.most) room self.now.most (part_seen left) ahead.old) result ahead.new }
+    {
+        for _turn in 0..self.most {
+            let Some(operator) = ahead.and_operator() else {
+                return Ok(left);
+            };
+            let right = self.e4(ahead, room.saturating_sub(1))?;
+            left = parts::operated(self.alloc, operator, left, right, room)?;
+        }
+        Ok(left)
+    }
+
+    /// `and`.
+    #[tactic(auto, unfolding(crate::specs::Descent::e3))]
+    fn e3(&self, ahead: &mut Ahead<'_>, room: usize) -> Result<Part, Stop>
+        requires { Nests self.now.turns (F.pre self.now.expr) (F.post self.now.expr) }
+        ensures { Reads part_seen (spec.e3 (spec.read self.now.turns) self.now.most room ahead.old) result ahead.new }
+    {
+        let left = self.e4(ahead, room)?;
+        self.ands(ahead, left, room)
+    }
+
+    /// `or` behind a part.
+    #[tactic(auto, unfolding(crate::specs::Descent::chain))]
+    fn ors(&self, ahead: &mut Ahead<'_>, mut left: Part, room: usize) -> Result<Part, Stop>
+        requires { Nests self.now.turns (F.pre self.now.expr) (F.post self.now.expr) }
+        ensures { Reads part_seen (spec.chain or_at (spec.e3 (spec.read self.now.turns) self.now.most) room self.now.most (part_seen left) ahead.old) result ahead.new }
+    {
+        for _turn in 0..self.most {
+            let Some(operator) = ahead.or_operator() else {
+                return Ok(left);
+            };
+            let right = self.e3(ahead, room.saturating_sub(1))?;
+            left = parts::operated(self.alloc, operator, left, right, room)?;
+        }
+        Ok(left)
+    }
+
+    /// `or`.
+    #[tactic(auto, unfolding(crate::specs::Descent::e2))]
+    fn e2(&self, ahead: &mut Ahead<'_>, room: usize) -> Result<Part, Stop>
+        requires { Nests self.now.turns (F.pre self.now.expr) (F.post self.now.expr) }
+        ensures { Reads part_seen (spec.e2 (spec.read self.now.turns) self.now.most room ahead.old) result ahead.new }
+    {
+        let left = self.e3(ahead, room)?;
+        self.ors(ahead, left, room)
+    }
+
+    /// A condition behind an expression, with the other one.
+    fn chosen(&self, ahead: &mut Ahead<'_>, then: Part, room: usize) -> Result<Part, Stop>
+        requires { Nests self.now.turns (F.pre self.now.expr) (F.post self.now.expr) }
+        ensures { Reads part_seen (spec.if_step (spec.read self.now.turns) self.now.most room (part_seen then) ahead.old (behind_if ahead.old)) result ahead.new }
+    {
+        if !ahead.if_word() {
+            return Ok(then);
+        }
+        let below = room.saturating_sub(1);
+        let test = self.e2(ahead, below)?;
+        if !ahead.else_word() {
+            return Err(Stop::NoForm);
+        }
+        let other = self.inside(ahead, Row::Whole, below)?;
+        parts::chosen(self.alloc, then, test, other, room)
+    }
+
+    /// The conditional.
+    #[tactic(auto, unfolding(crate::specs::Descent::e1))]
+    fn e1(&self, ahead: &mut Ahead<'_>, room: usize) -> Result<Part, Stop>
+        requires { Nests self.now.turns (F.pre self.now.expr) (F.post self.now.expr) }
+        ensures { Reads part_seen (spec.e1 (spec.read self.now.turns) self.now.most room ahead.old) result ahead.new }
+    {
+        let then = self.e2(ahead, room)?;
+        self.chosen(ahead, then, room)
+    }
+
+    /// A sum whose first part was read already, with its fields, indexes and calls.
+    #[tactic(auto, unfolding(crate::specs::Descent::e6_on))]
+    fn e6_on(&self, ahead: &mut Ahead<'_>, left: Part, room: usize) -> Result<Part, Stop>
+        requires { Nests self.now.turns (F.pre self.now.expr) (F.post self.now.expr) }
+        ensures { Reads part_seen (spec.e6_on (spec.read self.now.turns) self.now.most room (part_seen left) ahead.old) result ahead.new }
+    {
+        let left = self.products(ahead, left, room)?;
+        self.sums(ahead, left, room)
+    }
+
+    /// The same of a comparison.
+    #[tactic(auto, unfolding(crate::specs::Descent::e5_on))]
+    fn e5_on(&self, ahead: &mut Ahead<'_>, left: Part, room: usize) -> Result<Part, Stop>
+        requires { Nests self.now.turns (F.pre self.now.expr) (F.post self.now.expr) }
+        ensures { Reads part_seen (spec.e5_on (spec.read self.now.turns) self.now.most room (part_seen left) ahead.old) result ahead.new }
+    {
+        let left = self.e6_on(ahead, left, room)?;
+        self.compared(ahead, left, room)
+    }
+
+    /// The same of `and`.
+    #[tactic(auto, unfolding(crate::specs::Descent::e3_on))]
+    fn e3_on(&self, ahead: &mut Ahead<'_>, left: Part, room: usize) -> Result<Part, Stop>
+        requires { Nests self.now.turns (F.pre self.now.expr) (F.post self.now.expr) }
+        ensures { Reads part_seen (spec.e3_on (spec.read self.now.turns) self.now.most room (part_seen left) ahead.old) result ahead.new }
+    {
+        let left = self.e5_on(ahead, left, room)?;
+        self.ands(ahead, left, room)
+    }
+
+    /// The same of `or`.
+    #[tactic(auto, unfolding(crate::specs::Descent::e2_on))]
+    fn e2_on(&self, ahead: &mut Ahead<'_>, left: Part, room: usize) -> Result<Part, Stop>
+        requires { Nests self.now.turns (F.pre self.now.expr) (F.post self.now.expr) }
+        ensures { Reads part_seen (spec.e2_on (spec.read self.now.turns) self.now.most room (part_seen left) ahead.old) result ahead.new }
+    {
+        let left = self.e3_on(ahead, left, room)?;
+        self.ors(ahead, left, room)
+    }
+
+    /// The same of a conditional.
+    #[tactic(auto, unfolding(crate::specs::Descent::e1_on))]
+    fn e1_on(&self, ahead: &mut Ahead<'_>, left: Part, room: usize) -> Result<Part, Stop>
+        requires { Nests self.now.turns (F.pre self.now.expr) (F.post self.now.expr) }
+        ensures { Reads part_seen (spec.e1_on (spec.read self.now.turns) self.now.most room (part_seen left) ahead.old) result ahead.new }
+    {
+        let left = self.e2_on(ahead, left, room)?;
+        self.chosen(ahead, left, room)
+    }
+
+    /// An expression without a sign before it. Most have no operator, and are read without going through all levels.
+    fn from_atom(&self, ahead: &mut Ahead<'_>, room: usize) -> Result<Part, Stop>
+        requires { Nests self.now.turns (F.pre self.now.expr) (F.post self.now.expr) }
+        ensures { Reads part_seen (then_read (spec.e9 (spec.read self.now.turns) self.now.most room ahead.old) (spec.e1_on (spec.read self.now.turns) self.now.most room)) result ahead.new }
+    {
+        let first = self.e9(ahead, room)?;
+        if ahead.ends_here() {
+            return Ok(first);
+        }
+        self.e1_on(ahead, first, room)
+    }
+
+    /// Any expression.
+    fn whole(&self, ahead: &mut Ahead<'_>, room: usize) -> Result<Part, Stop>
+        requires { Nests self.now.turns (F.pre self.now.expr) (F.post self.now.expr) }
+        ensures { Reads part_seen (spec.e1 (spec.read self.now.turns) self.now.most room ahead.old) result ahead.new }
+    {
+        if !ahead.is_unsigned() {
+            return self.e1(ahead, room);
+        }
+        self.from_atom(ahead, room)
+    }
+
+    fn row(&self, ahead: &mut Ahead<'_>, row: Row, room: usize) -> Result<Part, Stop>
+        requires { Nests self.now.turns (F.pre self.now.expr) (F.post self.now.expr) }
+        ensures { Reads part_seen (spec.row (spec.read self.now.turns) self.now.most row room ahead.old) result ahead.new }
+    {
+        match row {
+            Row::Whole => self.whole(ahead, room),
+            Row::Operand => self.e2(ahead, room),
+            Row::Negated => self.e4(ahead, room),
+            Row::Opposed => self.e8(ahead, room),
+        }
+    }
+}
+
+/// The expression that comes next, of at most `turns` expressions inside of one another and no deeper than `room`.
+pub(crate) fn expression(
+    alloc: Global,
+    ahead: &mut Ahead<'_>,
+    turns: usize,
+    row: Row,
+    room: usize,
+) -> Result<Part, Stop>
+    ensures { Reads part_seen (spec.read turns row room ahead.old) result ahead.new }
+{
+    if turns == 0 {
+        return Err(Stop::NoForm);
+    }
+    if room == 0 {
+        return Err(Stop::NoForm);
+    }
+    Reader {
+        alloc,
+        turns: turns - 1,
+        most: turns,
+        expr: expression,
+    }
+    .row(ahead, row, room)
+}

@@ -1,0 +1,194 @@
+//! The trees of expressions, as the program keeps them: what only their writing has, as brackets alone and commas at
+//! the end, is gone.
+
+ghost use Rattle.std.specs.Prelude.{◌≡◌, IfOk};
+ghost use Rattle.grammar.specs.Bare as bare;
+ghost use Rattle.grammar.specs.TreeView.{operator_seen, sign_seen, tree_of, trees, entries, keywords, rests};
+
+use plain::Text;
+use std::alloc::{AllocError, Global};
+
+/// An operator between two parts.
+#[derive(Clone, Copy, PartialEq, Eq, Debug)]
+pub enum Operator {
+    Or,
+    And,
+    Equal,
+    NotEqual,
+    Less,
+    Greater,
+    LessEqual,
+    GreaterEqual,
+    In,
+    NotIn,
+    Add,
+    Subtract,
+    Multiply,
+    FloorDivide,
+    Remainder,
+}
+
+/// An operator before a part.
+#[derive(Clone, Copy, PartialEq, Eq, Debug)]
+pub enum Sign {
+    Not,
+    Minus,
+}
+
+/// An expression. It is at most 200 deep in a text that was read.
+#[cycle(tree)]
+#[derive(Drop)]
+pub enum Expr {
+    /// A name; `None`, `True` and `False` are names.
+    Name(Text),
+    Number(u64),
+    /// A string, with its escapes read.
+    Str(Text),
+    Tuple(Vec<Expr>),
+    ListOf(Vec<Expr>),
+    DictOf(Vec<Entry>),
+    /// `THEN if TEST else OTHER`, in the order of the text.
+    Choice(Box<Expr>, Box<Expr>, Box<Expr>),
+    Binary(Operator, Box<Expr>, Box<Expr>),
+    Unary(Sign, Box<Expr>),
+    Attribute(Box<Expr>, Text),
+    Index(Box<Expr>, Box<Expr>),
+    /// A call, with its positional arguments and then those with names.
+    Call(Box<Expr>, Vec<Expr>, Vec<Keyword>),
+    /// `[ELEMENT for ..]`, with all its clauses; the first one is a `for`.
+    ListEach(Box<Expr>, Vec<Clause>),
+    /// `{KEY: VALUE for ..}`.
+    DictEach(Box<Expr>, Box<Expr>, Vec<Clause>),
+}
+
+/// An entry of a dict.
+#[cycle(tree)]
+#[derive(Drop)]
+pub struct Entry {
+    pub key: Expr,
+    pub value: Expr,
+}
+
+/// An argument with its name.
+#[cycle(tree)]
+#[derive(Drop)]
+pub struct Keyword {
+    pub name: Text,
+    pub value: Expr,
+}
+
+/// A clause of a comprehension.
+#[cycle(tree)]
+#[derive(Drop)]
+pub enum Clause {
+    /// `for FIRST, OTHERS in OPERAND`.
+    For(Text, Vec<Text>, Expr),
+    If(Expr),
+}
+
+pub(crate) fn binary(
+    operator: Operator,
+    left: Expr,
+    right: Expr,
+    alloc: Global,
+) -> Result<Expr, AllocError>
+    ensures { IfOk result (λ e. tree_of e ≡ bare.operates (operator_seen operator) (tree_of left) (tree_of right)) }
+{
+    Ok(Expr::Binary(operator, Box::new(alloc, left)?, Box::new(alloc, right)?))
+}
+
+pub(crate) fn unary(alloc: Global, sign: Sign, operand: Expr) -> Result<Expr, AllocError>
+    ensures { IfOk result (λ e. tree_of e ≡ bare.turned (sign_seen sign) (tree_of operand)) }
+{
+    Ok(Expr::Unary(sign, Box::new(alloc, operand)?))
+}
+
+pub(crate) fn choice(alloc: Global, then: Expr, test: Expr, other: Expr) -> Result<Expr, AllocError>
+    ensures { IfOk result (λ e. tree_of e ≡ bare.choice (tree_of then) (tree_of test) (tree_of other)) }
+{
+    Ok(Expr::Choice(
+        Box::new(alloc, then)?,
+        Box::new(alloc, test)?,
+        Box::new(alloc, other)?,
+    ))
+}
+
+pub(crate) fn attribute(alloc: Global, of: Expr, name: Text) -> Result<Expr, AllocError>
+    ensures { IfOk result (λ e. tree_of e ≡ bare.selects (tree_of of) name) }
+{
+    Ok(Expr::Attribute(Box::new(alloc, of)?, name))
+}
+
+pub(crate) fn index(alloc: Global, of: Expr, at: Expr) -> Result<Expr, AllocError>
+    ensures { IfOk result (λ e. tree_of e ≡ bare.subscript (tree_of of) (tree_of at)) }
+{
+    Ok(Expr::Index(Box::new(alloc, of)?, Box::new(alloc, at)?))
+}
+
+pub(crate) fn call(
+    alloc: Global,
+    callee: Expr,
+    arguments: Vec<Expr>,
+    named: Vec<Keyword>,
+) -> Result<Expr, AllocError>
+    ensures { IfOk result (λ e. tree_of e ≡ bare.invokes (tree_of callee) (trees arguments.items) (keywords named.items)) }
+{
+    Ok(Expr::Call(Box::new(alloc, callee)?, arguments, named))
+}
+
+pub(crate) fn list_each(
+    alloc: Global,
+    element: Expr,
+    clauses: Vec<Clause>,
+) -> Result<Expr, AllocError>
+    ensures { IfOk result (λ e. tree_of e ≡ bare.each (tree_of element) (rests clauses.items)) }
+{
+    Ok(Expr::ListEach(Box::new(alloc, element)?, clauses))
+}
+
+pub(crate) fn dict_each(
+    alloc: Global,
+    key: Expr,
+    value: Expr,
+    clauses: Vec<Clause>,
+) -> Result<Expr, AllocError>
+    ensures { IfOk result (λ e. tree_of e ≡ bare.each_entry (tree_of key) (tree_of value) (rests clauses.items)) }
+{
+    Ok(Expr::DictEach(Box::new(alloc, key)?, Box::new(alloc, value)?, clauses))
+}
+
+pub(crate) fn tuple(items: Vec<Expr>) -> Expr
+    ensures { tree_of result ≡ bare.tuple (trees items.items) }
+{
+    Expr::Tuple(items)
+}
+
+pub(crate) fn list_of(items: Vec<Expr>) -> Expr
+    ensures { tree_of result ≡ bare.listing (trees items.items) }
+{
+    Expr::ListOf(items)
+}
+
+pub(crate) fn dict_of(found: Vec<Entry>) -> Expr
+    ensures { tree_of result ≡ bare.dict (entries found.items) }
+{
+    Expr::DictOf(found)
+}
+
+pub(crate) fn name(text: Text) -> Expr
+    ensures { tree_of result ≡ bare.named text }
+{
+    Expr::Name(text)
+}
+
+pub(crate) fn number(value: u64) -> Expr
+    ensures { tree_of result ≡ bare.numeral value }
+{
+    Expr::Number(value)
+}
+
+pub(crate) fn string(text: Text) -> Expr
+    ensures { tree_of result ≡ bare.quoted text }
+{
+    Expr::Str(text)
+}

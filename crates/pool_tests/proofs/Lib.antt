@@ -1,0 +1,2 @@
+mod Nested
+mod TwoNodes

@@ -1,0 +1,108 @@
+//! Gates that hold workers up, or count what they do.
+use pool::{Gate, NodeId};
+use std::alloc::{AllocError, Global};
+use std::sync::atomic::{AtomicU64, Ordering};
+use std::thread;
+
+/// How often a gate looks before it gives up.
+const TURNS: u64 = 1_000_000_000;
+
+/// Holds workers up at the nodes from `low` to `high` until so many of these nodes were entered.
+#[derive(Drop)]
+pub(crate) struct Meeting {
+    low: usize,
+    high: usize,
+    wanted: u64,
+    entered: AtomicU64,
+    given_up: AtomicU64,
+}
+
+impl Meeting {
+    /// Nobody has entered yet.
+    pub(crate) fn of(low: usize, high: usize, wanted: u64) -> Meeting {
+        Meeting {
+            low,
+            high,
+            wanted,
+            entered: AtomicU64::new(0),
+            given_up: AtomicU64::new(0),
+        }
+    }
+
+    /// Whether all who were wanted met.
+    pub(crate) fn met(&self) -> bool {
+        self.entered.load(Ordering::SeqCst) >= self.wanted
+            && self.given_up.load(Ordering::SeqCst) == 0
+    }
+}
+
+impl Gate for Meeting {
+    fn enter(&self, n: NodeId) {
+        if n.number() < self.low || n.number() > self.high {
+            return;
+        }
+        self.entered.fetch_add(1, Ordering::SeqCst);
+        for _ in 0..TURNS {
+            if self.entered.load(Ordering::SeqCst) >= self.wanted {
+                return;
+            }
+            thread::yield_now();
+        }
+        self.given_up.store(1, Ordering::SeqCst);
+    }
+
+    fn leave(&self, _n: NodeId) {}
+}
+
+/// Counts for each node how often it was entered and left.
+#[derive(Drop)]
+pub(crate) struct Counting {
+    entered: Vec<AtomicU64>,
+    left: Vec<AtomicU64>,
+}
+
+fn zeros(alloc: Global, nodes: usize) -> Result<Vec<AtomicU64>, AllocError> {
+    let mut all = Vec::new(alloc);
+    for _ in 0..nodes {
+        all.push(AtomicU64::new(0))?;
+    }
+    Ok(all)
+}
+
+fn all_one(counts: &[AtomicU64]) -> bool {
+    for count in counts {
+        if count.load(Ordering::SeqCst) != 1 {
+            return false;
+        }
+    }
+    true
+}
+
+impl Counting {
+    /// No node was entered or left yet.
+    pub(crate) fn of(alloc: Global, nodes: usize) -> Result<Counting, AllocError> {
+        Ok(Counting {
+            entered: zeros(alloc, nodes)?,
+            left: zeros(alloc, nodes)?,
+        })
+    }
+
+    /// Whether each node was entered and left once.
+    pub(crate) fn once(&self) -> bool {
+        all_one(self.entered.as_slice()) && all_one(self.left.as_slice())
+    }
+}
+
+impl Gate for Counting {
+    fn enter(&self, n: NodeId) {
+        if let Some(count) = self.entered.get(n.number()) {
+            count.fetch_add(1, Ordering::SeqCst);
+        }
+    }
+
+    fn leave(&self, n: NodeId) {
+        if let Some(count) = self.left.get(n.number()) {
+            count.fetch_add(1, Ordering::SeqCst);
+        }
+    }
+}

@@ -1,0 +1,15 @@
+//! Tests of crate `pool`. They are a crate of their own, so that `pool` is proved once.
+#![tactic(auto)]
+
+#[cfg(test)]
+mod analysers;
+#[cfg(test)]
+mod gates;
+#[cfg(test)]
+mod graphs;
+#[cfg(test)]
+mod pair;
+#[cfg(test)]
+mod runs;
+#[cfg(test)]
+mod shelves;

@@ -1,5 +1,0 @@
-use Rattle.syntax.proofs.WholeForms.{is_line_form}
-use Rattle.syntax.proofs.form_laws.forms_are_read_within_the_limit.Goals as goal
-
-pub returns : goal.returns
-returns c = is_line_form

@@ -1,0 +1,17 @@
+//! Tests of crate `values`. They are a crate of their own, so that `values` is proved once.
+#![tactic(auto)]
+
+#[cfg(test)]
+mod heap;
+#[cfg(test)]
+mod reprs;
+#[cfg(test)]
+mod script;
+#[cfg(test)]
+mod texts;
+#[cfg(test)]
+mod threads;
+#[cfg(test)]
+mod visits;
+#[cfg(test)]
+mod world;

@@ -1,0 +1,166 @@
+//! The text of each kind of value, as the table of texts has it.
+use crate::script::{Ask, Make, all_hold};
+use indexmap::IndexSet;
+use plain::Text;
+use std::alloc::Global;
+use std::test::Fail;
+use values::{
+    AttributeKind, AttributeRef, Depset, Element, ExportName, Exported, FileRef, Frozen,
+    FunctionRef, Id, Key, Leaf, Order, ProviderRef, text,
+};
+
+fn exported(alloc: Global, name: &str) -> Result<Exported, Fail> {
+    let path = Text::new(alloc, "a/f.bzl")?;
+    let name = ExportName::Global(Text::new(alloc, name)?);
+    Ok(Exported { path, name })
+}
+
+fn provider(alloc: Global, name: &str) -> Result<ProviderRef, Fail> {
+    Ok(ProviderRef::Exported(exported(alloc, name)?))
+}
+
+fn depset(
+    alloc: Global,
+    serial: u64,
+    order: Order,
+    direct: &str,
+    children: &[&Depset],
+) -> Result<Depset, Fail> {
+    let owner = Text::new(alloc, "a/f.bzl")?;
+    let element = Element::Text(Text::new(alloc, direct)?);
+    let direct = Vec::from_array(alloc, [element])?;
+    let mut below = Vec::new(alloc);
+    for child in children {
+        below.push(child.share()?)?;
+    }
+    match Depset::new(alloc, Id { owner, serial }, order, direct, below) {
+        Ok(depset) => Ok(depset),
+        Err(_) => Err(Fail::from("a depset is made")),
+    }
+}
+
+fn is_text(alloc: Global, value: &Frozen, want: &str) -> Result<bool, Fail> {
+    let found = text(alloc, value)?;
+    Ok(found.as_str() == want)
+}
+
+/// Whether this is the text of a second name of the leaf.
+fn is_leaf_text(alloc: Global, leaf: Leaf, want: &str) -> Result<bool, Fail> {
+    is_text(alloc, &Frozen::of_leaf(leaf.share()?), want)
+}
+
+/// Whether this is the text of the key as a leaf.
+fn is_key_text(alloc: Global, key: Key, want: &str) -> Result<bool, Fail> {
+    is_leaf_text(alloc, key.to_leaf()?, want)
+}
+
+fn number(number: i64) -> Frozen {
+    Frozen::of_leaf(Leaf::Number(number))
+}
+
+#[test]
+fn plain_leaves(rt: HostRuntime) -> Result<(), Fail> {
+    let alloc = rt.alloc();
+    assert!(rt; is_leaf_text(alloc, Leaf::None, "None")?);
+    assert!(rt; is_leaf_text(alloc, Leaf::Truth(true), "True")?);
+    assert!(rt; is_leaf_text(alloc, Leaf::Truth(false), "False")?);
+    assert!(rt; is_leaf_text(alloc, Leaf::Number(i64::MIN), "-9223372036854775808")?);
+    let escaped = Leaf::Text(Text::new(alloc, "'a\n\t\\\"b")?);
+    assert!(rt; is_leaf_text(alloc, escaped, "\"'a\\n\\t\\\\\\\"b\"")?);
+    let label = Leaf::Label(Text::new(alloc, "//a:x")?);
+    assert!(rt; is_leaf_text(alloc, label, "//a:x")?);
+    let path = Text::new(alloc, "a/x.txt")?;
+    let owner = Text::new(alloc, "//a:x")?;
+    assert!(rt; is_leaf_text(alloc, Leaf::File(FileRef { path, owner }), "<file a/x.txt>")?);
+    Ok(())
+}
+
+#[test]
+fn leaves_that_modules_make(rt: HostRuntime) -> Result<(), Fail> {
+    let alloc = rt.alloc();
+    let path = Text::new(alloc, "a/f.bzl")?;
+    let name = Text::new(alloc, "f")?;
+    let function = Leaf::Function(FunctionRef {
+        path,
+        name,
+        number: 1,
+    });
+    assert!(rt; is_leaf_text(alloc, function, "<function a/f.bzl%f>")?);
+    let made = Leaf::Provider(provider(alloc, "P")?);
+    assert!(rt; is_leaf_text(alloc, made, "<provider a/f.bzl%P>")?);
+    let known = Leaf::Provider(ProviderRef::DefaultInfo);
+    assert!(rt; is_leaf_text(alloc, known, "<provider DefaultInfo>")?);
+    let rule = Leaf::Rule(exported(alloc, "r")?);
+    assert!(rt; is_leaf_text(alloc, rule, "<rule a/f.bzl%r>")?);
+    let built_in = Leaf::BuiltIn(Text::new(alloc, "len")?);
+    assert!(rt; is_leaf_text(alloc, built_in, "<built-in len>")?);
+    let attribute = Leaf::Attribute(AttributeRef {
+        kind: AttributeKind::LabelList,
+        path: Text::new(alloc, "a/f.bzl")?,
+        number: 1,
+    });
+    assert!(rt; is_leaf_text(alloc, attribute, "<attr label_list>")?);
+    Ok(())
+}
+
+#[test]
+fn depsets_by_their_listings(rt: HostRuntime) -> Result<(), Fail> {
+    let alloc = rt.alloc();
+    let s = depset(alloc, 1, Order::Default, "s", &[])?;
+    let l = depset(alloc, 2, Order::Default, "l", &[&s])?;
+    let r = depset(alloc, 3, Order::Default, "r", &[&s])?;
+    let behind = depset(alloc, 4, Order::Postorder, "d", &[&l, &r])?;
+    let want = "depset(postorder, [\"s\", \"l\", \"r\", \"d\"])";
+    assert!(rt; is_leaf_text(alloc, Leaf::Depset(behind), want)?);
+    let before = depset(alloc, 5, Order::Preorder, "d", &[&l, &r])?;
+    let want = "depset(preorder, [\"d\", \"l\", \"s\", \"r\"])";
+    assert!(rt; is_leaf_text(alloc, Leaf::Depset(before), want)?);
+    Ok(())
+}
+
+#[test]
+fn lists_tuples_dicts_and_instances(rt: HostRuntime) -> Result<(), Fail> {
+    let alloc = rt.alloc();
+    let none = Frozen::tuple(alloc, Vec::new(alloc))?;
+    assert!(rt; is_text(alloc, &none, "()")?);
+    let one = Frozen::tuple(alloc, Vec::from_array(alloc, [number(1)])?)?;
+    assert!(rt; is_text(alloc, &one, "(1,)")?);
+    let two = Frozen::tuple(alloc, Vec::from_array(alloc, [number(1), number(2)])?)?;
+    assert!(rt; is_text(alloc, &two, "(1, 2)")?);
+    let list = Frozen::list(alloc, Vec::from_array(alloc, [one, two])?)?;
+    assert!(rt; is_text(alloc, &list, "[(1,), (1, 2)]")?);
+    let mut keys = IndexSet::new(alloc);
+    keys.insert(Key::Text(Text::new(alloc, "a")?))?;
+    let dict = Frozen::dict(alloc, keys, Vec::from_array(alloc, [list])?)?;
+    assert!(rt; is_text(alloc, &dict, "{\"a\": [(1,), (1, 2)]}")?);
+    let mut names = IndexSet::new(alloc);
+    names.insert(Key::Text(Text::new(alloc, "m")?))?;
+    let values = Vec::from_array(alloc, [dict])?;
+    let instance = Frozen::instance(alloc, provider(alloc, "P")?, names, values)?;
+    assert!(rt; is_text(alloc, &instance, "a/f.bzl%P(m={\"a\": [(1,), (1, 2)]})")?);
+    Ok(())
+}
+
+#[test]
+fn keys_as_leaves(rt: HostRuntime) -> Result<(), Fail> {
+    let alloc = rt.alloc();
+    assert!(rt; is_key_text(alloc, Key::Text(Text::new(alloc, "a")?), "\"a\"")?);
+    assert!(rt; is_key_text(alloc, Key::Number(1), "1")?);
+    assert!(rt; is_key_text(alloc, Key::Truth(true), "True")?);
+    Ok(())
+}
+
+#[test]
+fn entries_of_several_kinds(rt: HostRuntime) -> Result<(), Fail> {
+    let steps = [
+        Make::Number(1),
+        Make::Text("s"),
+        Make::Dict(&[("b", 0), ("a", 1)]),
+        Make::Tuple(&[1]),
+        Make::Dict(&[("d", 2), ("c", 3)]),
+        Make::Frozen(4, 10),
+    ];
+    let want = "{\"d\": {\"b\": 1, \"a\": \"s\"}, \"c\": (\"s\",)}";
+    assert!(rt; all_hold(rt.alloc(), &steps, &[Ask::Reports(5, want)])?);
+    Ok(())
+}

@@ -1,0 +1,347 @@
+//! For tests: a heap, and the values made in it, by place in order of making.
+//!
+//! A test says with how many ticks a call answers. Each check then makes the call twice: under exactly this limit,
+//! and under one less, which must be `steps`.
+use plain::Text;
+use std::alloc::Global;
+use std::marker::Model;
+use std::test::Fail;
+use values::{
+    Broken, Entries, Heap, Items, Key, Leaf, ProviderRef, Ticks, Value, equal, freeze, repr, text,
+};
+
+#[derive(Drop)]
+pub(crate) struct World {
+    alloc: Global,
+    heap: Heap,
+    values: Items,
+}
+
+impl Model for World {
+    ghost use Rattle.std.specs.Prelude.{ℕ};
+
+    ghost Value = { ℕ };
+
+    ghost view = { λ w. 0 };
+}
+
+/// A change of a list or a dict. Values are named by place.
+#[derive(Clone, Copy)]
+pub(crate) enum Change<'a> {
+    Append(usize, usize),
+    Extend(usize, &'a [usize]),
+    SetIndex(usize, i64, usize),
+    SetKey(usize, &'a str, usize),
+    BeginWalk(usize),
+    EndWalk(usize),
+}
+
+fn made(value: Result<Value, Broken>) -> Result<Value, Fail> {
+    match value {
+        Ok(value) => Ok(value),
+        Err(_) => Err(Fail::from("a value is made")),
+    }
+}
+
+fn held(values: &Items, place: usize) -> Result<&Value, Fail> {
+    match values.as_slice().get(place) {
+        Some(value) => Ok(value),
+        None => Err(Fail::from("a value is there")),
+    }
+}
+
+/// Whether the answer is the fault of this name.
+fn is_kind<T>(answer: &Result<T, Broken>, name: &str) -> bool {
+    match answer {
+        Err(Broken::Kind(found)) => found.name() == name,
+        _ => false,
+    }
+}
+
+impl World {
+    /// No values.
+    pub(crate) fn new(alloc: Global) -> World {
+        World {
+            alloc,
+            heap: Heap::new(alloc),
+            values: Items::new(alloc),
+        }
+    }
+
+    fn at(&self, place: usize) -> Result<&Value, Fail> {
+        held(&self.values, place)
+    }
+
+    fn parts(&self, places: &[usize]) -> Result<Items, Fail> {
+        let mut items = Items::new(self.alloc);
+        for place in places {
+            items.push(self.at(*place)?.share()?)?;
+        }
+        Ok(items)
+    }
+
+    fn entries(&self, entries: &[(&str, usize)]) -> Result<Entries, Fail> {
+        let mut made = Entries::new(self.alloc);
+        for (key, place) in entries {
+            let key = Key::Text(Text::new(self.alloc, key)?);
+            made.put(key, self.at(*place)?.share()?)?;
+        }
+        Ok(made)
+    }
+
+    /// Adds a leaf.
+    pub(crate) fn leaf(&mut self, leaf: Leaf) -> Result<(), Fail> {
+        self.values.push(Value::Leaf(leaf))?;
+        Ok(())
+    }
+
+    /// Adds a string.
+    pub(crate) fn text(&mut self, text: &str) -> Result<(), Fail> {
+        let text = Text::new(self.alloc, text)?;
+        self.leaf(Leaf::Text(text))
+    }
+
+    /// Adds a string of so many bytes.
+    pub(crate) fn letters(&mut self, bytes: usize) -> Result<(), Fail> {
+        let mut text = String::new(self.alloc);
+        for _ in 0..bytes {
+            text.push_str("a")?;
+        }
+        self.leaf(Leaf::Text(Text::from_string(text)?))
+    }
+
+    /// Adds a list of so many `None`.
+    pub(crate) fn wide(&mut self, items: usize) -> Result<(), Fail> {
+        let mut nones = Items::new(self.alloc);
+        for _ in 0..items {
+            nones.push(Value::Leaf(Leaf::None))?;
+        }
+        let list = made(self.heap.new_list(nones))?;
+        self.values.push(list)?;
+        Ok(())
+    }
+
+    /// Adds a list of the values at these places.
+    pub(crate) fn list(&mut self, places: &[usize]) -> Result<(), Fail> {
+        let items = self.parts(places)?;
+        let list = made(self.heap.new_list(items))?;
+        self.values.push(list)?;
+        Ok(())
+    }
+
+    /// Adds a list of lists, of so many levels.
+    pub(crate) fn nested(&mut self, levels: usize) -> Result<(), Fail> {
+        let mut items = Items::new(self.alloc);
+        for _ in 1..levels {
+            let list = made(self.heap.new_list(items))?;
+            items = Items::new(self.alloc);
+            items.push(list)?;
+        }
+        let list = made(self.heap.new_list(items))?;
+        self.values.push(list)?;
+        Ok(())
+    }
+
+    /// Adds a tuple of the values at these places.
+    pub(crate) fn tuple(&mut self, places: &[usize]) -> Result<(), Fail> {
+        let items = self.parts(places)?;
+        let tuple = made(self.heap.new_tuple(items))?;
+        self.values.push(tuple)?;
+        Ok(())
+    }
+
+    /// Adds a dict of these keys, each with the value at a place.
+    pub(crate) fn dict(&mut self, entries: &[(&str, usize)]) -> Result<(), Fail> {
+        let entries = self.entries(entries)?;
+        let dict = made(self.heap.new_dict(entries))?;
+        self.values.push(dict)?;
+        Ok(())
+    }
+
+    /// Adds an instance of `DefaultInfo` with these fields, each with the value at a place.
+    pub(crate) fn instance(&mut self, fields: &[(&str, usize)]) -> Result<(), Fail> {
+        let fields = self.entries(fields)?;
+        let instance = made(self.heap.new_instance(ProviderRef::DefaultInfo, fields))?;
+        self.values.push(instance)?;
+        Ok(())
+    }
+
+    /// Adds a second name of a value.
+    pub(crate) fn share(&mut self, place: usize) -> Result<(), Fail> {
+        let second = self.at(place)?.share()?;
+        self.values.push(second)?;
+        Ok(())
+    }
+
+    fn append(&mut self, list: usize, item: usize) -> Result<Result<(), Broken>, Fail> {
+        let list = held(&self.values, list)?;
+        let item = held(&self.values, item)?;
+        Ok(self.heap.append(list, item))
+    }
+
+    fn extend(&mut self, list: usize, places: &[usize]) -> Result<Result<(), Broken>, Fail> {
+        let items = self.parts(places)?;
+        let list = held(&self.values, list)?;
+        Ok(self.heap.extend(list, items))
+    }
+
+    fn set_index(
+        &mut self,
+        list: usize,
+        index: i64,
+        item: usize,
+    ) -> Result<Result<(), Broken>, Fail> {
+        let list = held(&self.values, list)?;
+        let item = held(&self.values, item)?;
+        Ok(self.heap.set_index(list, index, item))
+    }
+
+    fn set_key(&mut self, dict: usize, key: &str, item: usize) -> Result<Result<(), Broken>, Fail> {
+        let key = Key::Text(Text::new(self.alloc, key)?);
+        let dict = held(&self.values, dict)?;
+        let item = held(&self.values, item)?;
+        Ok(self.heap.set_key(dict, &key, item))
+    }
+
+    fn begin_walk(&mut self, walked: usize) -> Result<Result<(), Broken>, Fail> {
+        Ok(self.heap.begin_walk(held(&self.values, walked)?))
+    }
+
+    fn end_walk(&mut self, walked: usize) -> Result<Result<(), Broken>, Fail> {
+        Ok(self.heap.end_walk(held(&self.values, walked)?))
+    }
+
+    fn change(&mut self, change: Change<'_>) -> Result<Result<(), Broken>, Fail> {
+        match change {
+            Change::Append(list, item) => self.append(list, item),
+            Change::Extend(list, places) => self.extend(list, places),
+            Change::SetIndex(list, index, item) => self.set_index(list, index, item),
+            Change::SetKey(dict, key, item) => self.set_key(dict, key, item),
+            Change::BeginWalk(walked) => self.begin_walk(walked),
+            Change::EndWalk(walked) => self.end_walk(walked),
+        }
+    }
+
+    /// Makes a change.
+    pub(crate) fn changed(&mut self, change: Change<'_>) -> Result<(), Fail> {
+        match self.change(change)? {
+            Ok(()) => Ok(()),
+            Err(_) => Err(Fail::from("a change is made")),
+        }
+    }
+
+    /// Tries a change, which the fault of this name refuses.
+    pub(crate) fn refused(&mut self, change: Change<'_>, kind: &str) -> Result<(), Fail> {
+        let answer = self.change(change)?;
+        if is_kind(&answer, kind) {
+            Ok(())
+        } else {
+            Err(Fail::from("a change is refused"))
+        }
+    }
+
+    /// Adds a frozen value, which takes so many ticks.
+    pub(crate) fn frozen(&mut self, place: usize, used: u64) -> Result<(), Fail> {
+        let mut ticks = Ticks::new(used);
+        let tree = freeze(self.alloc, self.at(place)?, &self.heap, &mut ticks);
+        match tree {
+            Ok(tree) => self.values.push(Value::Frozen(tree))?,
+            Err(_) => return Err(Fail::from("a value is frozen")),
+        }
+        Ok(())
+    }
+
+    /// Whether there are exactly so many cells, and one at least.
+    pub(crate) fn has_cells(&self, cells: usize) -> bool {
+        let last = cells.saturating_sub(1);
+        self.heap.cell(last).is_some() && self.heap.cell(cells).is_none()
+    }
+
+    /// Whether two values compare like this, in so many ticks.
+    pub(crate) fn compares(&self, a: usize, b: usize, used: u64, want: bool) -> Result<bool, Fail> {
+        let mut ticks = Ticks::new(used);
+        let found = equal(self.at(a)?, self.at(b)?, &self.heap, &mut ticks);
+        let short = self.equal_within(a, b, used.saturating_sub(1))?;
+        Ok(found == Ok(want) && ticks.used() == used && is_kind(&short, "steps"))
+    }
+
+    fn equal_within(&self, a: usize, b: usize, limit: u64) -> Result<Result<bool, Broken>, Fail> {
+        let mut ticks = Ticks::new(limit);
+        Ok(equal(self.at(a)?, self.at(b)?, &self.heap, &mut ticks))
+    }
+
+    /// Whether equality is refused at this tick.
+    pub(crate) fn compares_not(
+        &self,
+        a: usize,
+        b: usize,
+        tick: u64,
+        kind: &str,
+    ) -> Result<bool, Fail> {
+        let found = self.equal_within(a, b, tick)?;
+        let short = self.equal_within(a, b, tick.saturating_sub(1))?;
+        Ok(is_kind(&found, kind) && is_kind(&short, "steps"))
+    }
+
+    fn freeze_within(&self, place: usize, limit: u64) -> Result<Result<u64, Broken>, Fail> {
+        let mut ticks = Ticks::new(limit);
+        match freeze(self.alloc, self.at(place)?, &self.heap, &mut ticks) {
+            Ok(_) => Ok(Ok(ticks.used())),
+            Err(broken) => Ok(Err(broken)),
+        }
+    }
+
+    /// Whether a value is frozen in so many ticks.
+    pub(crate) fn freezes(&self, place: usize, used: u64) -> Result<bool, Fail> {
+        let found = self.freeze_within(place, used)?;
+        let short = self.freeze_within(place, used.saturating_sub(1))?;
+        Ok(found == Ok(used) && is_kind(&short, "steps"))
+    }
+
+    /// Whether freezing is refused at this tick.
+    pub(crate) fn freezes_not(&self, place: usize, tick: u64, kind: &str) -> Result<bool, Fail> {
+        let found = self.freeze_within(place, tick)?;
+        let short = self.freeze_within(place, tick.saturating_sub(1))?;
+        Ok(is_kind(&found, kind) && is_kind(&short, "steps"))
+    }
+
+    fn repr_within(&self, place: usize, limit: u64) -> Result<Result<String, Broken>, Fail> {
+        let mut ticks = Ticks::new(limit);
+        Ok(repr(self.alloc, self.at(place)?, &self.heap, &mut ticks))
+    }
+
+    /// Whether `str` gives this text, in so many ticks.
+    pub(crate) fn prints(&self, place: usize, used: u64, want: &str) -> Result<bool, Fail> {
+        let mut ticks = Ticks::new(used);
+        let found = repr(self.alloc, self.at(place)?, &self.heap, &mut ticks);
+        let Ok(found) = found else {
+            return Ok(false);
+        };
+        let short = self.repr_within(place, used.saturating_sub(1))?;
+        Ok(found.as_str() == want && ticks.used() == used && is_kind(&short, "steps"))
+    }
+
+    /// Whether `str` is refused at this tick.
+    pub(crate) fn prints_not(&self, place: usize, tick: u64, kind: &str) -> Result<bool, Fail> {
+        let found = self.repr_within(place, tick)?;
+        let short = self.repr_within(place, tick.saturating_sub(1))?;
+        Ok(is_kind(&found, kind) && is_kind(&short, "steps"))
+    }
+
+    /// Whether a report prints a frozen value by this text.
+    pub(crate) fn reports(&self, place: usize, want: &str) -> Result<bool, Fail> {
+        let Value::Frozen(tree) = self.at(place)? else {
+            return Ok(false);
+        };
+        let found = text(self.alloc, tree)?;
+        Ok(found.as_str() == want)
+    }
+
+    /// How many bytes `str` gives, if it gives any.
+    pub(crate) fn printed_bytes(&self, place: usize) -> Result<Result<usize, Broken>, Fail> {
+        match self.repr_within(place, u64::MAX)? {
+            Ok(text) => Ok(Ok(text.len())),
+            Err(broken) => Ok(Err(broken)),
+        }
+    }
+}
