@@ -1,10 +1,7 @@
 //! Workspaces of the first form with their reports, and others that are answered `Later`.
-use crate::{AnalyseStop, Label, NoGate, Workspace, analyse};
-use std::alloc::Global;
-use std::str;
-use std::sync::Wait;
+use crate::NoGate;
+use crate::asking::answered;
 use std::test::Fail;
-use std::thread::Threads;
 
 /// The module that the documents' example has.
 const RULES: &str =
@@ -17,53 +14,8 @@ const BUILD: &str = "load(\":i.bzl\", \"r\")\nr(name = \"x\")\n";
 const REPORT: &str =
     "target //a:x ok\n  provider DefaultInfo files=depset(default, [])\n  provider a/i.bzl%I n=1\n";
 
-/// The report, or the name of the stop.
-pub(crate) fn answered<R: Threads + Wait + Sync>(
-    rt: &R,
-    alloc: Global,
-    files: &[(&str, &str)],
-    labels: &[&str],
-    workers: u64,
-    limit: u64,
-) -> Result<String, Fail> {
-    let Ok(workspace) = Workspace::new(alloc, files) else {
-        return Err(Fail::from("a workspace is made"));
-    };
-    let mut asked = Vec::new(alloc);
-    for text in labels {
-        let Ok(label) = Label::read(alloc, text, None) else {
-            return Err(Fail::from("a label is read"));
-        };
-        asked.push(label)?;
-    }
-    let stop = match analyse(
-        rt,
-        alloc,
-        &workspace,
-        asked.as_slice(),
-        workers,
-        limit,
-        &NoGate,
-    ) {
-        Ok(bytes) => match str::from_utf8(bytes.as_slice()) {
-            Ok(text) => return Ok(String::from_str(alloc, text)?),
-            Err(_) => return Err(Fail::from("a report is a text")),
-        },
-        Err(stop) => stop,
-    };
-    let name = match stop {
-        AnalyseStop::Workers => "workers",
-        AnalyseStop::TooMany => "too many",
-        AnalyseStop::NoMemory => "no memory",
-        AnalyseStop::NoThread => "no thread",
-        AnalyseStop::Later => "later",
-    };
-    Ok(String::from_str(alloc, name)?)
-}
-
 #[test]
 fn one_target_for_any_workers_and_labels(rt: HostRuntime) -> Result<(), Fail> {
-    let alloc = rt.alloc();
     let files = [("a/i.bzl", RULES), ("a/BUILD", BUILD)];
     let turned = [("a/BUILD", BUILD), ("a/i.bzl", RULES)];
     let once = ["//a:x"];
@@ -89,9 +41,9 @@ fn one_target_for_any_workers_and_labels(rt: HostRuntime) -> Result<(), Fail> {
         (&file, 2, 1_000_000, "later"),
         (&also, 2, 1_000_000, "later"),
     ] {
-        let found = answered(&rt, alloc, &files, labels, workers, limit)?;
+        let found = answered(&rt, &files, labels, workers, limit, &NoGate)?;
         assert_eq!(rt; found.as_str(), want, "{workers} {limit}");
-        let found = answered(&rt, alloc, &turned, labels, workers, limit)?;
+        let found = answered(&rt, &turned, labels, workers, limit, &NoGate)?;
         assert_eq!(rt; found.as_str(), want, "{workers} {limit}");
     }
     Ok(())
@@ -99,13 +51,12 @@ fn one_target_for_any_workers_and_labels(rt: HostRuntime) -> Result<(), Fail> {
 
 #[test]
 fn no_files(rt: HostRuntime) -> Result<(), Fail> {
-    let alloc = rt.alloc();
     for (labels, workers, want) in [
         ([].as_slice(), 1u64, ""),
         ([].as_slice(), 0, "workers"),
         (["//a:x"].as_slice(), 1, "later"),
     ] {
-        let found = answered(&rt, alloc, &[], labels, workers, 1)?;
+        let found = answered(&rt, &[], labels, workers, 1, &NoGate)?;
         assert_eq!(rt; found.as_str(), want, "{workers}");
     }
     Ok(())
@@ -113,7 +64,6 @@ fn no_files(rt: HostRuntime) -> Result<(), Fail> {
 
 #[test]
 fn workspaces_of_the_first_form(rt: HostRuntime) -> Result<(), Fail> {
-    let alloc = rt.alloc();
     for (module_path, module, build_path, build, label, want) in [
         // other names and no spaces
         (
@@ -205,11 +155,11 @@ fn workspaces_of_the_first_form(rt: HostRuntime) -> Result<(), Fail> {
     ] {
         let found = answered(
             &rt,
-            alloc,
             &[(module_path, module), (build_path, build)],
             &[label],
             3,
             1_000_000,
+            &NoGate,
         )?;
         assert_eq!(rt; found.as_str(), want, "{module_path} {build}");
     }
@@ -218,7 +168,6 @@ fn workspaces_of_the_first_form(rt: HostRuntime) -> Result<(), Fail> {
 
 #[test]
 fn workspaces_of_other_forms(rt: HostRuntime) -> Result<(), Fail> {
-    let alloc = rt.alloc();
     for (module_path, module, build_path, build) in [
         // a rule with attributes
         (
@@ -297,13 +246,13 @@ fn workspaces_of_other_forms(rt: HostRuntime) -> Result<(), Fail> {
         ("a/i.bzl", BUILD, "a/BUILD", RULES),
     ] {
         let files = [(module_path, module), (build_path, build)];
-        let found = answered(&rt, alloc, &files, &["//a:x"], 1, 1_000_000)?;
+        let found = answered(&rt, &files, &["//a:x"], 1, 1_000_000, &NoGate)?;
         assert_eq!(rt; found.as_str(), "later", "{module_path} {build}");
     }
     let more = [("a/i.bzl", RULES), ("a/BUILD", BUILD), ("a/s.txt", "")];
-    let found = answered(&rt, alloc, &more, &["//a:x"], 1, 1_000_000)?;
+    let found = answered(&rt, &more, &["//a:x"], 1, 1_000_000, &NoGate)?;
     assert_eq!(rt; found.as_str(), "later");
-    let found = answered(&rt, alloc, &more[..1], &["//a:x"], 1, 1_000_000)?;
+    let found = answered(&rt, &more[..1], &["//a:x"], 1, 1_000_000, &NoGate)?;
     assert_eq!(rt; found.as_str(), "later");
     Ok(())
 }

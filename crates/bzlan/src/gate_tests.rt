@@ -1,11 +1,12 @@
 //! Targets of the second form by workers that a gate holds up or counts.
-use crate::{Gate, Label, NodeId, Workspace, analyse};
+use crate::asking::answered;
+use crate::{Gate, NodeId};
 use std::alloc::{AllocError, Global};
 use std::sync::Wait;
 use std::sync::atomic::{AtomicU64, Ordering};
 use std::test::Fail;
+use std::thread;
 use std::thread::Threads;
-use std::{str, thread};
 
 /// A rule whose targets provide the list of what their dependencies provide.
 const RULES: &str =
@@ -31,6 +32,15 @@ const EIGHT: &str =
 
 const REPORT_ON_EIGHT: &str =
     "target //a:a ok\n  provider DefaultInfo files=depset(default, [])\n  provider a/i.bzl%I n=[]\ntarget //a:b ok\n  provider DefaultInfo files=depset(default, [])\n  provider a/i.bzl%I n=[]\ntarget //a:c ok\n  provider DefaultInfo files=depset(default, [])\n  provider a/i.bzl%I n=[]\ntarget //a:d ok\n  provider DefaultInfo files=depset(default, [])\n  provider a/i.bzl%I n=[]\ntarget //a:e ok\n  provider DefaultInfo files=depset(default, [])\n  provider a/i.bzl%I n=[]\ntarget //a:f ok\n  provider DefaultInfo files=depset(default, [])\n  provider a/i.bzl%I n=[]\ntarget //a:g ok\n  provider DefaultInfo files=depset(default, [])\n  provider a/i.bzl%I n=[]\ntarget //a:h ok\n  provider DefaultInfo files=depset(default, [])\n  provider a/i.bzl%I n=[]\n";
+
+/// A workspace of the first form: its rule, its target, and the report.
+const RULE_OF_ONE: &str =
+    "I = provider(fields = [\"n\"])\ndef _r(ctx):\n    return [I(n = 1)]\nr = rule(implementation = _r)\n";
+
+const ONE: &str = "load(\":i.bzl\", \"r\")\nr(name = \"x\")\n";
+
+const REPORT_ON_ONE: &str =
+    "target //a:x ok\n  provider DefaultInfo files=depset(default, [])\n  provider a/i.bzl%I n=1\n";
 
 /// How often a gate looks before it gives up.
 const TURNS: u64 = 1_000_000_000;
@@ -135,42 +145,19 @@ impl Gate for Counting {
     }
 }
 
-/// The report on these labels by so many workers past a gate, or an empty text.
+/// The report on these labels of a `BUILD` file by so many workers past a gate, or the name of the stop.
 fn reported<R: Threads + Wait + Sync, G: Gate>(
     rt: &R,
-    alloc: Global,
     build: &str,
     labels: &[&str],
     workers: u64,
     gate: &G,
-) -> Result<String, Fail> {
+) -> Result<String, Fail>
+where
+    R: AllocGlobal,
+{
     let files = [("a/i.bzl", RULES), ("a/BUILD", build)];
-    let Ok(workspace) = Workspace::new(alloc, &files) else {
-        return Err(Fail::from("a workspace is made"));
-    };
-    let mut asked = Vec::new(alloc);
-    for text in labels {
-        let Ok(label) = Label::read(alloc, text, None) else {
-            return Err(Fail::from("a label is read"));
-        };
-        asked.push(label)?;
-    }
-    let found = analyse(
-        rt,
-        alloc,
-        &workspace,
-        asked.as_slice(),
-        workers,
-        1_000_000,
-        gate,
-    );
-    let Ok(bytes) = found else {
-        return Ok(String::new(alloc));
-    };
-    match str::from_utf8(bytes.as_slice()) {
-        Ok(text) => Ok(String::from_str(alloc, text)?),
-        Err(_) => Err(Fail::from("a report is a text")),
-    }
+    answered(rt, &files, labels, workers, 1_000_000, gate)
 }
 
 /// Whether workers meet at nodes, and the report is this one.
@@ -185,7 +172,7 @@ fn meets<R: Threads + Wait + Sync>(
 where
     R: AllocGlobal,
 {
-    let found = reported(rt, rt.alloc(), build, labels, workers, gate)?;
+    let found = reported(rt, build, labels, workers, gate)?;
     Ok(gate.met() && found.as_str() == want)
 }
 
@@ -221,9 +208,19 @@ fn each_target_passes_the_gate_once(rt: HostRuntime) -> Result<(), Fail> {
     let alloc = rt.alloc();
     for workers in [1u64, 2, 64] {
         let gate = Counting::of(alloc, 4)?;
-        let found = reported(&rt, alloc, DIAMOND, &["//a:d"], workers, &gate)?;
+        let found = reported(&rt, DIAMOND, &["//a:d"], workers, &gate)?;
         assert_eq!(rt; found.as_str(), REPORT, "{workers}");
         assert!(rt; gate.once(), "{workers}");
     }
+    Ok(())
+}
+
+#[test]
+fn the_target_of_the_first_form_passes_the_gate_once(rt: HostRuntime) -> Result<(), Fail> {
+    let gate = Counting::of(rt.alloc(), 1)?;
+    let files = [("a/i.bzl", RULE_OF_ONE), ("a/BUILD", ONE)];
+    let found = answered(&rt, &files, &["//a:x"], 2, 1_000_000, &gate)?;
+    assert_eq!(rt; found.as_str(), REPORT_ON_ONE);
+    assert!(rt; gate.once());
     Ok(())
 }

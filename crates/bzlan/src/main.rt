@@ -78,6 +78,8 @@ fn main(rt: HostRuntime) -> ExitCode {
 }
 
 #[cfg(test)]
+mod asking;
+#[cfg(test)]
 mod device_tests;
 #[cfg(test)]
 mod engine_tests;

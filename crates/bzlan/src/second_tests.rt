@@ -1,5 +1,6 @@
 //! Workspaces of the second form with their reports, and others that are answered `Later`.
-use crate::engine_tests::answered;
+use crate::NoGate;
+use crate::asking::answered;
 use std::test::Fail;
 
 /// The module of the documents' diamond.
@@ -24,7 +25,6 @@ const CHAIN_REPORT: &str =
 
 #[test]
 fn a_diamond_for_any_workers(rt: HostRuntime) -> Result<(), Fail> {
-    let alloc = rt.alloc();
     let files = [("a/i.bzl", RULES), ("a/BUILD", DIAMOND)];
     for (workers, limit, want) in [
         (1u64, 1_000_000u64, REPORT),
@@ -35,7 +35,7 @@ fn a_diamond_for_any_workers(rt: HostRuntime) -> Result<(), Fail> {
         (0, 1_000_000, "workers"),
         (65, 1_000_000, "workers"),
     ] {
-        let found = answered(&rt, alloc, &files, &["//a:d"], workers, limit)?;
+        let found = answered(&rt, &files, &["//a:d"], workers, limit, &NoGate)?;
         assert_eq!(rt; found.as_str(), want, "{workers} {limit}");
     }
     Ok(())
@@ -43,16 +43,14 @@ fn a_diamond_for_any_workers(rt: HostRuntime) -> Result<(), Fail> {
 
 #[test]
 fn a_chain_of_sixteen(rt: HostRuntime) -> Result<(), Fail> {
-    let alloc = rt.alloc();
     let files = [("a/BUILD", CHAIN), ("a/i.bzl", RULES)];
-    let found = answered(&rt, alloc, &files, &["//a:t15"], 3, 1_000_000)?;
+    let found = answered(&rt, &files, &["//a:t15"], 3, 1_000_000, &NoGate)?;
     assert_eq!(rt; found.as_str(), CHAIN_REPORT);
     Ok(())
 }
 
 #[test]
 fn nodes_are_what_is_reached(rt: HostRuntime) -> Result<(), Fail> {
-    let alloc = rt.alloc();
     let nothing: [&str; 0] = [];
     for (build, labels, want) in [
         (
@@ -104,7 +102,7 @@ fn nodes_are_what_is_reached(rt: HostRuntime) -> Result<(), Fail> {
         ),
     ] {
         let files = [("a/i.bzl", RULES), ("a/BUILD", build)];
-        let found = answered(&rt, alloc, &files, labels, 2, 1_000_000)?;
+        let found = answered(&rt, &files, labels, 2, 1_000_000, &NoGate)?;
         assert_eq!(rt; found.as_str(), want, "{build}");
     }
     Ok(())
@@ -112,7 +110,6 @@ fn nodes_are_what_is_reached(rt: HostRuntime) -> Result<(), Fail> {
 
 #[test]
 fn other_names_and_other_targets(rt: HostRuntime) -> Result<(), Fail> {
-    let alloc = rt.alloc();
     let module =
         "Info = provider(fields = ['deep'])\ndef impl(c):\n return [Info(deep = [x[Info].deep for x in c.attr.deps])]\ngo = rule(implementation = impl, attrs = {'deps': attr.label_list()})";
     let files = [
@@ -122,7 +119,7 @@ fn other_names_and_other_targets(rt: HostRuntime) -> Result<(), Fail> {
         ),
         ("w.bzl", module),
     ];
-    let found = answered(&rt, alloc, &files, &["//:x"], 2, 1_000_000)?;
+    let found = answered(&rt, &files, &["//:x"], 2, 1_000_000, &NoGate)?;
     assert_eq!(rt;
         found.as_str(),
         "target //:x ok\n  provider DefaultInfo files=depset(default, [])\n  provider w.bzl%Info deep=[[]]\ntarget //:y ok\n  provider DefaultInfo files=depset(default, [])\n  provider w.bzl%Info deep=[]\n"
@@ -148,7 +145,7 @@ fn other_names_and_other_targets(rt: HostRuntime) -> Result<(), Fail> {
         "load(\":i.bzl\", \"s\")\ns(name = \"x\")\ns(name = \"y\")\n",
     ] {
         let files = [("a/i.bzl", RULES), ("a/BUILD", build)];
-        let found = answered(&rt, alloc, &files, &["//a:x"], 2, 1_000_000)?;
+        let found = answered(&rt, &files, &["//a:x"], 2, 1_000_000, &NoGate)?;
         assert_eq!(rt; found.as_str(), "later", "{build}");
     }
     Ok(())

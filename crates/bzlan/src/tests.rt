@@ -5,7 +5,32 @@ use crate::labels::{Label, LabelRefused};
 use crate::memory::long_text;
 use crate::words::{WordsStop, read_words};
 use crate::workspace::{Workspace, WorkspaceRefused};
+use std::alloc::Global;
 use std::test::Fail;
+
+/// Whether a share of the label is equal to it.
+fn is_shared(label: &Label) -> bool {
+    match label.share() {
+        Ok(same) => same == *label,
+        Err(_) => false,
+    }
+}
+
+/// Whether the text is read as a label of this package and name, or is refused where none is wanted.
+fn is_read_as(
+    alloc: Global,
+    text: &str,
+    package: Option<&str>,
+    want: Option<(&str, &str)>,
+) -> bool {
+    match (Label::read(alloc, text, package), want) {
+        (Ok(label), Some((package, name))) => {
+            label.package() == package && label.name() == name && is_shared(&label)
+        }
+        (Err(LabelRefused::Illegal), None) => true,
+        _ => false,
+    }
+}
 
 #[test]
 fn labels_are_read(rt: HostRuntime) -> Result<(), Fail> {
@@ -42,21 +67,17 @@ fn labels_are_read(rt: HostRuntime) -> Result<(), Fail> {
         (short.as_str(), Some("bc"), None),
         (root.as_str(), Some(""), Some(("", root.as_str()))),
     ] {
-        let read = Label::read(alloc, text, package);
-        match (&read, parts) {
-            (Ok(label), Some((package, name))) => {
-                assert!(rt;
-                    label.package() == package && label.name() == name,
-                    "{text}"
-                );
-                let same = label.share()?;
-                assert!(rt; same == *label, "{text}");
-            }
-            (Err(LabelRefused::Illegal), None) => {}
-            _ => panic!(rt; "{text}"),
-        }
+        assert!(rt; is_read_as(alloc, text, package, parts), "{text}");
     }
     Ok(())
+}
+
+/// Whether these files are a workspace, or are refused where none is wanted.
+fn is_made(alloc: Global, files: &[(&str, &str)], is_workspace: bool) -> bool {
+    match Workspace::new(alloc, files) {
+        Ok(workspace) => is_workspace && workspace.files().len() == files.len(),
+        Err(refused) => !is_workspace && refused == WorkspaceRefused::Illegal,
+    }
 }
 
 #[test]
@@ -91,20 +112,19 @@ fn workspaces_are_made(rt: HostRuntime) -> Result<(), Fail> {
             false,
         ),
     ] {
-        let made = Workspace::new(alloc, &files);
-        match &made {
-            Ok(workspace) => {
-                assert!(rt; is_workspace && workspace.files().len() == 2, "{case}");
-            }
-            Err(refused) => {
-                assert!(rt;
-                    !is_workspace && *refused == WorkspaceRefused::Illegal,
-                    "{case}"
-                );
-            }
-        }
+        assert!(rt; is_made(alloc, &files, is_workspace), "{case}");
     }
     Ok(())
+}
+
+/// The number of workers, the limit of steps and how many labels the words ask for; nothing where they are refused,
+/// and zeros where memory is.
+fn asked_by(alloc: Global, words: &[&str]) -> Option<(u64, u64, usize)> {
+    match read_words(alloc, words) {
+        Ok(request) => Some((request.workers, request.steps, request.labels.len())),
+        Err(WordsStop::Words) => None,
+        Err(WordsStop::NoMemory) => Some((0, 0, 0)),
+    }
 }
 
 #[test]
@@ -137,15 +157,17 @@ fn command_lines_are_read(rt: HostRuntime) {
         (["--workers", "1", "//a:x", ""], None),
     ] {
         let [a, b, c, d] = words;
-        match (read_words(alloc, &["bzlan", a, b, c, d]), asked) {
-            (Ok(request), Some((workers, steps, labels))) => {
-                assert_eq!(rt; request.workers, workers, "{a} {b} {c} {d}");
-                assert_eq!(rt; request.steps, steps, "{a} {b} {c} {d}");
-                assert_eq!(rt; request.labels.len(), labels, "{a} {b} {c} {d}");
-            }
-            (Err(WordsStop::Words), None) => {}
-            _ => panic!(rt; "{a} {b} {c} {d}"),
-        }
+        let found = asked_by(alloc, &["bzlan", a, b, c, d]);
+        assert!(rt; found == asked, "{a} {b} {c} {d}");
+    }
+}
+
+/// Whether the input is a workspace of so many files, or is refused where none is wanted.
+fn is_input(alloc: Global, input: &[u8], files: Option<usize>) -> bool {
+    match (read_workspace(alloc, input), files) {
+        (Ok(workspace), Some(files)) => workspace.files().len() == files,
+        (Err(InputRefused::Illegal), None) => true,
+        _ => false,
     }
 }
 
@@ -183,13 +205,11 @@ fn inputs_are_read(rt: HostRuntime) -> Result<(), Fail> {
         (b"[[\"a\", \"x\"], [\"a\", \"x\"]]".as_slice(), None),
         (b"[[\"a b\", \"x\"]]".as_slice(), None),
     ] {
-        match (read_workspace(alloc, input), files) {
-            (Ok(workspace), Some(files)) => {
-                assert_eq!(rt; workspace.files().len(), files);
-            }
-            (Err(InputRefused::Illegal), None) => {}
-            _ => panic!(rt; "an input of {} bytes", input.len()),
-        }
+        assert!(rt;
+            is_input(alloc, input, files),
+            "an input of {} bytes",
+            input.len()
+        );
     }
     Ok(())
 }
