@@ -63,7 +63,7 @@ fn no_files(rt: HostRuntime) -> Result<(), Fail> {
 }
 
 #[test]
-fn workspaces_of_the_first_form(rt: HostRuntime) -> Result<(), Fail> {
+fn names_and_packages_of_the_first_form(rt: HostRuntime) -> Result<(), Fail> {
     for (module_path, module, build_path, build, label, want) in [
         // other names and no spaces
         (
@@ -83,32 +83,6 @@ fn workspaces_of_the_first_form(rt: HostRuntime) -> Result<(), Fail> {
             "//:x",
             "target //:x ok\n  provider DefaultInfo files=depset(default, [])\n  provider i.bzl%I n=1\n",
         ),
-        // comments, empty lines, other columns
-        (
-            "a/i.bzl",
-            "# a\n\nI = provider(fields = ['n']) # b\n\n\ndef _r(ctx):\n# c\n  # d\n\n         return [I(n = 1)]  # e\n\nr = rule(implementation = _r)\n\n",
-            "a/BUILD",
-            "\n# a\nload(\n \":i.bzl\",\n\"r\"\n  ) # b\n\nr(\n      name = 'x'\n)\n\n# c",
-            "//a:x",
-            REPORT,
-        ),
-        // the least and the greatest number
-        (
-            "a/i.bzl",
-            "I = provider(fields = [\"n\"])\ndef _r(ctx):\n    return [I(n = 0)]\nr = rule(implementation = _r)\n",
-            "a/BUILD",
-            BUILD,
-            "//a:x",
-            "target //a:x ok\n  provider DefaultInfo files=depset(default, [])\n  provider a/i.bzl%I n=0\n",
-        ),
-        (
-            "a/i.bzl",
-            "I = provider(fields = [\"n\"])\ndef _r(ctx):\n    return [I(n = 9223372036854775807)]\nr = rule(implementation = _r)\n",
-            "a/BUILD",
-            BUILD,
-            "//a:x",
-            "target //a:x ok\n  provider DefaultInfo files=depset(default, [])\n  provider a/i.bzl%I n=9223372036854775807\n",
-        ),
         // a name of two segments, and one that is a number's
         (
             "a/i.bzl",
@@ -127,6 +101,17 @@ fn workspaces_of_the_first_form(rt: HostRuntime) -> Result<(), Fail> {
             "//a",
             "target //a:a ok\n  provider DefaultInfo files=depset(default, [])\n  provider a/i.bzl%I n=1\n",
         ),
+    ] {
+        let files = [(module_path, module), (build_path, build)];
+        let found = answered(&rt, &files, &[label], 3, 1_000_000, &NoGate)?;
+        assert_eq!(rt; found.as_str(), want, "{module_path} {build}");
+    }
+    Ok(())
+}
+
+#[test]
+fn names_that_look_like_others(rt: HostRuntime) -> Result<(), Fail> {
+    for (module_path, module, build_path, build, label, want) in [
         (
             "a/i.bzl",
             RULES,
@@ -153,21 +138,64 @@ fn workspaces_of_the_first_form(rt: HostRuntime) -> Result<(), Fail> {
             "target //BUILD:x ok\n  provider DefaultInfo files=depset(default, [])\n  provider BUILD/BUILD.bzl%I n=1\n",
         ),
     ] {
-        let found = answered(
-            &rt,
-            &[(module_path, module), (build_path, build)],
-            &[label],
-            3,
-            1_000_000,
-            &NoGate,
-        )?;
+        let files = [(module_path, module), (build_path, build)];
+        let found = answered(&rt, &files, &[label], 3, 1_000_000, &NoGate)?;
         assert_eq!(rt; found.as_str(), want, "{module_path} {build}");
     }
     Ok(())
 }
 
 #[test]
-fn workspaces_of_other_forms(rt: HostRuntime) -> Result<(), Fail> {
+fn spellings_of_the_first_form(rt: HostRuntime) -> Result<(), Fail> {
+    for (module, build, want) in [
+        // comments, empty lines, other columns
+        (
+            "# a\n\nI = provider(fields = ['n']) # b\n\n\ndef _r(ctx):\n# c\n  # d\n\n         return [I(n = 1)]  # e\n\nr = rule(implementation = _r)\n\n",
+            "\n# a\nload(\n \":i.bzl\",\n\"r\"\n  ) # b\n\nr(\n      name = 'x'\n)\n\n# c",
+            REPORT,
+        ),
+        // the least and the greatest number
+        (
+            "I = provider(fields = [\"n\"])\ndef _r(ctx):\n    return [I(n = 0)]\nr = rule(implementation = _r)\n",
+            BUILD,
+            "target //a:x ok\n  provider DefaultInfo files=depset(default, [])\n  provider a/i.bzl%I n=0\n",
+        ),
+        (
+            "I = provider(fields = [\"n\"])\ndef _r(ctx):\n    return [I(n = 9223372036854775807)]\nr = rule(implementation = _r)\n",
+            BUILD,
+            "target //a:x ok\n  provider DefaultInfo files=depset(default, [])\n  provider a/i.bzl%I n=9223372036854775807\n",
+        ),
+    ] {
+        let files = [("a/i.bzl", module), ("a/BUILD", build)];
+        let found = answered(&rt, &files, &["//a:x"], 3, 1_000_000, &NoGate)?;
+        assert_eq!(rt; found.as_str(), want, "{module} {build}");
+    }
+    Ok(())
+}
+
+#[test]
+fn build_files_of_other_forms(rt: HostRuntime) -> Result<(), Fail> {
+    for build in [
+        // another file, the module in other words, another rule
+        "load(\":j.bzl\", \"r\")\nr(name = \"x\")\n",
+        "load(\"//a:i.bzl\", \"r\")\nr(name = \"x\")\n",
+        "load(\"//:a/i.bzl\", \"r\")\nr(name = \"x\")\n",
+        "load(\"i.bzl\", \"r\")\nr(name = \"x\")\n",
+        "load(\"//a/i.bzl\", \"r\")\nr(name = \"x\")\n",
+        "load(\":i.bzl\", \"s\")\ns(name = \"x\")\n",
+        // an illegal name
+        "load(\":i.bzl\", \"r\")\nr(name = \":x\")\n",
+        "load(\":i.bzl\", \"r\")\nr(name = \"\")\n",
+    ] {
+        let files = [("a/i.bzl", RULES), ("a/BUILD", build)];
+        let found = answered(&rt, &files, &["//a:x"], 1, 1_000_000, &NoGate)?;
+        assert_eq!(rt; found.as_str(), "later", "{build}");
+    }
+    Ok(())
+}
+
+#[test]
+fn files_of_other_forms(rt: HostRuntime) -> Result<(), Fail> {
     for (module_path, module, build_path, build) in [
         // a rule with attributes
         (
@@ -175,56 +203,6 @@ fn workspaces_of_other_forms(rt: HostRuntime) -> Result<(), Fail> {
             "def _w(ctx):\n    o = ctx.actions.declare_file(ctx.label.name + \".txt\")\n    ctx.actions.write(o, ctx.attr.text)\n    return [DefaultInfo(files = depset([o]))]\nw = rule(implementation = _w, attrs = {\"text\": attr.string(), \"deps\": attr.label_list()})\n",
             "a/BUILD",
             "load(\":w.bzl\", \"w\")\nw(name = \"x\", text = \"hi\")\n",
-        ),
-        // another file, the module in other words, another rule
-        (
-            "a/i.bzl",
-            RULES,
-            "a/BUILD",
-            "load(\":j.bzl\", \"r\")\nr(name = \"x\")\n",
-        ),
-        (
-            "a/i.bzl",
-            RULES,
-            "a/BUILD",
-            "load(\"//a:i.bzl\", \"r\")\nr(name = \"x\")\n",
-        ),
-        (
-            "a/i.bzl",
-            RULES,
-            "a/BUILD",
-            "load(\"//:a/i.bzl\", \"r\")\nr(name = \"x\")\n",
-        ),
-        (
-            "a/i.bzl",
-            RULES,
-            "a/BUILD",
-            "load(\"i.bzl\", \"r\")\nr(name = \"x\")\n",
-        ),
-        (
-            "a/i.bzl",
-            RULES,
-            "a/BUILD",
-            "load(\"//a/i.bzl\", \"r\")\nr(name = \"x\")\n",
-        ),
-        (
-            "a/i.bzl",
-            RULES,
-            "a/BUILD",
-            "load(\":i.bzl\", \"s\")\ns(name = \"x\")\n",
-        ),
-        // an illegal name
-        (
-            "a/i.bzl",
-            RULES,
-            "a/BUILD",
-            "load(\":i.bzl\", \"r\")\nr(name = \":x\")\n",
-        ),
-        (
-            "a/i.bzl",
-            RULES,
-            "a/BUILD",
-            "load(\":i.bzl\", \"r\")\nr(name = \"\")\n",
         ),
         // other packages, no module, no `BUILD` file
         (
@@ -249,6 +227,11 @@ fn workspaces_of_other_forms(rt: HostRuntime) -> Result<(), Fail> {
         let found = answered(&rt, &files, &["//a:x"], 1, 1_000_000, &NoGate)?;
         assert_eq!(rt; found.as_str(), "later", "{module_path} {build}");
     }
+    Ok(())
+}
+
+#[test]
+fn one_file_and_three(rt: HostRuntime) -> Result<(), Fail> {
     let more = [("a/i.bzl", RULES), ("a/BUILD", BUILD), ("a/s.txt", "")];
     let found = answered(&rt, &more, &["//a:x"], 1, 1_000_000, &NoGate)?;
     assert_eq!(rt; found.as_str(), "later");
