@@ -1,17 +1,16 @@
 -- Things with commas between them that are read one after the other, with a limit on the depth: parameters, and what a
 -- `load` binds.
-use Rattle.std.proofs.Common.{◌≡◌, ℕ, zero, suc, ◌<◌, ◌≤◌, max, Bool, true, false, List, [], ◌∷◌, ◌++◌, Option, Some, None, refl, sym, ap, ◌∙◌, subst, arith}
+use Rattle.std.proofs.Common.{◌≡◌, ℕ, zero, suc, ◌<◌, ◌≤◌, max, List, [], ◌∷◌, ◌++◌, Option, Some, None, refl, sym, ap, ◌∙◌, subst, arith}
 use Rattle.std.proofs.Math.Nat.{zero-max}
 use Rattle.grammar.specs.declared.expressions.Row.TheVariants.{Whole}
 use Rattle.lexer.specs.declared.layout.Bracket.TheVariants.{Round}
 use Rattle.lexer.specs.declared.token.Mark.TheVariants.{Assign}
 use Rattle.lexer.specs.declared.token.Word.TheVariants.{In, Not}
 use Rattle.lexer.specs.Tokens.{Token, string, word, mark}
-use Rattle.grammar.specs.Tree.{Expr}
 use Rattle.grammar.specs.Depth.{depth, params_depth}
 use Rattle.grammar.specs.Statements as W
 use Rattle.grammar.specs.Statements.{Commas, none_more, last_one, and_more, same_name, renamed}
-use Rattle.grammar.specs.BareLines.{Param, required, optional, Item, without_commas, bare_param, bare_item}
+use Rattle.grammar.specs.BareLines.{optional, Item, without_commas, bare_param, bare_item}
 use Rattle.grammar.specs.Front.{next, name_at, behind_close, behind_comma}
 use Rattle.grammar.specs.Ahead as ahead
 use Rattle.grammar.specs.Ahead.{named_at}

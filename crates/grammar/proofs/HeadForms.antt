@@ -1,5 +1,5 @@
 -- The form of a line, with a limit on the depth.
-use Rattle.std.proofs.Common.{◌≡◌, ℕ, zero, suc, ◌<◌, ◌≤◌, max, Bool, true, false, List, [], ◌∷◌, Option, Some, None, length, refl, sym, ap, ◌∙◌, subst, arith}
+use Rattle.std.proofs.Common.{◌≡◌, ℕ, suc, ◌<◌, ◌≤◌, max, List, [], ◌∷◌, Option, Some, None, length, refl, sym, ap, subst, arith}
 use Rattle.std.proofs.Math.Nat.{zero-max}
 use Rattle.grammar.specs.declared.expressions.Row.TheVariants.{Whole}
 use Rattle.lexer.specs.declared.token.Word.TheVariants.{And, Break, Continue, Def, Elif, Else, For, If, In, Load, Not, Or, Pass, Reserved, Return}
@@ -13,7 +13,6 @@ use Rattle.grammar.specs.Statements.{Simple, Body, Commas, none_more, last_one, 
 use Rattle.grammar.specs.BareLines.{Form, if_head, elif_head, else_head, for_head, defines, without_commas, bare_param, bare_item, bare_simple}
 use Rattle.grammar.specs.Built.{Belongs, body_made}
 use Rattle.grammar.specs.Front.{next, name_at, names_in, behind_comma}
-use Rattle.grammar.specs.Ahead as ahead
 use Rattle.grammar.specs.Ahead.{is_done}
 use Rattle.grammar.specs.Reading as R
 use Rattle.grammar.specs.FormReading as F

@@ -1,6 +1,6 @@
 -- The outlines of lines, by what is read of them with the limit on the depth, tell which line is refused; and the lines
 -- of a file that has a tree are read with the limit as they are without.
-use Rattle.std.proofs.Common.{◌≡◌, ℕ, ◌≤◌, ◌<◌, Bool, true, false, List, [], ◌∷◌, map, refl, sym, ap, ◌∙◌, subst, inl, inr, ◌⊎◌, ◌&&◌, ◌==◌, nat_le, nat_lt, Option, Some, None, Result, Ok, Err, if◌then◌else◌, arith}
+use Rattle.std.proofs.Common.{◌≡◌, ℕ, ◌≤◌, ◌<◌, Bool, true, false, List, [], ◌∷◌, map, refl, sym, ap, ◌∙◌, subst, inl, inr, ◌⊎◌, ◌&&◌, ◌==◌, nat_le, Option, Some, None, Result, Ok, Err, if◌then◌else◌}
 use Rattle.std.specs.Prelude.{filter_map, option_map}
 use Rattle.std.specs.List.{cons_option}
 use Rattle.std.proofs.lemmas.Bool.Decides.{leb_tells}
@@ -20,11 +20,11 @@ use Rattle.grammar.specs.Statements.{Simple, assigns, assigns_at, increases, inc
 use Rattle.grammar.specs.BareLines.{bare_simple, bare_form}
 use Rattle.grammar.specs.FormReading.{form_reads}
 use Rattle.grammar.specs.Depth.{form_depth}
-use Rattle.grammar.specs.Blocks.{Block, no_lines, plain_line, head_line, Laid, laid, block_laid, IsBlock, SpellsFile}
+use Rattle.grammar.specs.Blocks.{Block, no_lines, plain_line, head_line, Laid, laid, block_laid, IsBlock}
 use Rattle.grammar.specs.Places as place
 use Rattle.grammar.specs.BlockReading.{file_reads}
-use Rattle.grammar.specs.Outlines.{shape_stands, body_stands, formed_stands, within, follows, early_enough, opens, fits, behind, inside, top_level, opened, formed, in_block, stepped, down_to, pass, first_of, block_column, simple_shape, body_of, formed_of, form_outline, outline_of, place_of}
-use Rattle.grammar.specs.Built.{made_line, made_lines, body_made, form_body, made, Made, built}
+use Rattle.grammar.specs.Outlines.{shape_stands, body_stands, within, follows, early_enough, opens, behind, inside, top_level, opened, formed, in_block, stepped, down_to, pass, first_of, block_column, simple_shape, body_of, formed_of, form_outline, outline_of, place_of}
+use Rattle.grammar.specs.Built.{made_line, made_lines, body_made, form_body, made, built}
 use Rattle.grammar.specs.FormDescent.{Shaped, reads_form}
 use Rattle.grammar.specs.LineForm.{shaped}
 use Rattle.grammar.specs.FormView.{is_text, value_shape, shape_of, body_shape, formed_as, outline_read, line_read}

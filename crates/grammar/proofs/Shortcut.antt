@@ -5,7 +5,7 @@ use Rattle.grammar.specs.declared.expressions.Row.{Row}
 use Rattle.grammar.specs.declared.expressions.Row.TheVariants.{Opposed, Negated}
 use Rattle.grammar.specs.Tree.{Operator, negation, opposite}
 use Rattle.grammar.specs.Reading.{Parse, then_read}
-use Rattle.grammar.specs.Ahead.{Unsigned, Ends, or_at, and_at, comparison_at, sum_at, product_at, behind_not, behind_minus, behind_if}
+use Rattle.grammar.specs.Ahead.{Unsigned, Ends, or_at, and_at, comparison_at, sum_at, product_at, behind_if}
 use Rattle.grammar.specs.Descent.{Part, chain, join_step, sign_step, if_step, e1, e2, e3, e4, e5, e6, e7, e8, e9, e1_on, e2_on, e3_on, e5_on, e6_on}
 
 chain_ends : (at : List Token → Option (Operator × List Token)) (up : ℕ → Parse Part) (r k : ℕ) (a : Part) (u : List Token) → at u ≡ None → chain at up r k a u ≡ Some (a, u)

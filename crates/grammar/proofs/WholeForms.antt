@@ -1,5 +1,5 @@
 -- What is read of all tokens of a line, with a limit on the depth, is the form of the line.
-use Rattle.std.proofs.Common.{◌≡◌, ℕ, ◌<◌, ◌≤◌, List, Option, Some, None, refl, sym, ap, ◌∙◌, subst, arith, inl, inr, ◌⊎◌}
+use Rattle.std.proofs.Common.{◌≡◌, ◌<◌, ◌≤◌, List, Option, Some, None, refl, sym, ap, ◌∙◌, subst, arith, inl, inr, ◌⊎◌}
 use Rattle.lexer.specs.Tokens.{Token}
 use Rattle.grammar.specs.Depth.{form_depth}
 use Rattle.grammar.specs.Statements as W

@@ -1,11 +1,7 @@
 -- What the program's readings of lines stand for.
-use Rattle.std.specs.Prelude.{ℕ, Bool, true, false, List, [], ◌∷◌, map, filter_map, Option, Some, None, option_map}
+use Rattle.std.specs.Prelude.{Bool, true, false, List, [], ◌∷◌, Option, option_map}
 use Rattle.grammar.specs.declared.statements.Form.{Form}
-use Rattle.grammar.specs.declared.statements.Param.{Param}
-use Rattle.grammar.specs.declared.statements.Item.{Item}
 use Rattle.grammar.specs.declared.blocks.Body.{Body}
-use Rattle.std.specs.declared.vec.Vec.{Vec}
-use Rattle.std.specs.declared.alloc.Global.{Global}
 use Rattle.grammar.specs.declared.outline.Outline.{Outline}
 use Rattle.grammar.specs.declared.outline.Shape.{Shape}
 use Rattle.grammar.specs.declared.outline.Shape.TheVariants.{Load, Text, Plain, Return, Jump, Def, If, Elif, Else, For}
@@ -18,7 +14,7 @@ use Rattle.grammar.specs.BareLines.{loads, defines, if_head, elif_head, else_hea
 use Rattle.grammar.specs.Built.{Belongs, nothing, block, statement, Made}
 use Rattle.grammar.specs.Blocks.{Laid}
 use Rattle.grammar.specs.FormDescent.{Shaped, reads_form}
-use Rattle.grammar.specs.LineView.{form_of, param_of, item_of}
+use Rattle.grammar.specs.LineView.{form_of}
 use Rattle.grammar.specs.BuiltView.{body_of}
 
 abbrev pub shaped_of : Form × Body → Shaped

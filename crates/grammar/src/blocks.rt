@@ -54,7 +54,7 @@ fn take_block(alloc: Global, blocks: &mut Vec<Pending>) -> Vec<Line>
 fn begun(alloc: Global, column: usize, line: Line) -> Result<Pending, AllocError>
     ensures { IfOk result (λ p. (p.column ≡ column) × (p.lines.items ≡ line ∷ [])) }
 {
-    let mut lines = Vec::new(alloc);
+    let mut lines = Vec::with_capacity(alloc, 1)?;
     lines.push(line)?;
     Ok(Pending { column, lines })
 }
@@ -97,7 +97,7 @@ fn block_of(
         Body::Nothing => Ok(Vec::new(alloc)),
         Body::Block => Ok(take_block(alloc, blocks)),
         Body::Statement(form) => {
-            let mut lines = Vec::new(alloc);
+            let mut lines = Vec::with_capacity(alloc, 1)?;
             lines.push(Line {
                 number,
                 form,

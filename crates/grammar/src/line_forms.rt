@@ -45,7 +45,7 @@ fn assigned(target: Part, names: Vec<Text>, value: Expr) -> Result<Form, Stop>
         Expr::Name(name) => Ok(Form::Assign(name, names, value)),
         Expr::Index(base, at) => {
             if names.is_empty() {
-                Ok(Form::AssignAt(Box::into_inner(base), Box::into_inner(at), value))
+                Ok(Form::AssignAt(base, at, value))
             } else {
                 Err(Stop::NoForm)
             }
@@ -63,7 +63,7 @@ fn increased(target: Part, value: Expr) -> Result<Form, Stop>
     }
     match target.expr {
         Expr::Name(name) => Ok(Form::Add(name, value)),
-        Expr::Index(base, at) => Ok(Form::AddAt(Box::into_inner(base), Box::into_inner(at), value)),
+        Expr::Index(base, at) => Ok(Form::AddAt(base, at, value)),
         _ => Err(Stop::NoForm),
     }
 }

@@ -1,6 +1,6 @@
 //! Parts of an expression, each with its depth, and what is made of them.
 
-ghost use Rattle.std.specs.Prelude.{◌≡◌, IfOk, true, false};
+ghost use Rattle.std.specs.Prelude.{◌≡◌, ◌∷◌, ◌++◌, [], IfOk, OnOk, true, false};
 ghost use Rattle.grammar.specs.Ahead.{Makes};
 ghost use Rattle.grammar.specs.Bare as bare;
 ghost use Rattle.grammar.specs.Descent as spec;
@@ -213,12 +213,23 @@ pub(crate) fn no_items(alloc: Global) -> Several
     }
 }
 
+/// Adds an item. Most lists have one, and take no more memory than for it.
+fn add_item(items: &mut Vec<Expr>, item: Expr) -> Result<(), AllocError>
+    ensures { OnOk result (items.new.items ≡ items.old.items ++ item ∷ []) }
+{
+    if items.is_empty() {
+        items.reserve_exact(1)?;
+    }
+    items.push(item)?;
+    Ok(())
+}
+
 pub(crate) fn with_item(several: Several, part: Part) -> Result<Several, AllocError>
     ensures { IfOk result (λ s. several_seen s ≡ spec.with_item (several_seen several) (part_seen part)) }
 {
     let depth = several.depth.max(part.depth);
     let mut items = several.items;
-    items.push(part.expr)?;
+    add_item(&mut items, part.expr)?;
     Ok(Several { items, depth })
 }
 
@@ -261,7 +272,7 @@ pub(crate) fn with_positional(arguments: Arguments, part: Part) -> Result<Argume
     let depth = arguments.depth.max(part.depth);
     let in_order = arguments.in_order && arguments.named.is_empty();
     let mut items = arguments.items;
-    items.push(part.expr)?;
+    add_item(&mut items, part.expr)?;
     Ok(Arguments {
         items,
         named: arguments.named,

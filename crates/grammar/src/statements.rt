@@ -34,11 +34,11 @@ pub enum Form {
     /// `FIRST, OTHERS = VALUE`.
     Assign(Text, Vec<Text>, Expr),
     /// `BASE[INDEX] = VALUE`.
-    AssignAt(Expr, Expr, Expr),
+    AssignAt(Box<Expr>, Box<Expr>, Expr),
     /// `NAME += VALUE`.
     Add(Text, Expr),
     /// `BASE[INDEX] += VALUE`.
-    AddAt(Expr, Expr, Expr),
+    AddAt(Box<Expr>, Box<Expr>, Expr),
     Evaluate(Expr),
     Pass,
     Break,

@@ -2,8 +2,8 @@
 use Rattle.std.proofs.Common.{ℕ, suc, zero, ◌≡◌, ◌<◌, ◌≤◌, ◌+◌, List, [], ◌∷◌, ◌++◌, length, map, drop, refl, sym, ap, ◌∙◌, subst, Some, slice_get, arith, append-nil, append_assoc, add-one}
 use Rattle.std.proofs.lemmas.List.{length-map, map-append}
 use Rattle.std.proofs.lemmas.Option.{none-some, same_Some}
-use Rattle.lexer.specs.Form.{tokens_in, line_tokens, load_line, name_at, string_at}
-use Rattle.lexer.specs.SecondForm.{later_deps, deps_part, declaring_line, declared_lines, first_line, strings_in, IsTargets}
+use Rattle.lexer.specs.Form.{tokens_in, line_tokens, name_at, string_at}
+use Rattle.lexer.specs.SecondForm.{later_deps, deps_part, declaring_line, declared_lines, strings_in}
 use Rattle.lexer.specs.Targets.{Target, Declared}
 use Rattle.lexer.specs.Tokens.{Token, Placed, name, number, string, word, mark}
 

@@ -4,13 +4,19 @@ use Rattle.std.specs.Prelude.{option_map}
 use Rattle.grammar.specs.Bare.{Tree, Rest, done, for_each, only_if}
 use Rattle.syntax.specs.ProgramView.{onto}
 use Rattle.syntax.specs.Resolves.{first_tree}
-use Rattle.grammar.specs.BareLines.{Form, Lines, a_line}
+use Rattle.grammar.specs.BareLines.{Form, Lines, a_line, no_lines}
+use Rattle.grammar.specs.LineView.{lines_of}
 use Rattle.syntax.specs.Names.{Scope, scope_of}
 use Rattle.syntax.specs.Resolved.{Role, Statement, Steps, before, other_branch, other_steps, role_of, statement, steps_of}
 
 pub onto_last : {A B R : Type 0} (f : B → R → R) (g : A → B) (xs : List A) (x : A) (r : R) → onto f (map g (xs ++ x ∷ [])) r ≡ onto f (map g xs) (f (g x) r)
 onto_last f g [] x r = refl
 onto_last f g (y ∷ ys) x r = ap (f (g y)) (onto_last f g ys x r)
+
+-- lines one after the other, with none behind them
+pub lines_onto : (fs : List (Lines → Lines)) → onto (λ f r. f r) fs no_lines ≡ lines_of fs
+lines_onto [] = refl
+lines_onto (f ∷ fs) = ap f (lines_onto fs)
 
 pub no_clause : {A B : Type 0} (f : A → B) (g : Tree → B) (o : Option A) (r : Rest) → o ≡ None → option_map f o ≡ option_map g (first_tree r) → r ≡ done
 no_clause f g None done n e = refl

@@ -1,14 +1,14 @@
 -- Names among others: which are bound, and each once.
-use Rattle.std.proofs.Common.{◌≡◌, ℕ, suc, Bool, true, false, not, ◌&&◌, ◌||◌, List, [], ◌∷◌, ◌++◌, Option, Some, None, refl, sym, ap, ◌∙◌, subst, if◌then◌else◌, inl, inr, ◌⊎◌}
-use Rattle.std.specs.Prelude.{is_some, option_map, bytes_eq, fold}
+use Rattle.std.proofs.Common.{◌≡◌, ℕ, Bool, true, false, not, ◌&&◌, ◌||◌, List, [], ◌∷◌, ◌++◌, Option, Some, None, refl, sym, ap, ◌∙◌, subst, if◌then◌else◌}
+use Rattle.std.specs.Prelude.{bytes_eq}
 use Rattle.std.specs.Bool.{one_answer}
-use Rattle.std.specs.List.{list_any}
 use Rattle.std.proofs.lemmas.List.Folds.{list_any-append}
 use Rattle.std.proofs.lemmas.Slice.Eq.{bytes_eq-Decides}
 use Rattle.indexmap.specs.IndexSet.{insert_key, insert_all}
 use Rattle.syntax.specs.Names.{Name, Scope, or_else, among, apart, distinct, once, without}
 use Rattle.grammar.specs.BareLines.{Form, Lines, no_lines, a_line}
 use Rattle.syntax.specs.Names.{form_binds, scope_of}
+use Rattle.syntax.specs.Resolves.{binds_anew}
 use Rattle.syntax.specs.Scopes.{adds_to_name, line_scoped, lines_fault, top_fault, top_line_scoped, unless}
 
 -- names that are equal, by the test
@@ -64,7 +64,7 @@ lacking_more ks x (y ∷ ys) = by (lacking_more ks x ys) (bytes_eq x y) refl
         ∙ ap (λ l. if among y ks then l else y ∷ l) ih
         ∙ sym (ap (λ b. lacking ks (if b then without x ys else y ∷ without x ys)) e)
 
-append_none : (s : List Name) → s ++ [] ≡ s
+pub append_none : {A : Type 0} (s : List A) → s ++ [] ≡ s
 append_none [] = refl
 append_none (b ∷ s) = ap (λ t. b ∷ t) (append_none s)
 
@@ -178,33 +178,50 @@ top_same s b c h (a_line n f inner ls) =
     ap (λ m. or_else (unless n (distinct (form_binds f) && (m && (not (adds_to_name f) && line_scoped s f)))) (or_else (lines_fault (scope_of s f inner) inner) (top_fault s (form_binds f ++ b) ls))) (apart_same b c h (form_binds f))
     ∙ ap (λ m. or_else (unless n (top_line_scoped s c f)) (or_else (lines_fault (scope_of s f inner) inner) m)) (top_same s (form_binds f ++ b) (form_binds f ++ c) (more_same b c h (form_binds f)) ls)
 
-passed_by : (b : Bool) (n : ℕ) (o : Option ℕ) → or_else (unless n b) o ≡ None → (b ≡ true) × (o ≡ None)
-passed_by true n o e = (refl, e)
-passed_by false n o e = absurd cc
+-- a line that breaks no rule leaves those behind it, and one that breaks one stands before them
+pub line_passed : (b : Bool) (n : ℕ) (o r : Option ℕ) → or_else (unless n b) o ≡ None → or_else (unless n b) (or_else o r) ≡ r
+line_passed true n None r e = refl
+line_passed true n (Some m) r e = absurd cc
+line_passed false n o r e = absurd cc
 
--- a line of the top level that breaks no rule
-pub top_next : (s : Scope) (keys new : List Name) (n : ℕ) (f : Form) (inner rest : Lines) → or_else (unless n (top_line_scoped s keys f)) (lines_fault (scope_of s f inner) inner) ≡ None
-    → ((x : Name) → among x new ≡ among x (form_binds f ++ keys)) → top_fault s new rest ≡ top_fault s keys (a_line n f inner rest)
-top_next s keys new n f inner rest e h =
-    let p = passed_by (top_line_scoped s keys f) n (lines_fault (scope_of s f inner) inner) e in
-    top_same s new (form_binds f ++ keys) h rest
-    ∙ sym
-    (ap (λ b. or_else (unless n b) (or_else (lines_fault (scope_of s f inner) inner) (top_fault s (form_binds f ++ keys) rest))) p.0
-    ∙ ap (λ o. or_else o (top_fault s (form_binds f ++ keys) rest)) p.1)
+pub line_stops : (b : Bool) (n : ℕ) (o r : Option ℕ) (m : ℕ) → or_else (unless n b) o ≡ Some m → or_else (unless n b) (or_else o r) ≡ Some m
+line_stops true n None r m e = absurd cc
+line_stops true n (Some k) r m e = e
+line_stops false n o r m e = e
 
-none_at : (o : Option ℕ) → is_some o ≡ false → o ≡ None
-none_at None e = refl
-none_at (Some n) e = absurd cc
+-- the first of four, where the third is the last of its own
+pub or_line : (p u i t : Option ℕ) → or_else (or_else p (or_else u (or_else i None))) t ≡ or_else p (or_else u (or_else i t))
+or_line (Some a) u i t = refl
+or_line None (Some a) i t = refl
+or_line None None (Some a) t = refl
+or_line None None None t = refl
 
-pub none_by : (o : Option ℕ) → false ≡ is_some o → o ≡ None
-none_by o e = none_at o (sym e)
+pub or_none : (o : Option ℕ) → or_else o None ≡ o
+or_none None = refl
+or_none (Some n) = refl
 
-stays_by : (b : Bool) (n : ℕ) (o r : Option ℕ) → is_some (or_else (unless n b) o) ≡ true → or_else (unless n b) o ≡ or_else (unless n b) (or_else o r)
-stays_by true n None r e = absurd cc
-stays_by true n (Some m) r e = refl
-stays_by false n o r e = refl
+three_hold : (a b c d : Bool) → (a && (b && c)) ≡ true → (a && (b && (c && d))) ≡ d
+three_hold true true true d e = refl
+three_hold true true false d e = absurd cc
+three_hold true false c d e = absurd cc
+three_hold false b c d e = absurd cc
 
--- a line of the top level that breaks a rule, itself or in its block
-pub top_found : (s : Scope) (keys : List Name) (n : ℕ) (f : Form) (inner rest : Lines) → is_some (or_else (unless n (top_line_scoped s keys f)) (lines_fault (scope_of s f inner) inner)) ≡ true
-    → or_else (unless n (top_line_scoped s keys f)) (lines_fault (scope_of s f inner) inner) ≡ top_fault s keys (a_line n f inner rest)
-top_found s keys n f inner rest e = stays_by (top_line_scoped s keys f) n (lines_fault (scope_of s f inner) inner) (top_fault s (form_binds f ++ keys) rest) e
+one_fails : (a b c d : Bool) → (a && (b && c)) ≡ false → (a && (b && (c && d))) ≡ false
+one_fails true true true d e = absurd cc
+one_fails true true false d e = refl
+one_fails true false c d e = refl
+one_fails false b c d e = refl
+
+-- a line of the top level that binds what it may
+pub top_bound : (s : Scope) (keys new : List Name) (n : ℕ) (f : Form) (inner rest : Lines) → binds_anew keys f ≡ true → ((x : Name) → among x new ≡ among x (form_binds f ++ keys))
+    → top_fault s keys (a_line n f inner rest) ≡ or_else (unless n (line_scoped s f)) (or_else (lines_fault (scope_of s f inner) inner) (top_fault s new rest))
+top_bound s keys new n f inner rest e h =
+    let b = three_hold (distinct (form_binds f)) (apart (form_binds f) keys) (not (adds_to_name f)) (line_scoped s f) e in
+    ap (λ m. or_else (unless n m) (or_else (lines_fault (scope_of s f inner) inner) (top_fault s (form_binds f ++ keys) rest))) b
+    ∙ ap (λ o. or_else (unless n (line_scoped s f)) (or_else (lines_fault (scope_of s f inner) inner) o)) (sym (top_same s new (form_binds f ++ keys) h rest))
+
+-- and one that doesn't
+pub top_rebound : (s : Scope) (keys : List Name) (n : ℕ) (f : Form) (inner rest : Lines) → binds_anew keys f ≡ false → top_fault s keys (a_line n f inner rest) ≡ Some n
+top_rebound s keys n f inner rest e =
+    ap (λ m. or_else (unless n m) (or_else (lines_fault (scope_of s f inner) inner) (top_fault s (form_binds f ++ keys) rest)))
+    (one_fails (distinct (form_binds f)) (apart (form_binds f) keys) (not (adds_to_name f)) (line_scoped s f) e)

@@ -10,7 +10,6 @@ use Rattle.syntax.specs.declared.program.Argument.{Argument, fold-Argument}
 use Rattle.syntax.specs.declared.program.Round.{Round, fold-Round}
 use Rattle.syntax.specs.declared.program.Statement.{Statement, fold-Statement}
 use Rattle.syntax.specs.declared.program.Statement.TheOpen.{Statement-F, Function-F, Step-F}
-use Rattle.syntax.specs.declared.program.Function.{Function, fold-Function}
 use Rattle.syntax.specs.declared.program.Step.{Step, fold-Step}
 
 -- things one after the other, before others
@@ -91,9 +90,9 @@ statement_step (Statement-F.Define f) = f
 statement_step (Statement-F.If a inner other) = resolved.branch (term a) (steps_onto inner.items no_steps) (steps_onto other.items no_steps)
 statement_step (Statement-F.For bs a inner) = resolved.loop bs.items (term a) (steps_onto inner.items no_steps)
 statement_step (Statement-F.Assign bs a) = resolved.assign bs.items (term a)
-statement_step (Statement-F.AssignAt f a b) = resolved.assign_item (term f) (term a) (term b)
+statement_step (Statement-F.AssignAt f a b) = resolved.assign_item (term f.value) (term a.value) (term b)
 statement_step (Statement-F.Add x a) = resolved.add_to x (term a)
-statement_step (Statement-F.AddAt f a b) = resolved.add_to_item (term f) (term a) (term b)
+statement_step (Statement-F.AddAt f a b) = resolved.add_to_item (term f.value) (term a.value) (term b)
 statement_step (Statement-F.Evaluate a) = resolved.evaluate (term a)
 statement_step Statement-F.Pass = resolved.pass
 statement_step Statement-F.Break = resolved.break_loop

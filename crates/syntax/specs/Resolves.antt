@@ -1,19 +1,31 @@
 -- What the functions that resolve names ensure.
-use Rattle.std.specs.Prelude.{◌≡◌, ℕ, List, [], Option, Some, None, Result, IfOk}
+use Rattle.std.specs.Prelude.{◌≡◌, ℕ, Bool, true, false, not, ◌&&◌, List, Option, Some, None, Result, Ok, Err, option_map, reverse}
 use Rattle.std.specs.declared.alloc.Global.{Global}
-use Rattle.std.specs.declared.alloc.AllocError.{AllocError}
 use Rattle.std.specs.declared.vec.Vec.{Vec}
 use denote.Ref.{Bor, MutBor}
 use Rattle.grammar.specs.declared.tree.Expr.{Expr}
-use Rattle.grammar.specs.declared.statements.Line.{Line}
+use Rattle.grammar.specs.declared.statements.Line.{Line, out-Line}
 use Rattle.syntax.specs.declared.program.Term.{Term}
 use Rattle.syntax.specs.declared.program.Step.{Step}
+use Rattle.syntax.specs.declared.resolver.Unresolved.{Unresolved}
+use Rattle.syntax.specs.declared.resolver.Unresolved.TheVariants as stop
+use Rattle.syntax.specs.declared.heads.Head as head
+use Rattle.syntax.specs.declared.heads.Head.TheVariants as h
+use Rattle.syntax.specs.declared.steps.Stopped.{Stopped}
+use Rattle.syntax.specs.declared.steps.Stopped.TheVariants as stopped
+use Rattle.syntax.specs.declared.steps.Inner.{Inner}
+use Rattle.syntax.specs.declared.steps.Behind.{Behind}
+use Rattle.syntax.specs.declared.steps.Later.{Later}
 use Rattle.grammar.specs.Bare.{Tree, Rest, done, for_each, only_if}
-use Rattle.syntax.specs.Names.{Scope}
-use Rattle.grammar.specs.LineView.{lines}
+use Rattle.grammar.specs.BareLines.{Form, Lines, a_line}
+use Rattle.grammar.specs.LineView.{form_of, lines}
 use Rattle.grammar.specs.TreeView.{tree_of}
+use Rattle.syntax.specs.Names.{Name, Scope, apart, clause_names, distinct, form_binds, or_else, scope_of, width}
 use Rattle.syntax.specs.ProgramView as view
 use Rattle.syntax.specs.Resolved as resolved
+use Rattle.syntax.specs.Resolved.{Statement, Steps, branch, loop, define, pass, other_steps, steps_of}
+use Rattle.syntax.specs.Scopes.{adds_to_name, line_scoped, lines_fault, none_predeclared, rest_scoped, scoped, unless}
+use Rattle.syntax.specs.ScopeView.{entered}
 
 -- the expression of the first clause of a comprehension
 abbrev pub first_tree : Rest → Option Tree
@@ -21,20 +33,114 @@ first_tree done = None
 first_tree (for_each x xs a r) = Some a
 first_tree (only_if a r) = Some a
 
--- what a function ensures that resolves a part of a file: it leaves the scope as it was
-abbrev pub Gives : {A B : Type 0} → (A → B) → (Scope → B) → Scope → Result A AllocError → Scope → Type 0
-Gives seen meant old r new = IfOk r (λ v. (seen v ≡ meant old) × (new ≡ old))
+-- the rules of the first clause of a comprehension, and of the others
+abbrev pub first_scoped : Scope → Rest → Bool
+first_scoped s done = true
+first_scoped s (for_each x xs a r) = scoped s a
+first_scoped s (only_if a r) = scoped s a
+
+abbrev pub others_scoped : Scope → Rest → Bool
+others_scoped s done = true
+others_scoped s (for_each x xs a r) = rest_scoped s s r
+others_scoped s (only_if a r) = rest_scoped s s r
+
+-- what a function ensures that resolves a part of a file: it gives what is meant only where the part breaks no rule of
+-- scopes, says that one is broken only where one is, and leaves the scope as it was
+abbrev pub Gives : {A B : Type 0} → (A → B) → (Scope → Bool) → (Scope → B) → Scope → Result A Unresolved → Scope → Type 0
+Gives seen kept meant old (Ok v) new = (kept old ≡ true) × (seen v ≡ meant old) × (new ≡ old)
+Gives seen kept meant old (Err stop.Breaks) new = (kept old ≡ false) × (new ≡ old)
+Gives seen kept meant old (Err stop.NoMemory) new = Unit {0}
+
+-- the same without what is given
+abbrev pub Keeps : {A : Type 0} → (Scope → Bool) → Scope → Result A Unresolved → Scope → Type 0
+Keeps kept old (Ok v) new = (kept old ≡ true) × (new ≡ old)
+Keeps kept old (Err stop.Breaks) new = (kept old ≡ false) × (new ≡ old)
+Keeps kept old (Err stop.NoMemory) new = Unit {0}
+
+-- the same of an expression
+abbrev pub GivesTerm : Tree → Scope → Result Term Unresolved → Scope → Type 0
+GivesTerm t = Gives view.term (λ s. scoped s t) (λ s. resolved.term s t)
+
+-- what a function ensures that goes into a comprehension with these clauses, and resolves the expression of the first,
+-- which stands outside of its scope
+abbrev pub Enters : Rest → Scope → Result (Option Term) Unresolved → Scope → Type 0
+Enters r old (Ok first) new =
+    ((none_predeclared (clause_names r) && first_scoped old r) ≡ true)
+    × (option_map view.term first ≡ option_map (resolved.term old) (first_tree r))
+    × (new ≡ entered (clause_names r) old)
+Enters r old (Err stop.Breaks) new = ((none_predeclared (clause_names r) && first_scoped old r) ≡ false) × (new ≡ old)
+Enters r old (Err stop.NoMemory) new = Unit {0}
 
 -- a function value that resolves the expressions inside
 pub record ResolvesInside (turns : ℕ) (pre : Global → MutBor Scope → Bor Expr → ℕ → Type 0)
-    (post : Global → MutBor Scope → Bor Expr → ℕ → Result Term AllocError → MutBor Scope → Type 0) : Type 0 where
+    (post : Global → MutBor Scope → Bor Expr → ℕ → Result Term Unresolved → MutBor Scope → Type 0) : Type 0 where
   pub callable : (alloc : Global) (old : MutBor Scope) (e : Bor Expr) → pre alloc old e turns
-  pub gives : (alloc : Global) (old new : MutBor Scope) (e : Bor Expr) (r : Result Term AllocError) → post alloc old e turns r new
-      → Gives view.term (λ s. resolved.term s (tree_of e.now)) old.now r new.now
+  pub gives : (alloc : Global) (old new : MutBor Scope) (e : Bor Expr) (r : Result Term Unresolved) → post alloc old e turns r new
+      → GivesTerm (tree_of e.now) old.now r new.now
 
--- the same of the lines of a block
-pub record ResolvesLines (turns : ℕ) (pre : Global → MutBor Scope → Bor (List Line) → ℕ → Type 0)
-    (post : Global → MutBor Scope → Bor (List Line) → ℕ → Result (Vec Step Global) AllocError → MutBor Scope → Type 0) : Type 0 where
-  pub callable : (alloc : Global) (old : MutBor Scope) (ls : Bor (List Line)) → pre alloc old ls turns
-  pub gives : (alloc : Global) (old new : MutBor Scope) (ls : Bor (List Line)) (r : Result (Vec Step Global) AllocError) → post alloc old ls turns r new
-      → Gives (λ v. view.steps v.items) (λ s. resolved.steps_of s (lines ls.now)) old.now r new.now
+-- the statement that is made of a line, with the slots and the statements of its block, and the other branch of an `if`
+abbrev pub made_of : head.Head → ℕ → Steps → Steps → Statement
+made_of (h.Simple st) n inner other = view.statement st
+made_of (h.If a) n inner other = branch (view.term a) inner other
+made_of h.Else n inner other = pass
+made_of (h.For bs a) n inner other = loop bs.items (view.term a) inner
+made_of (h.Def b ps ds) n inner other = define b ps.items (view.terms ds.items) n inner
+
+-- a line with its names resolved: whatever its block has, its statement is made of it
+abbrev pub IsHead : Scope → Form → head.Head → Type 0
+IsHead s f h = (t : Scope) (inner other : Steps) → made_of h (width t.levels) inner other ≡ resolved.statement s f t inner other
+
+-- the same as `Gives`, of a line
+abbrev pub GivesHead : (Scope → Form → Bool) → Form → Scope → Result head.Head Unresolved → Scope → Type 0
+GivesHead kept f old (Ok h) new = (kept old f ≡ true) × IsHead old f h × (new ≡ old)
+GivesHead kept f old (Err stop.Breaks) new = (kept old f ≡ false) × (new ≡ old)
+GivesHead kept f old (Err stop.NoMemory) new = Unit {0}
+
+-- what a function ensures that resolves lines: it gives what is meant only where no line breaks a rule of scopes, tells of
+-- no line but the first that does, and leaves the scope as it was
+abbrev pub Places : {A : Type 0} → (Scope → Option ℕ) → (A → Scope → Type 0) → Scope → Result A Stopped → Scope → Type 0
+Places fault meant old (Ok v) new = (fault old ≡ None) × meant v old × (new ≡ old)
+Places fault meant old (Err (stopped.At n)) new = (fault old ≡ Some n) × (new ≡ old)
+Places fault meant old (Err stopped.NoMemory) new = Unit {0}
+
+abbrev pub PlacesSteps : (Scope → Option ℕ) → (Scope → Steps) → Scope → Result (Vec Step Global) Stopped → Scope → Type 0
+PlacesSteps fault meant = Places fault (λ v s. view.steps v.items ≡ meant s)
+
+-- out of a block, to the levels that it was entered from, if it has levels of its own
+abbrev pub back : Option (List (List Name)) → Scope → Scope
+back None s = s
+back (Some ls) s = record { globals = s.globals; levels = ls }
+
+-- a line before others, whose block is seen already
+abbrev pub before_lines : Line → Lines → Lines
+before_lines l rest = a_line (out-Line l).number (form_of (out-Line l).form) (lines (out-Line l).block.items) rest
+
+-- the line itself, where it breaks a rule, or the first in its block
+abbrev pub own_fault : Scope → Line → Option ℕ
+own_fault s l =
+    let f = form_of (out-Line l).form in
+    let inner = lines (out-Line l).block.items in
+    or_else (unless (out-Line l).number (line_scoped s f)) (lines_fault (scope_of s f inner) inner)
+
+-- what is made of a line itself and of its block
+abbrev pub IsOwn : Scope → Line → head.Head → Inner → Type 0
+IsOwn s l h i =
+    let f = form_of (out-Line l).form in
+    let ls = lines (out-Line l).block.items in
+    IsHead s f h × (view.steps i.steps.items ≡ steps_of (scope_of s f ls) ls) × (i.slots ≡ width (scope_of s f ls).levels)
+
+-- what is made of a line and those behind it, over what was made of those
+abbrev pub FollowsOn : Scope → Line → Behind → Behind → Type 0
+FollowsOn s l behind made =
+    (rest : Lines) → steps_of s rest ≡ view.steps (reverse behind.steps.items) → other_steps s rest ≡ view.steps behind.other.items
+    → (steps_of s (before_lines l rest) ≡ view.steps (reverse made.steps.items)) × (other_steps s (before_lines l rest) ≡ view.steps made.other.items)
+
+-- what is known of lines that were gone through
+abbrev pub IsLater : Scope → Lines → Later → Type 0
+IsLater s rest l =
+    (lines_fault s rest ≡ l.fault)
+    × (l.fault ≡ None → (steps_of s rest ≡ view.steps (reverse l.behind.steps.items)) × (other_steps s rest ≡ view.steps l.behind.other.items))
+
+-- a line of the top level, which has bound these names before, binds none a second time, and adds to none
+abbrev pub binds_anew : List Name → Form → Bool
+binds_anew before f = distinct (form_binds f) && (apart (form_binds f) before && not (adds_to_name f))

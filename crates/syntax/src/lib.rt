@@ -1,21 +1,23 @@
 //! The syntax of `BUILD` files and modules: from the bytes of a text to its tree, or to its first fault.
 //!
 //! Five passes, each over the whole of a text. The first three give the logical lines, and are those of crate `lexer`; the
-//! fourth gives the statements in their blocks, and is that of crate `grammar`. The fifth ([`scope_pass`]) looks at the
-//! names, in expressions by [`scope_rules`]. [`parsing`] joins the five, and then has the names resolved in expressions
-//! ([`resolver`]) and statements ([`steps`]), which gives the tree that is handed on ([`program`]).
+//! fourth gives the statements in their blocks, and is that of crate `grammar`. The fifth resolves the names of the top level
+//! ([`top`]), of lines ([`steps`], [`heads`]) and of expressions ([`resolver`]), which gives the tree that is handed on
+//! ([`program`]), or finds the first line that breaks a rule of scopes. [`parsing`] joins the five.
 #![tactic(auto)]
 
+mod bound;
 pub mod file_laws;
+mod heads;
+mod items;
 mod levels;
 mod names;
 mod parsing;
 mod program;
 mod resolver;
 mod scope;
-mod scope_pass;
-mod scope_rules;
 mod steps;
+mod top;
 
 pub use grammar::{Operator, Sign};
 pub use lexer::{FaultKind, FileKind, NoMemory, ParseStop, SyntaxFault};

@@ -1,19 +1,16 @@
 //! Reading a file: five passes over its text, each over the whole of it.
 
-ghost use Rattle.std.specs.Prelude.{◌≡◌, IfOk, IfErr, Ok, Err};
+ghost use Rattle.std.specs.Prelude.{◌≡◌, IfOk, Ok, Err};
 ghost use Rattle.grammar.specs.BareLines.{bare_lines};
 ghost use Rattle.grammar.specs.Blocks.{Block};
 ghost use Rattle.syntax.specs.Files.{syntax};
-ghost use Rattle.grammar.specs.LineView as view;
-ghost use Rattle.syntax.specs.Names.{file_scope};
 ghost use Rattle.syntax.specs.ParsedView.{program_of};
 ghost use Rattle.syntax.specs.Resolved.{resolved};
 
 use crate::program::Step;
-use crate::scope::Scope;
-use crate::scope_pass::{MAX_BLOCKS, file_scope, top_fault};
-use crate::steps::resolve_lines;
-use grammar::{Line, read_file};
+use crate::steps::{Stopped, resolve_file};
+use crate::top::file_scope;
+use grammar::read_file;
 use indexmap::IndexSet;
 use lexer::{FaultKind, FileKind, ParseStop, SyntaxFault, logical_lines};
 use plain::Text;
@@ -26,21 +23,6 @@ pub struct Parsed {
     pub globals: IndexSet<Text>,
     /// The statements of its top level.
     pub steps: Vec<Step>,
-}
-
-/// The lines of a file with their names resolved, in the scope of its top level.
-fn with_names(alloc: Global, scope: Scope, lines: &[Line]) -> Result<Parsed, ParseStop>
-    ensures ok { scope ≡ file_scope (view.lines lines.now) → IfOk result (λ p. program_of p ≡ resolved (view.lines lines.now)) }
-    ensures memory { IfErr result (λ stop. stop ≡ ParseStop.NoMemory) }
-{
-    let mut scope = scope;
-    match resolve_lines(alloc, &mut scope, lines, MAX_BLOCKS) {
-        Ok(steps) => Ok(Parsed {
-            globals: scope.into_globals(),
-            steps,
-        }),
-        Err(_) => Err(ParseStop::NoMemory),
-    }
 }
 
 /// Reads a file: its characters, its tokens, its brackets and columns, its statements, and then its scopes. The grammar is
@@ -65,12 +47,15 @@ pub fn parse(alloc: Global, text: &str, kind: FileKind) -> Result<Parsed, ParseS
     let Ok(mut scope) = file_scope(alloc, lines.as_slice()) else {
         return Err(ParseStop::NoMemory);
     };
-    match top_fault(alloc, &mut scope, lines.as_slice()) {
-        Ok(None) => with_names(alloc, scope, lines.as_slice()),
-        Ok(Some(line)) => Err(ParseStop::Fault(SyntaxFault {
+    match resolve_file(alloc, &mut scope, lines.as_slice()) {
+        Ok(steps) => Ok(Parsed {
+            globals: scope.into_globals(),
+            steps,
+        }),
+        Err(Stopped::At(line)) => Err(ParseStop::Fault(SyntaxFault {
             line,
             kind: FaultKind::Scope,
         })),
-        Err(_) => Err(ParseStop::NoMemory),
+        Err(Stopped::NoMemory) => Err(ParseStop::NoMemory),
     }
 }

@@ -79,11 +79,11 @@ pub enum Statement {
     For(Vec<Binding>, Term, Vec<Step>),
     Assign(Vec<Binding>, Term),
     /// `BASE[INDEX] = VALUE`.
-    AssignAt(Term, Term, Term),
+    AssignAt(Box<Term>, Box<Term>, Term),
     /// `NAME += VALUE`.
     Add(Binding, Term),
     /// `BASE[INDEX] += VALUE`.
-    AddAt(Term, Term, Term),
+    AddAt(Box<Term>, Box<Term>, Term),
     Evaluate(Term),
     Pass,
     Break,

@@ -1,29 +1,64 @@
-//! Resolving the names of expressions. What resolves the expressions inside is a parameter, so that each form is proved by
-//! itself.
+//! Resolving the names of expressions, by the rules of scopes: each name that is used is bound, no keyword comes twice in
+//! one call, and no comprehension binds a predeclared name. What resolves the expressions inside is a parameter, so that
+//! each form is proved by itself.
 
-ghost use Rattle.std.specs.Prelude.{◌≡◌, ◌∷◌, IfOk, Some, map};
+ghost use Rattle.std.specs.Prelude.{◌≡◌, ◌&&◌, ◌∷◌, [], IfOk, MatchOption, Some, map};
 ghost use Rattle.std.specs.Option.{option_map};
-ghost use Rattle.grammar.specs.Bare.{Rest, choice as choice_tree, each, each_entry, invokes, operates};
+ghost use Rattle.grammar.specs.Bare.{Rest, Tree, choice as choice_tree, each, each_entry, invokes, operates, subscript};
+ghost use Rattle.syntax.specs.Names.{distinct};
 ghost use Rattle.syntax.specs.Names.{Scope as Around};
 ghost use Rattle.syntax.specs.ProgramView as view;
 ghost use Rattle.syntax.specs.ProgramView.{rounds_onto};
 ghost use Rattle.syntax.specs.Resolved as resolved;
-ghost use Rattle.syntax.specs.Resolved.{binding_of, done};
-ghost use Rattle.syntax.specs.Resolves.{Gives, ResolvesInside, first_tree};
+ghost use Rattle.syntax.specs.Resolved.{binding_of};
+ghost use Rattle.syntax.specs.Resolves.{Enters, Gives, GivesTerm, ResolvesInside, first_scoped, first_tree, others_scoped};
+ghost use Rattle.syntax.specs.Scopes.{entries_scoped, keyword_names, keywords_scoped, rest_scoped, scoped, trees_scoped};
 ghost use Rattle.grammar.specs.TreeView.{clause_of, entries, entry_of, keyword_of, keywords, operator_seen, rests, tree_of, trees};
 
+use crate::bound::clause_names;
+use crate::items::{clause_at, entry_at, expr_at, keyword_at, name_at};
 use crate::names::Binding;
 use crate::program::{
     Argument, Pair, Round, Term, attribute, binary, call, choice, dict_each, dict_of, entry, index,
     keyword, list_each, list_of, name, number, string, tuple, unary,
 };
-use crate::scope::{Scope, name_at};
-use crate::scope_rules::{clause_at, clause_names, entry_at, expr_at, keyword_at, operand, split};
+use crate::scope::{Scope, are_distinct, none_predeclared};
 use grammar::{Clause, Entry, Expr, Keyword, Operator};
 use plain::Text;
-use std::alloc::{AllocError, Global};
+use std::alloc::{AllocError, AllocFailed, Global};
 
-/// What a name and others behind it stand for.
+/// Why the names of a part of a file aren't resolved.
+#[derive(Clone, Copy, PartialEq, Eq, Debug)]
+pub(crate) enum Unresolved {
+    /// It breaks a rule of scopes.
+    Breaks,
+    /// Memory was refused.
+    NoMemory,
+}
+
+impl From<AllocError> for Unresolved {
+    ghost use Rattle.std.specs.Prelude.{◌≡◌};
+    ghost use Rattle.syntax.specs.declared.resolver.Unresolved.TheVariants.{NoMemory};
+
+    ghost from_gives = { λ _ e. e ≡ NoMemory };
+
+    fn from(_: AllocError) -> Self {
+        Unresolved::NoMemory
+    }
+}
+
+impl<T: Drop> From<AllocFailed<T>> for Unresolved {
+    ghost use Rattle.std.specs.Prelude.{◌≡◌};
+    ghost use Rattle.syntax.specs.declared.resolver.Unresolved.TheVariants.{NoMemory};
+
+    ghost from_gives = { λ _ e. e ≡ NoMemory };
+
+    fn from(_: AllocFailed<T>) -> Self {
+        Unresolved::NoMemory
+    }
+}
+
+/// What names that are bound here stand for.
 pub(crate) fn bindings(
     alloc: Global,
     scope: &Scope,
@@ -38,6 +73,28 @@ pub(crate) fn bindings(
         found.push(scope.binding(name_at(others, i)))?;
     }
     Ok(found)
+}
+
+/// A clause and those behind it.
+fn split(clauses: &[Clause]) -> Option<(&Clause, &[Clause])>
+    ensures { MatchOption result (clauses.now ≡ []) (λ p. clauses.now ≡ p.0.now ∷ p.1.now) }
+{
+    match clauses {
+        [first, others @ ..] => Some((first, others)),
+        [] => None,
+    }
+}
+
+/// The expression of a clause.
+fn operand(clause: &Clause) -> &Expr
+    ensures scoped { (s t : Around) (r : Rest) → rest_scoped s t (clause_of clause.now r) ≡ (scoped s (tree_of result.now) && rest_scoped t t r) }
+    ensures others { (t : Around) (r : Rest) → others_scoped t (clause_of clause.now r) ≡ rest_scoped t t r }
+    ensures first { (r : Rest) → first_tree (clause_of clause.now r) ≡ Some (tree_of result.now) }
+{
+    match clause {
+        Clause::For(_, _, operand) => operand,
+        Clause::If(condition) => condition,
+    }
 }
 
 /// A clause of the comprehension whose scope this is, with its expression, which was resolved before.
@@ -67,6 +124,30 @@ fn named_value(keyword: &Keyword) -> (&Text, &Expr)
     (&keyword.name, &keyword.value)
 }
 
+/// The names of the arguments with names.
+fn argument_names(alloc: Global, named: &[Keyword]) -> Result<Vec<Text>, AllocError>
+    ensures { IfOk result (λ v. v.items ≡ keyword_names (keywords named.now)) }
+{
+    let mut found = Vec::new(alloc);
+    for i in 0..named.len() {
+        found.push(keyword_at(named, i).name.share()?)?;
+    }
+    Ok(found)
+}
+
+/// Whether no name comes twice among the arguments of a call.
+fn names_differ(alloc: Global, named: &[Keyword]) -> Result<bool, AllocError>
+    ensures { IfOk result (λ b. b ≡ distinct (keyword_names (keywords named.now))) }
+{
+    match named {
+        [] | [_] => Ok(true),
+        _ => {
+            let names = argument_names(alloc, named)?;
+            are_distinct(alloc, names.as_slice())
+        }
+    }
+}
+
 /// Resolves the names of expressions, by what resolves those inside.
 #[derive(Clone, Copy)]
 struct Resolver<F> {
@@ -76,19 +157,19 @@ struct Resolver<F> {
     inside: F,
 }
 
-impl<F: Fn(Global, &mut Scope, &Expr, usize) -> Result<Term, AllocError>> Resolver<F> {
-    fn one(&self, scope: &mut Scope, expr: &Expr) -> Result<Term, AllocError>
+impl<F: Fn(Global, &mut Scope, &Expr, usize) -> Result<Term, Unresolved>> Resolver<F> {
+    fn one(&self, scope: &mut Scope, expr: &Expr) -> Result<Term, Unresolved>
         requires { ResolvesInside self.now.turns (F.pre self.now.inside) (F.post self.now.inside) }
-        ensures { Gives view.term (λ s. resolved.term s (tree_of expr.now)) scope.old result scope.new }
+        ensures { GivesTerm (tree_of expr.now) scope.old result scope.new }
     {
         (self.inside)(self.alloc, scope, expr, self.turns)
     }
 
-    fn all(&self, scope: &mut Scope, exprs: &[Expr]) -> Result<Vec<Term>, AllocError>
+    fn all(&self, scope: &mut Scope, exprs: &[Expr]) -> Result<Vec<Term>, Unresolved>
         requires { ResolvesInside self.now.turns (F.pre self.now.inside) (F.post self.now.inside) }
-        ensures { Gives (λ v. view.terms v.items) (λ s. resolved.terms s (trees exprs.now)) scope.old result scope.new }
+        ensures { Gives (λ v. view.terms v.items) (λ s. trees_scoped s (trees exprs.now)) (λ s. resolved.terms s (trees exprs.now)) scope.old result scope.new }
     {
-        let mut found = Vec::new(self.alloc);
+        let mut found = Vec::with_capacity(self.alloc, exprs.len())?;
         for i in 0..exprs.len() {
             let term = self.one(scope, expr_at(exprs, i))?;
             found.push(term)?;
@@ -96,11 +177,11 @@ impl<F: Fn(Global, &mut Scope, &Expr, usize) -> Result<Term, AllocError>> Resolv
         Ok(found)
     }
 
-    fn pairs(&self, scope: &mut Scope, written: &[Entry]) -> Result<Vec<Pair>, AllocError>
+    fn pairs(&self, scope: &mut Scope, written: &[Entry]) -> Result<Vec<Pair>, Unresolved>
         requires { ResolvesInside self.now.turns (F.pre self.now.inside) (F.post self.now.inside) }
-        ensures { Gives (λ v. view.pairs v.items) (λ s. resolved.pairs s (entries written.now)) scope.old result scope.new }
+        ensures { Gives (λ v. view.pairs v.items) (λ s. entries_scoped s (entries written.now)) (λ s. resolved.pairs s (entries written.now)) scope.old result scope.new }
     {
-        let mut found = Vec::new(self.alloc);
+        let mut found = Vec::with_capacity(self.alloc, written.len())?;
         for i in 0..written.len() {
             let read = parts_of(entry_at(written, i));
             let key = self.one(scope, read.0)?;
@@ -111,11 +192,11 @@ impl<F: Fn(Global, &mut Scope, &Expr, usize) -> Result<Term, AllocError>> Resolv
         Ok(found)
     }
 
-    fn arguments(&self, scope: &mut Scope, named: &[Keyword]) -> Result<Vec<Argument>, AllocError>
+    fn arguments(&self, scope: &mut Scope, named: &[Keyword]) -> Result<Vec<Argument>, Unresolved>
         requires { ResolvesInside self.now.turns (F.pre self.now.inside) (F.post self.now.inside) }
-        ensures { Gives (λ v. view.keywords v.items) (λ s. resolved.keywords s (keywords named.now)) scope.old result scope.new }
+        ensures { Gives (λ v. view.keywords v.items) (λ s. keywords_scoped s (keywords named.now)) (λ s. resolved.keywords s (keywords named.now)) scope.old result scope.new }
     {
-        let mut found = Vec::new(self.alloc);
+        let mut found = Vec::with_capacity(self.alloc, named.len())?;
         for i in 0..named.len() {
             let read = named_value(keyword_at(named, i));
             let value = self.one(scope, read.1)?;
@@ -132,13 +213,13 @@ impl<F: Fn(Global, &mut Scope, &Expr, usize) -> Result<Term, AllocError>> Resolv
         operator: Operator,
         left: &Expr,
         right: &Expr,
-    ) -> Result<Term, AllocError>
+    ) -> Result<Term, Unresolved>
         requires { ResolvesInside self.now.turns (F.pre self.now.inside) (F.post self.now.inside) }
-        ensures { Gives view.term (λ s. resolved.term s (operates (operator_seen operator) (tree_of left.now) (tree_of right.now))) scope.old result scope.new }
+        ensures { GivesTerm (operates (operator_seen operator) (tree_of left.now) (tree_of right.now)) scope.old result scope.new }
     {
         let left = self.one(scope, left)?;
         let right = self.one(scope, right)?;
-        binary(self.alloc, operator, left, right)
+        Ok(binary(self.alloc, operator, left, right)?)
     }
 
     fn choice(
@@ -147,14 +228,23 @@ impl<F: Fn(Global, &mut Scope, &Expr, usize) -> Result<Term, AllocError>> Resolv
         then: &Expr,
         test: &Expr,
         other: &Expr,
-    ) -> Result<Term, AllocError>
+    ) -> Result<Term, Unresolved>
         requires { ResolvesInside self.now.turns (F.pre self.now.inside) (F.post self.now.inside) }
-        ensures { Gives view.term (λ s. resolved.term s (choice_tree (tree_of then.now) (tree_of test.now) (tree_of other.now))) scope.old result scope.new }
+        ensures { GivesTerm (choice_tree (tree_of then.now) (tree_of test.now) (tree_of other.now)) scope.old result scope.new }
     {
         let then = self.one(scope, then)?;
         let test = self.one(scope, test)?;
         let other = self.one(scope, other)?;
-        choice(self.alloc, then, test, other)
+        Ok(choice(self.alloc, then, test, other)?)
+    }
+
+    fn index(&self, scope: &mut Scope, base: &Expr, at: &Expr) -> Result<Term, Unresolved>
+        requires { ResolvesInside self.now.turns (F.pre self.now.inside) (F.post self.now.inside) }
+        ensures { GivesTerm (subscript (tree_of base.now) (tree_of at.now)) scope.old result scope.new }
+    {
+        let base = self.one(scope, base)?;
+        let at = self.one(scope, at)?;
+        Ok(index(self.alloc, base, at)?)
     }
 
     fn call(
@@ -163,14 +253,17 @@ impl<F: Fn(Global, &mut Scope, &Expr, usize) -> Result<Term, AllocError>> Resolv
         callee: &Expr,
         items: &[Expr],
         named: &[Keyword],
-    ) -> Result<Term, AllocError>
+    ) -> Result<Term, Unresolved>
         requires { ResolvesInside self.now.turns (F.pre self.now.inside) (F.post self.now.inside) }
-        ensures { Gives view.term (λ s. resolved.term s (invokes (tree_of callee.now) (trees items.now) (keywords named.now))) scope.old result scope.new }
+        ensures { GivesTerm (invokes (tree_of callee.now) (trees items.now) (keywords named.now)) scope.old result scope.new }
     {
         let callee = self.one(scope, callee)?;
         let items = self.all(scope, items)?;
+        if !names_differ(self.alloc, named)? {
+            return Err(Unresolved::Breaks);
+        }
         let named = self.arguments(scope, named)?;
-        call(self.alloc, callee, items, named)
+        Ok(call(self.alloc, callee, items, named)?)
     }
 
     /// The expression of the first clause, which stands outside of the scope of its comprehension.
@@ -178,9 +271,9 @@ impl<F: Fn(Global, &mut Scope, &Expr, usize) -> Result<Term, AllocError>> Resolv
         &self,
         scope: &mut Scope,
         clauses: &[Clause],
-    ) -> Result<Option<Term>, AllocError>
+    ) -> Result<Option<Term>, Unresolved>
         requires { ResolvesInside self.now.turns (F.pre self.now.inside) (F.post self.now.inside) }
-        ensures { Gives (option_map view.term) (λ s. option_map (resolved.term s) (first_tree (rests clauses.now))) scope.old result scope.new }
+        ensures { Gives (option_map view.term) (λ s. first_scoped s (rests clauses.now)) (λ s. option_map (resolved.term s) (first_tree (rests clauses.now))) scope.old result scope.new }
     {
         match split(clauses) {
             Some((first, _)) => Ok(Some(self.one(scope, operand(first))?)),
@@ -194,9 +287,9 @@ impl<F: Fn(Global, &mut Scope, &Expr, usize) -> Result<Term, AllocError>> Resolv
         scope: &mut Scope,
         found: &mut Vec<Round>,
         clauses: &[Clause],
-    ) -> Result<(), AllocError>
+    ) -> Result<(), Unresolved>
         requires { ResolvesInside self.now.turns (F.pre self.now.inside) (F.post self.now.inside) }
-        ensures { IfOk result (λ _. (view.rounds found.new.items ≡ rounds_onto (map view.round found.old.items) (resolved.rounds scope.old scope.old (rests clauses.now))) × (scope.new ≡ scope.old)) }
+        ensures { Gives (λ _. view.rounds found.new.items) (λ s. rest_scoped s s (rests clauses.now)) (λ s. rounds_onto (map view.round found.old.items) (resolved.rounds s s (rests clauses.now))) scope.old result scope.new }
     {
         for i in 0..clauses.len() {
             let clause = clause_at(clauses, i);
@@ -213,9 +306,9 @@ impl<F: Fn(Global, &mut Scope, &Expr, usize) -> Result<Term, AllocError>> Resolv
         scope: &mut Scope,
         first: Option<Term>,
         clauses: &[Clause],
-    ) -> Result<Vec<Round>, AllocError>
+    ) -> Result<Vec<Round>, Unresolved>
         requires { ResolvesInside self.now.turns (F.pre self.now.inside) (F.post self.now.inside) }
-        ensures { (s : Around) → option_map view.term first ≡ option_map (resolved.term s) (first_tree (rests clauses.now)) → IfOk result (λ v. (view.rounds v.items ≡ resolved.rounds s scope.old (rests clauses.now)) × (scope.new ≡ scope.old)) }
+        ensures { (s : Around) → option_map view.term first ≡ option_map (resolved.term s) (first_tree (rests clauses.now)) → Gives (λ v. view.rounds v.items) (λ t. others_scoped t (rests clauses.now)) (λ t. resolved.rounds s t (rests clauses.now)) scope.old result scope.new }
     {
         let mut found = Vec::new(self.alloc);
         if let Some(value) = first {
@@ -228,22 +321,68 @@ impl<F: Fn(Global, &mut Scope, &Expr, usize) -> Result<Term, AllocError>> Resolv
         Ok(found)
     }
 
+    /// What stands inside of the scope of a comprehension over a list.
+    fn in_list(
+        &self,
+        scope: &mut Scope,
+        element: &Expr,
+        first: Option<Term>,
+        clauses: &[Clause],
+    ) -> Result<(Term, Vec<Round>), Unresolved>
+        requires { ResolvesInside self.now.turns (F.pre self.now.inside) (F.post self.now.inside) }
+        ensures { (s : Around) → option_map view.term first ≡ option_map (resolved.term s) (first_tree (rests clauses.now)) → Gives {B = resolved.Term × resolved.Rounds} (λ p. (view.term p.0, view.rounds p.1.items)) (λ t. scoped t (tree_of element.now) && others_scoped t (rests clauses.now)) (λ t. (resolved.term t (tree_of element.now), resolved.rounds s t (rests clauses.now))) scope.old result scope.new }
+    {
+        let element = self.one(scope, element)?;
+        let rounds = self.rounds(scope, first, clauses)?;
+        Ok((element, rounds))
+    }
+
+    /// The same over a dict.
+    fn in_dict(
+        &self,
+        scope: &mut Scope,
+        key: &Expr,
+        value: &Expr,
+        first: Option<Term>,
+        clauses: &[Clause],
+    ) -> Result<(Term, Term, Vec<Round>), Unresolved>
+        requires { ResolvesInside self.now.turns (F.pre self.now.inside) (F.post self.now.inside) }
+        ensures { (s : Around) → option_map view.term first ≡ option_map (resolved.term s) (first_tree (rests clauses.now)) → Gives {B = resolved.Term × resolved.Term × resolved.Rounds} (λ p. (view.term p.0, view.term p.1, view.rounds p.2.items)) (λ t. scoped t (tree_of key.now) && (scoped t (tree_of value.now) && others_scoped t (rests clauses.now))) (λ t. (resolved.term t (tree_of key.now), resolved.term t (tree_of value.now), resolved.rounds s t (rests clauses.now))) scope.old result scope.new }
+    {
+        let key = self.one(scope, key)?;
+        let value = self.one(scope, value)?;
+        let rounds = self.rounds(scope, first, clauses)?;
+        Ok((key, value, rounds))
+    }
+
+    /// Goes into a comprehension, and gives the expression of its first clause.
+    fn enter(&self, scope: &mut Scope, clauses: &[Clause]) -> Result<Option<Term>, Unresolved>
+        requires { ResolvesInside self.now.turns (F.pre self.now.inside) (F.post self.now.inside) }
+        ensures { Enters (rests clauses.now) scope.old result scope.new }
+    {
+        let names = clause_names(self.alloc, clauses)?;
+        if !none_predeclared(names.as_slice()) {
+            return Err(Unresolved::Breaks);
+        }
+        let first = self.first_operand(scope, clauses)?;
+        scope.enter(self.alloc, names.as_slice())?;
+        Ok(first)
+    }
+
     fn list_each(
         &self,
         scope: &mut Scope,
         element: &Expr,
         clauses: &[Clause],
-    ) -> Result<Term, AllocError>
+    ) -> Result<Term, Unresolved>
         requires { ResolvesInside self.now.turns (F.pre self.now.inside) (F.post self.now.inside) }
-        ensures { Gives view.term (λ s. resolved.term s (each (tree_of element.now) (rests clauses.now))) scope.old result scope.new }
+        ensures { GivesTerm (each (tree_of element.now) (rests clauses.now)) scope.old result scope.new }
     {
-        let names = clause_names(self.alloc, clauses)?;
-        let first = self.first_operand(scope, clauses)?;
-        scope.enter(self.alloc, names.as_slice())?;
-        let element = self.one(scope, element)?;
-        let rounds = self.rounds(scope, first, clauses)?;
+        let first = self.enter(scope, clauses)?;
+        let inside = self.in_list(scope, element, first, clauses);
         scope.leave();
-        list_each(self.alloc, element, rounds)
+        let (element, rounds) = inside?;
+        Ok(list_each(self.alloc, element, rounds)?)
     }
 
     fn dict_each(
@@ -252,26 +391,26 @@ impl<F: Fn(Global, &mut Scope, &Expr, usize) -> Result<Term, AllocError>> Resolv
         key: &Expr,
         value: &Expr,
         clauses: &[Clause],
-    ) -> Result<Term, AllocError>
+    ) -> Result<Term, Unresolved>
         requires { ResolvesInside self.now.turns (F.pre self.now.inside) (F.post self.now.inside) }
-        ensures { Gives view.term (λ s. resolved.term s (each_entry (tree_of key.now) (tree_of value.now) (rests clauses.now))) scope.old result scope.new }
+        ensures { GivesTerm (each_entry (tree_of key.now) (tree_of value.now) (rests clauses.now)) scope.old result scope.new }
     {
-        let names = clause_names(self.alloc, clauses)?;
-        let first = self.first_operand(scope, clauses)?;
-        scope.enter(self.alloc, names.as_slice())?;
-        let key = self.one(scope, key)?;
-        let value = self.one(scope, value)?;
-        let rounds = self.rounds(scope, first, clauses)?;
+        let first = self.enter(scope, clauses)?;
+        let inside = self.in_dict(scope, key, value, first, clauses);
         scope.leave();
-        dict_each(self.alloc, key, value, rounds)
+        let (key, value, rounds) = inside?;
+        Ok(dict_each(self.alloc, key, value, rounds)?)
     }
 
-    fn expr(&self, scope: &mut Scope, expr: &Expr) -> Result<Term, AllocError>
+    fn expr(&self, scope: &mut Scope, expr: &Expr) -> Result<Term, Unresolved>
         requires { ResolvesInside self.now.turns (F.pre self.now.inside) (F.post self.now.inside) }
-        ensures { Gives view.term (λ s. resolved.term s (tree_of expr.now)) scope.old result scope.new }
+        ensures { GivesTerm (tree_of expr.now) scope.old result scope.new }
     {
         match expr {
-            Expr::Name(text) => Ok(name(scope.binding(text))),
+            Expr::Name(text) => match scope.stands_for(text) {
+                Some(binding) => Ok(name(binding)),
+                None => Err(Unresolved::Breaks),
+            },
             Expr::Number(value) => Ok(number(*value)),
             Expr::Str(text) => Ok(string(text.share()?)),
             Expr::Tuple(items) => Ok(tuple(self.all(scope, items.as_slice())?)),
@@ -279,14 +418,12 @@ impl<F: Fn(Global, &mut Scope, &Expr, usize) -> Result<Term, AllocError>> Resolv
             Expr::DictOf(written) => Ok(dict_of(self.pairs(scope, written.as_slice())?)),
             Expr::Choice(then, test, other) => self.choice(scope, then, test, other),
             Expr::Binary(operator, left, right) => self.binary(scope, *operator, left, right),
-            Expr::Unary(sign, operand) => unary(self.alloc, *sign, self.one(scope, operand)?),
+            Expr::Unary(sign, operand) => Ok(unary(self.alloc, *sign, self.one(scope, operand)?)?),
             Expr::Attribute(base, field) => {
-                attribute(self.alloc, self.one(scope, base)?, field.share()?)
-            }
-            Expr::Index(base, at) => {
                 let base = self.one(scope, base)?;
-                index(self.alloc, base, self.one(scope, at)?)
+                Ok(attribute(self.alloc, base, field.share()?)?)
             }
+            Expr::Index(base, at) => self.index(scope, base, at),
             Expr::Call(callee, items, named) => {
                 self.call(scope, callee, items.as_slice(), named.as_slice())
             }
@@ -304,17 +441,18 @@ impl<F: Fn(Global, &mut Scope, &Expr, usize) -> Result<Term, AllocError>> Resolv
 ///
 /// # Errors
 ///
-/// Where memory was refused, or the expression has more than `turns` others inside of one another.
+/// [`Unresolved::Breaks`] where it breaks a rule of scopes. [`Unresolved::NoMemory`] where memory was refused, or the
+/// expression has more than `turns` others inside of one another.
 pub(crate) fn resolve(
     alloc: Global,
     scope: &mut Scope,
     expr: &Expr,
     turns: usize,
-) -> Result<Term, AllocError>
-    ensures { Gives view.term (λ s. resolved.term s (tree_of expr.now)) scope.old result scope.new }
+) -> Result<Term, Unresolved>
+    ensures { GivesTerm (tree_of expr.now) scope.old result scope.new }
 {
     if turns == 0 {
-        return Err(AllocError);
+        return Err(Unresolved::NoMemory);
     }
     Resolver {
         alloc,

@@ -1,11 +1,12 @@
 //! What is in scope: the names of the top level, of a function and of the comprehensions in it.
 
-ghost use Rattle.std.specs.Prelude.{◌≡◌, ◌&&◌, ◌++◌, ◌∷◌, [], ◌<◌, ◌+◌, ℕ, List, IfOk, OnOk, drop, length, true};
-ghost use Rattle.syntax.specs.Names.{among, apart, distinct, once, stands_for, width};
+ghost use Rattle.std.specs.Prelude.{◌≡◌, ◌&&◌, ◌++◌, ◌∷◌, [], ℕ, List, IfOk, OnOk, is_none, true};
+ghost use Rattle.syntax.specs.Names.{among, apart, distinct, once, predeclared, stands_for, width};
 ghost use Rattle.syntax.specs.Resolved.{binding_of};
-ghost use Rattle.syntax.specs.Scopes.{is_bound, none_predeclared};
+ghost use Rattle.syntax.specs.Scopes.{none_predeclared};
 ghost use Rattle.syntax.specs.ScopeView.{entered, in_function, left};
 
+use crate::items::name_at;
 use crate::levels::Levels;
 use crate::names::{Binding, predeclared_as};
 use indexmap::IndexSet;
@@ -13,14 +14,6 @@ use plain::Text;
 use std::alloc::{AllocError, Global};
 use std::marker::Model;
 use std::mem;
-
-/// The name at a place.
-pub(crate) fn name_at(names: &[Text], place: usize) -> &Text
-    requires { place < length names.now }
-    ensures { drop place names.now ≡ result.now ∷ drop (place + 1) names.now }
-{
-    &names[place]
-}
 
 /// Adds names behind others.
 pub(crate) fn add_names(found: &mut Vec<Text>, names: &[Text]) -> Result<(), AllocError>
@@ -32,12 +25,19 @@ pub(crate) fn add_names(found: &mut Vec<Text>, names: &[Text]) -> Result<(), All
     Ok(())
 }
 
+/// Whether a name is none that each file finds bound.
+pub(crate) fn is_free(name: &Text) -> bool
+    ensures { result ≡ is_none (predeclared name.now) }
+{
+    predeclared_as(name.as_str()).is_none()
+}
+
 /// Whether no name is one that each file finds bound.
 pub(crate) fn none_predeclared(names: &[Text]) -> bool
     ensures { result ≡ none_predeclared names.now }
 {
     for i in 0..names.len() {
-        if predeclared_as(name_at(names, i).as_str()).is_some() {
+        if !is_free(name_at(names, i)) {
             return false;
         }
     }
@@ -106,7 +106,7 @@ impl Scope {
     }
 
     /// What a name stands for; None where it is bound nowhere.
-    fn stands_for(&self, name: &Text) -> Option<Binding>
+    pub(crate) fn stands_for(&self, name: &Text) -> Option<Binding>
         ensures { result ≡ stands_for self.now name.now }
     {
         if let Some(slot) = self.levels.slot(name) {
@@ -121,14 +121,7 @@ impl Scope {
         }
     }
 
-    /// Whether a name stands for something.
-    pub(crate) fn is_bound(&self, name: &Text) -> bool
-        ensures { result ≡ is_bound self.now name.now }
-    {
-        self.stands_for(name).is_some()
-    }
-
-    /// What a name stands for; the first slot where it is bound nowhere, which no name of a file without fault is.
+    /// What a name that is bound here stands for.
     pub(crate) fn binding(&self, name: &Text) -> Binding
         ensures { result ≡ binding_of self.now name.now }
     {

@@ -191,6 +191,29 @@ fn signs(alloc: Global, count: usize) -> Result<String, Fail> {
     Ok(text)
 }
 
+/// A function with blocks in its block, as many as there are, and in the last a head with its statement on its own line.
+fn nested(alloc: Global, blocks: usize) -> Result<String, Fail> {
+    let mut text = String::from_str(alloc, "def f(x):\n ")?;
+    let mut indent = String::from_str(alloc, " ")?;
+    for _ in 1..blocks {
+        text.push_str("if x:\n ")?;
+        text.push_str(indent.as_str())?;
+        indent.push_str(" ")?;
+    }
+    text.push_str("if x: x = 1\n")?;
+    Ok(text)
+}
+
+#[test]
+fn blocks_are_at_most_32_deep(rt: HostRuntime) -> Result<(), Fail> {
+    let alloc = rt.alloc();
+    let text = nested(alloc, 32)?;
+    expect_trees(&rt, alloc, FileKind::Module, &[text.as_str()]);
+    let text = nested(alloc, 33)?;
+    expect_faults(&rt, alloc, FaultKind::Indent, &[(text.as_str(), 34)]);
+    Ok(())
+}
+
 #[test]
 fn expressions_are_at_most_200_deep(rt: HostRuntime) -> Result<(), Fail> {
     let alloc = rt.alloc();

@@ -1,12 +1,10 @@
-use Rattle.std.proofs.Common.{◌≡◌, [], ◌∷◌, map, sym, ap, ◌∙◌, Err, Ok}
-use Rattle.std.specs.Prelude.{filter_map}
+use Rattle.std.proofs.Common.{◌≡◌, [], ◌∷◌, map, sym, ap, ◌∙◌, Err}
 use Rattle.lexer.specs.declared.fault.ParseStop.TheVariants.{Fault}
 use Rattle.grammar.specs.Blocks.{laid}
 use Rattle.grammar.specs.Built.{built}
-use Rattle.grammar.specs.BuiltView.{read_of}
 use Rattle.grammar.specs.Places.{top_of}
-use Rattle.grammar.specs.FormView.{line_read, outline_read}
-use Rattle.grammar.specs.Outlines.{pass, place_of, top_level}
+use Rattle.grammar.specs.FormView.{outline_read}
+use Rattle.grammar.specs.Outlines.{pass, top_level}
 use Rattle.grammar.proofs.OutlinesMade.{has_tree, is_refused, read_built}
 use Rattle.grammar.proofs.statement_pass.read_file.Goals as goal
 

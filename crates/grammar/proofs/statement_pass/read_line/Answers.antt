@@ -1,4 +1,4 @@
-use Rattle.std.proofs.Common.{map, sym, ◌∙◌}
+use Rattle.std.proofs.Common.{map, ◌∙◌}
 use Rattle.std.specs.Prelude.{option_map}
 use Rattle.grammar.specs.Ahead.{tokens_seen}
 use Rattle.grammar.specs.Blocks.{laid}

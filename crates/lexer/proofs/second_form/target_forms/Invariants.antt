@@ -1,4 +1,4 @@
-use Rattle.std.proofs.Common.{◌≡◌, ◌≤◌, ◌++◌, map, drop}
+use Rattle.std.proofs.Common.{◌≡◌, ◌++◌, map, drop}
 use Rattle.lexer.specs.Form.{tokens_in}
 use Rattle.lexer.specs.SecondForm.{declaring_line}
 use Rattle.lexer.proofs.second_form.target_forms.Given as goal

@@ -1,8 +1,7 @@
-use Rattle.std.proofs.Common.{◌≡◌, ◌∙◌, ap, sym, subst, slice_get, map, drop, Some, ℕ, List, [], true, false}
+use Rattle.std.proofs.Common.{◌≡◌, ◌∙◌, ap, sym, slice_get, map, drop, Some, ℕ, List, []}
 use Rattle.std.proofs.lemmas.Bool.{false≢true}
 use Rattle.lexer.specs.Form.{tokens_in, load_line, is_loadable}
-use Rattle.lexer.specs.SecondForm.{declaring_line, IsTargets}
-use Rattle.lexer.specs.Tokens.{Token}
+use Rattle.lexer.specs.SecondForm.{declaring_line}
 use Rattle.lexer.proofs.SecondLemmas.{loaded_there, rule_there}
 use Rattle.lexer.proofs.second_form.targets_form.Goals as goal
 

@@ -2,7 +2,7 @@ use Rattle.std.proofs.Common.{◌≡◌, ◌&&◌, ◌+◌, ◌++◌, ◌∷◌,
 use Rattle.std.specs.Prelude.{bytes_eq}
 use Rattle.indexmap.specs.IndexSet.{insert_key}
 use Rattle.syntax.specs.Names.{among, apart, distinct}
-use Rattle.syntax.proofs.ScopeLemmas.{among_turn, anew_next, anew_refused, new_keys}
+use Rattle.syntax.proofs.ScopeLemmas.{among_turn, anew_next, new_keys}
 use Rattle.syntax.proofs.scope.bind_anew.Goals as goal
 
 pub loop-i-preserved : goal.loop-i-preserved

@@ -1,4 +1,4 @@
-use Rattle.std.proofs.Common.{◌≡◌, ◌∙◌, ap}
+use Rattle.std.proofs.Common.{◌∙◌, ap}
 use Rattle.grammar.specs.Descent.{read, e1_on}
 use Rattle.grammar.specs.Descended.{part_seen}
 use Rattle.grammar.specs.Reading.{then_read}

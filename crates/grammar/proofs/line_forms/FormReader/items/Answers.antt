@@ -1,4 +1,4 @@
-use Rattle.std.proofs.Common.{rules, arith, map, ◌-◌}
+use Rattle.std.proofs.Common.{rules, arith, map}
 use Rattle.std.proofs.lemmas.Grind.{common_steps}
 use Rattle.grammar.specs.Descent.{gather}
 use Rattle.grammar.specs.FormDescent.{item, with_item_of}

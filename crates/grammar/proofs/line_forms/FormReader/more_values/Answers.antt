@@ -1,4 +1,4 @@
-use Rattle.std.proofs.Common.{rules, arith, map, ◌-◌}
+use Rattle.std.proofs.Common.{rules, arith}
 use Rattle.std.proofs.lemmas.Grind.{common_steps}
 use Rattle.grammar.specs.FormDescent.{more_values}
 use Rattle.grammar.specs.Descended.{several_seen}

@@ -1,18 +1,34 @@
-use Rattle.std.proofs.Common.{◌≡◌, ◌+◌, ◌∙◌, ap, drop, map, sym, rules, arith}
-use Rattle.std.proofs.lemmas.Grind.{common_steps}
+use Rattle.std.proofs.Common.{◌&&◌, ◌+◌, ◌∙◌, ap, drop, map, sym}
 use Rattle.syntax.specs.ProgramView as view
 use Rattle.syntax.specs.ProgramView.{rounds_onto}
 use Rattle.syntax.specs.Resolved as resolved
-use Rattle.grammar.specs.TreeView.{rests, tree_of}
+use Rattle.syntax.specs.Scopes.{rest_scoped, scoped}
+use Rattle.grammar.specs.TreeView.{clause_of, rests, tree_of}
+use Rattle.std.specs.Prelude.{Some, option_map}
 use Rattle.syntax.proofs.ProgramLemmas.{onto_last}
 use Rattle.syntax.proofs.resolver.Resolver.add_rounds.Goals as goal
 
 pub loop-i-preserved : goal.loop-i-preserved
 loop-i-preserved g c =
     let s = c.args.scope.now in
-    let rest = resolved.rounds s s (rests (drop (c.loop-i.i + 1) c.args.clauses.now)) in
-    let here = ap (λ d. resolved.rounds s s (rests d)) c.clause_at-clause.ensures in
-    let more = onto_last (λ f r. f r) view.round c.loop-i.found.items c.in_ok-made.made rest in
-    let value = c.in_ok-value.ensures.0 in
-    let same = c.in_ok-value.ensures.1 ∙ c.loop-i.invariant.1 in
-    first_of (search rules, grind (arith, common_steps))
+    let rest = rests (drop (c.loop-i.i + 1) c.args.clauses.now) in
+    let found = map view.round c.loop-i.found.items in
+    let e = tree_of c.operand.result.now in
+    let same = c.loop-i.invariant.2 in
+    let here = c.clause_at-clause.ensures in
+    let behind = c.in_ok-value.ensures.2 ∙ same in
+    let kept = sym (ap (λ v. scoped v e) same) ∙ c.in_ok-value.ensures.0 in
+    let term = c.in_ok-value.ensures.1 ∙ ap (λ v. resolved.term v e) same in
+    let made = c.in_ok-made.ensures s rest (ap (option_map (resolved.term s)) (c.operand.ensures.first rest) ∙ ap Some (sym term)) in
+    let round = ap (λ v. view.round c.in_ok-made.made (resolved.rounds v v rest)) (sym behind) ∙ made ∙ ap (λ v. resolved.rounds s v (clause_of c.clause_at-clause.result.now rest)) behind in (
+      ap (λ b. b && rest_scoped s s rest) (sym kept)
+          ∙ sym (c.operand.ensures.scoped s s rest)
+          ∙ ap (λ d. rest_scoped s s (rests d)) (sym here)
+          ∙ c.loop-i.invariant.0,
+      ap (λ ks. rounds_onto (map view.round ks) (resolved.rounds s s rest)) c.in_ok-push.ensures.items
+          ∙ onto_last (λ f r. f r) view.round c.loop-i.found.items c.in_ok-made.made (resolved.rounds s s rest)
+          ∙ ap (rounds_onto found) round
+          ∙ ap (λ d. rounds_onto found (resolved.rounds s s (rests d))) (sym here)
+          ∙ c.loop-i.invariant.1,
+      behind,
+    )

@@ -1,8 +1,8 @@
-use Rattle.std.proofs.Common.{◌≡◌, ◌+◌, ◌∙◌, ap, drop, map, sym, rules, arith}
-use Rattle.std.proofs.lemmas.Grind.{common_steps}
+use Rattle.std.proofs.Common.{◌&&◌, ◌+◌, ◌∙◌, ap, drop, map, sym}
 use Rattle.syntax.specs.ProgramView as view
 use Rattle.syntax.specs.ProgramView.{terms_onto}
 use Rattle.syntax.specs.Resolved as resolved
+use Rattle.syntax.specs.Scopes.{scoped, trees_scoped}
 use Rattle.grammar.specs.TreeView.{tree_of, trees}
 use Rattle.syntax.proofs.ProgramLemmas.{onto_last}
 use Rattle.syntax.proofs.resolver.Resolver.all.Goals as goal
@@ -10,14 +10,19 @@ use Rattle.syntax.proofs.resolver.Resolver.all.Goals as goal
 pub loop-i-preserved : goal.loop-i-preserved
 loop-i-preserved g c =
     let s = c.args.scope.now in
-    let rest = resolved.terms s (trees (drop (c.loop-i.i + 1) c.args.exprs.now)) in
-    let here = ap (λ d. resolved.terms s (trees d)) c.expr_at.ensures in
-    let more = onto_last resolved.more_terms view.term c.loop-i.found.items c.in_ok-term.term rest in
-    let told = c.in_ok-term.ensures.0 ∙ ap (λ v. resolved.term v (tree_of c.expr_at.result.now)) c.loop-i.invariant.1 in (
-      ap (λ ts. terms_onto (map view.term ts) rest) c.in_ok-push.ensures.items
-          ∙ more
-          ∙ ap (λ t. terms_onto (map view.term c.loop-i.found.items) (resolved.more_terms t rest)) told
-          ∙ ap (terms_onto (map view.term c.loop-i.found.items)) (sym here)
+    let e = tree_of c.expr_at.result.now in
+    let rest = trees (drop (c.loop-i.i + 1) c.args.exprs.now) in
+    let found = map view.term c.loop-i.found.items in
+    let same = c.loop-i.invariant.2 in
+    let told = c.in_ok-term.ensures in
+    let kept = sym (ap (λ v. scoped v e) same) ∙ told.0 in (
+      ap (λ b. b && trees_scoped s rest) (sym kept)
+          ∙ ap (λ d. trees_scoped s (trees d)) (sym c.expr_at.ensures)
           ∙ c.loop-i.invariant.0,
-      c.in_ok-term.ensures.1 ∙ c.loop-i.invariant.1,
+      ap (λ ts. terms_onto (map view.term ts) (resolved.terms s rest)) c.in_ok-push.ensures.items
+          ∙ onto_last resolved.more_terms view.term c.loop-i.found.items c.in_ok-term.term (resolved.terms s rest)
+          ∙ ap (λ t. terms_onto found (resolved.more_terms t (resolved.terms s rest))) (told.1 ∙ ap (λ v. resolved.term v e) same)
+          ∙ ap (λ d. terms_onto found (resolved.terms s (trees d))) (sym c.expr_at.ensures)
+          ∙ c.loop-i.invariant.1,
+      told.2 ∙ same,
     )

@@ -2,10 +2,13 @@ use Rattle.std.proofs.Common.{◌≡◌, drop, map}
 use Rattle.syntax.specs.ProgramView as view
 use Rattle.syntax.specs.ProgramView.{terms_onto}
 use Rattle.syntax.specs.Resolved as resolved
+use Rattle.syntax.specs.Scopes.{trees_scoped}
 use Rattle.grammar.specs.TreeView.{trees}
 use Rattle.syntax.proofs.resolver.Resolver.all.Given as goal
 
--- what was resolved, before what is left
+-- what is left breaks no rule where all breaks none, and stands behind what was resolved
 abbrev pub invariant-loop-i : goal.invariant-loop-i
 invariant-loop-i g l =
-    (terms_onto (map view.term l.found.items) (resolved.terms l.initial.scope (trees (drop l.i l.exprs))) ≡ resolved.terms l.initial.scope (trees l.exprs)) × (l.scope ≡ l.initial.scope)
+    (trees_scoped l.initial.scope (trees (drop l.i l.exprs)) ≡ trees_scoped l.initial.scope (trees l.exprs))
+    × (terms_onto (map view.term l.found.items) (resolved.terms l.initial.scope (trees (drop l.i l.exprs))) ≡ resolved.terms l.initial.scope (trees l.exprs))
+    × (l.scope ≡ l.initial.scope)

@@ -2,10 +2,13 @@ use Rattle.std.proofs.Common.{◌≡◌, drop, map}
 use Rattle.syntax.specs.ProgramView as view
 use Rattle.syntax.specs.ProgramView.{keywords_onto}
 use Rattle.syntax.specs.Resolved as resolved
+use Rattle.syntax.specs.Scopes.{keywords_scoped}
 use Rattle.grammar.specs.TreeView.{keywords}
 use Rattle.syntax.proofs.resolver.Resolver.arguments.Given as goal
 
--- what was resolved, before what is left
+-- what is left breaks no rule where all breaks none, and stands behind what was resolved
 abbrev pub invariant-loop-i : goal.invariant-loop-i
 invariant-loop-i g l =
-    (keywords_onto (map view.argument l.found.items) (resolved.keywords l.initial.scope (keywords (drop l.i l.named))) ≡ resolved.keywords l.initial.scope (keywords l.named)) × (l.scope ≡ l.initial.scope)
+    (keywords_scoped l.initial.scope (keywords (drop l.i l.named)) ≡ keywords_scoped l.initial.scope (keywords l.named))
+    × (keywords_onto (map view.argument l.found.items) (resolved.keywords l.initial.scope (keywords (drop l.i l.named))) ≡ resolved.keywords l.initial.scope (keywords l.named))
+    × (l.scope ≡ l.initial.scope)

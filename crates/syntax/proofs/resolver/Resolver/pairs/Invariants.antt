@@ -2,10 +2,13 @@ use Rattle.std.proofs.Common.{◌≡◌, drop, map}
 use Rattle.syntax.specs.ProgramView as view
 use Rattle.syntax.specs.ProgramView.{pairs_onto}
 use Rattle.syntax.specs.Resolved as resolved
+use Rattle.syntax.specs.Scopes.{entries_scoped}
 use Rattle.grammar.specs.TreeView.{entries}
 use Rattle.syntax.proofs.resolver.Resolver.pairs.Given as goal
 
--- what was resolved, before what is left
+-- what is left breaks no rule where all breaks none, and stands behind what was resolved
 abbrev pub invariant-loop-i : goal.invariant-loop-i
 invariant-loop-i g l =
-    (pairs_onto (map view.pair l.found.items) (resolved.pairs l.initial.scope (entries (drop l.i l.written))) ≡ resolved.pairs l.initial.scope (entries l.written)) × (l.scope ≡ l.initial.scope)
+    (entries_scoped l.initial.scope (entries (drop l.i l.written)) ≡ entries_scoped l.initial.scope (entries l.written))
+    × (pairs_onto (map view.pair l.found.items) (resolved.pairs l.initial.scope (entries (drop l.i l.written))) ≡ resolved.pairs l.initial.scope (entries l.written))
+    × (l.scope ≡ l.initial.scope)

@@ -1,0 +1,15 @@
+use Rattle.std.proofs.Common.{◌≡◌, drop, map}
+use Rattle.std.specs.List.{list_all}
+use Rattle.grammar.specs.LineView.{param_of}
+use Rattle.syntax.specs.ProgramView as view
+use Rattle.syntax.specs.ProgramView.{terms_onto}
+use Rattle.syntax.specs.Resolved.{defaults}
+use Rattle.syntax.specs.Scopes.{param_scoped}
+use Rattle.syntax.proofs.heads.defaults.Given as goal
+
+-- what is left breaks no rule where all breaks none, and stands behind what was resolved
+abbrev pub invariant-loop-i : goal.invariant-loop-i
+invariant-loop-i l =
+    (list_all (param_scoped l.initial.scope) (map param_of (drop l.i l.params)) ≡ list_all (param_scoped l.initial.scope) (map param_of l.params))
+    × (terms_onto (map view.term l.found.items) (defaults l.initial.scope (map param_of (drop l.i l.params))) ≡ defaults l.initial.scope (map param_of l.params))
+    × (l.scope ≡ l.initial.scope)

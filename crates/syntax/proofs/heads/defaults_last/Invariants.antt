@@ -1,0 +1,8 @@
+use Rattle.std.proofs.Common.{◌≡◌, drop, map, if◌then◌else◌}
+use Rattle.std.specs.List.{list_all}
+use Rattle.grammar.specs.LineView.{param_of}
+use Rattle.syntax.specs.Scopes.{defaults_last, has_default}
+use Rattle.syntax.proofs.heads.defaults_last.Given as goal
+
+abbrev pub invariant-loop-i : goal.invariant-loop-i
+invariant-loop-i l = defaults_last (map param_of l.params) ≡ (if l.had_default then list_all has_default (map param_of (drop l.i l.params)) else defaults_last (map param_of (drop l.i l.params)))

@@ -1,0 +1,7 @@
+use Rattle.std.proofs.Common.{◌≡◌, drop, map}
+use Rattle.grammar.specs.LineView.{item_of}
+use Rattle.syntax.specs.Scopes.{none_predeclared}
+use Rattle.syntax.proofs.heads.items_are_free.Given as goal
+
+abbrev pub invariant-loop-i : goal.invariant-loop-i
+invariant-loop-i l = none_predeclared (map (λ i. i.binds) (map item_of l.items)) ≡ none_predeclared (map (λ i. i.binds) (map item_of (drop l.i l.items)))

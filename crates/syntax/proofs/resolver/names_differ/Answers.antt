@@ -1,0 +1,14 @@
+use Rattle.std.proofs.Common.{◌≡◌, ◌<◌, List, [], ◌∷◌, length, refl, true, arith}
+use Rattle.grammar.specs.declared.tree.Keyword.{Keyword}
+use Rattle.grammar.specs.TreeView.{keywords}
+use Rattle.syntax.specs.Names.{distinct}
+use Rattle.syntax.specs.Scopes.{keyword_names}
+use Rattle.syntax.proofs.resolver.names_differ.Goals as goal
+
+few_differ : (ks : List Keyword) → length ks < 2 → true ≡ distinct (keyword_names (keywords ks))
+few_differ [] h = refl
+few_differ (k ∷ []) h = refl
+few_differ (k ∷ j ∷ ks) h = absurd (omega (arith, h))
+
+pub returns-in-empty : goal.returns-in-empty
+returns-in-empty c = few_differ c.args.named.now c.in-empty.len_below

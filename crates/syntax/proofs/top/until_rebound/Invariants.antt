@@ -1,0 +1,14 @@
+use Rattle.std.proofs.Common.{◌≡◌, [], drop, map, take}
+use Rattle.grammar.specs.BareLines.{Lines, no_lines}
+use Rattle.grammar.specs.LineView.{line_of, lines}
+use Rattle.syntax.specs.Names.{Scope, or_else}
+use Rattle.syntax.specs.ProgramView.{onto}
+use Rattle.syntax.specs.Scopes.{lines_fault, top_fault}
+use Rattle.syntax.proofs.top.until_rebound.Given as goal
+
+-- the lines before this one break no rule of the top level, so that only the rules of functions are left for them; and
+-- the first that breaks one is among them, or behind them
+abbrev pub invariant-loop-i : goal.invariant-loop-i
+invariant-loop-i l =
+    ((s : Scope) → top_fault s [] (lines l.lines) ≡ or_else (lines_fault s (onto (λ f r. f r) (map line_of (take l.i l.lines)) no_lines)) (top_fault s l.before.keys (lines (drop l.i l.lines))))
+    × ((s : Scope) (rest : Lines) → lines_fault s (onto (λ f r. f r) (map line_of (take l.i l.lines)) rest) ≡ or_else (lines_fault s (onto (λ f r. f r) (map line_of (take l.i l.lines)) no_lines)) (lines_fault s rest))

@@ -1,0 +1,258 @@
+//! Resolving the names of a line, but for those of its block, by the rules of scopes: what a line binds and the parameters
+//! of a function are not predeclared, parameters are distinct, and those with defaults come last.
+
+ghost use Rattle.std.specs.Prelude.{◌≡◌, ◌&&◌, IfOk, map};
+ghost use Rattle.std.specs.List.{list_all};
+ghost use Rattle.grammar.specs.BareLines.{defines};
+ghost use Rattle.grammar.specs.LineView.{form_of, item_of, param_of};
+ghost use Rattle.grammar.specs.TreeView.{tree_of};
+ghost use Rattle.syntax.specs.Names.{form_binds, param_name};
+ghost use Rattle.syntax.specs.ProgramView as view;
+ghost use Rattle.syntax.specs.ProgramView.{terms_onto};
+ghost use Rattle.syntax.specs.Resolved as resolved;
+ghost use Rattle.syntax.specs.Resolved.{Terms, binding_of, defaults, with_default};
+ghost use Rattle.syntax.specs.Resolves.{Gives, GivesHead, GivesTerm, Keeps};
+ghost use Rattle.syntax.specs.Scopes.{defaults_last, form_scoped, line_scoped, none_predeclared, param_scoped, scoped};
+
+use crate::bound::add_params;
+use crate::items::{item_at, param_at};
+use crate::names::Binding;
+use crate::program::{Loaded, Statement, Term};
+use crate::resolver::{Unresolved, bindings, resolve};
+use crate::scope::{Scope, are_distinct, is_free, none_predeclared};
+use grammar::{Expr, Form, Item, MAX_DEPTH, Param};
+use plain::Text;
+use std::alloc::{AllocError, Global};
+
+/// A line with its names resolved, without the lines of its block.
+#[derive(Drop)]
+pub(crate) enum Head {
+    /// A whole statement.
+    Simple(Statement),
+    /// `if TEST:` or `elif TEST:`.
+    If(Term),
+    Else,
+    For(Vec<Binding>, Term),
+    /// `def`, with the names of its parameters, and the defaults of the last of them.
+    Def(Binding, Vec<Text>, Vec<Term>),
+}
+
+fn term(alloc: Global, scope: &mut Scope, expr: &Expr) -> Result<Term, Unresolved>
+    ensures { GivesTerm (tree_of expr.now) scope.old result scope.new }
+{
+    resolve(alloc, scope, expr, MAX_DEPTH)
+}
+
+/// Whether no name that a `load` binds is predeclared.
+fn items_are_free(items: &[Item]) -> bool
+    ensures { result ≡ none_predeclared (map (λ i. i.binds) (map item_of items.now)) }
+{
+    for i in 0..items.len() {
+        if !is_free(&item_at(items, i).binds) {
+            return false;
+        }
+    }
+    true
+}
+
+/// Whether no name that a line binds is predeclared.
+fn binds_free(form: &Form) -> bool
+    ensures { result ≡ none_predeclared (form_binds (form_of form.now)) }
+{
+    match form {
+        Form::Load(_, items) => items_are_free(items.as_slice()),
+        Form::For(first, others, _) | Form::Assign(first, others, _) => {
+            is_free(first) && none_predeclared(others.as_slice())
+        }
+        Form::Def(name, _) | Form::Add(name, _) => is_free(name),
+        Form::If(_)
+        | Form::Elif(_)
+        | Form::Else
+        | Form::AssignAt(_, _, _)
+        | Form::AddAt(_, _, _)
+        | Form::Evaluate(_)
+        | Form::Pass
+        | Form::Break
+        | Form::Continue
+        | Form::Return(_) => true,
+    }
+}
+
+/// Whether the parameters with defaults come last.
+fn defaults_last(params: &[Param]) -> bool
+    ensures { result ≡ defaults_last (map param_of params.now) }
+{
+    let mut had_default = false;
+    for i in 0..params.len() {
+        match param_at(params, i) {
+            Param::Optional(_, _) => had_default = true,
+            Param::Required(_) => {
+                if had_default {
+                    return false;
+                }
+            }
+        }
+    }
+    true
+}
+
+/// Adds the default of a parameter, if it has one.
+fn add_default(
+    alloc: Global,
+    scope: &mut Scope,
+    found: &mut Vec<Term>,
+    param: &Param,
+) -> Result<(), Unresolved>
+    ensures kept { Keeps (λ s. param_scoped s (param_of param.now)) scope.old result scope.new }
+    ensures found { IfOk result (λ _. (r : Terms) → terms_onto (map view.term found.new.items) r ≡ terms_onto (map view.term found.old.items) (with_default scope.old (param_of param.now) r)) }
+{
+    match param {
+        Param::Required(_) => Ok(()),
+        Param::Optional(_, default) => {
+            let value = term(alloc, scope, default)?;
+            found.push(value)?;
+            Ok(())
+        }
+    }
+}
+
+/// The defaults of the last parameters.
+fn defaults(alloc: Global, scope: &mut Scope, params: &[Param]) -> Result<Vec<Term>, Unresolved>
+    ensures { Gives (λ v. view.terms v.items) (λ s. list_all (param_scoped s) (map param_of params.now)) (λ s. defaults s (map param_of params.now)) scope.old result scope.new }
+{
+    let mut found = Vec::new(alloc);
+    for i in 0..params.len() {
+        add_default(alloc, scope, &mut found, param_at(params, i))?;
+    }
+    Ok(found)
+}
+
+/// What a `load` binds.
+fn loaded(alloc: Global, scope: &Scope, items: &[Item]) -> Result<Vec<Loaded>, AllocError>
+    ensures { IfOk result (λ v. v.items ≡ map (λ i. record { asked = i.asked; binds = binding_of scope.now i.binds }) (map item_of items.now)) }
+{
+    let mut found = Vec::new(alloc);
+    for i in 0..items.len() {
+        let item = item_at(items, i);
+        found.push(Loaded {
+            asked: item.asked.share()?,
+            binds: scope.binding(&item.binds),
+        })?;
+    }
+    Ok(found)
+}
+
+/// A `load`.
+fn load(alloc: Global, scope: &Scope, path: &Text, items: &[Item]) -> Result<Statement, AllocError>
+    ensures { IfOk result (λ l. view.statement l ≡ resolved.load path.now (map (λ i. record { asked = i.asked; binds = binding_of scope.now i.binds }) (map item_of items.now))) }
+{
+    let items = loaded(alloc, scope, items)?;
+    let path = path.share()?;
+    Ok(Statement::Load(path, items))
+}
+
+/// The names of parameters.
+fn param_names(alloc: Global, params: &[Param]) -> Result<Vec<Text>, AllocError>
+    ensures { IfOk result (λ v. v.items ≡ map param_name (map param_of params.now)) }
+{
+    let mut names = Vec::new(alloc);
+    add_params(&mut names, params)?;
+    Ok(names)
+}
+
+/// The head of a function.
+fn def(alloc: Global, scope: &mut Scope, name: &Text, params: &[Param]) -> Result<Head, Unresolved>
+    ensures { GivesHead form_scoped (defines name.now (map param_of params.now)) scope.old result scope.new }
+{
+    let names = param_names(alloc, params)?;
+    if !are_distinct(alloc, names.as_slice())? {
+        return Err(Unresolved::Breaks);
+    }
+    if !defaults_last(params) {
+        return Err(Unresolved::Breaks);
+    }
+    if !none_predeclared(names.as_slice()) {
+        return Err(Unresolved::Breaks);
+    }
+    let defaults = defaults(alloc, scope, params)?;
+    Ok(Head::Def(scope.binding(name), names, defaults))
+}
+
+/// The parts of `BASE[INDEX] = VALUE`, or of the same with `+=`.
+fn three(
+    alloc: Global,
+    scope: &mut Scope,
+    base: &Expr,
+    at: &Expr,
+    value: &Expr,
+) -> Result<(Box<Term>, Box<Term>, Term), Unresolved>
+    ensures { Gives {B = resolved.Term × resolved.Term × resolved.Term} (λ t. (view.term t.0.value, view.term t.1.value, view.term t.2)) (λ s. scoped s (tree_of base.now) && (scoped s (tree_of at.now) && scoped s (tree_of value.now))) (λ s. (resolved.term s (tree_of base.now), resolved.term s (tree_of at.now), resolved.term s (tree_of value.now))) scope.old result scope.new }
+{
+    let base = term(alloc, scope, base)?;
+    let at = term(alloc, scope, at)?;
+    let value = term(alloc, scope, value)?;
+    Ok((Box::new(alloc, base)?, Box::new(alloc, at)?, value))
+}
+
+/// A line without the rule on what it binds.
+fn form_head(alloc: Global, scope: &mut Scope, form: &Form) -> Result<Head, Unresolved>
+    ensures { GivesHead form_scoped (form_of form.now) scope.old result scope.new }
+{
+    match form {
+        Form::Load(path, items) => {
+            let made = load(alloc, scope, path, items.as_slice())?;
+            Ok(Head::Simple(made))
+        }
+        Form::Def(name, params) => def(alloc, scope, name, params.as_slice()),
+        Form::If(test) | Form::Elif(test) => Ok(Head::If(term(alloc, scope, test)?)),
+        Form::Else => Ok(Head::Else),
+        Form::For(first, others, operand) => {
+            let names = bindings(alloc, scope, first, others.as_slice())?;
+            Ok(Head::For(names, term(alloc, scope, operand)?))
+        }
+        Form::Assign(first, others, value) => {
+            let names = bindings(alloc, scope, first, others.as_slice())?;
+            let value = term(alloc, scope, value)?;
+            Ok(Head::Simple(Statement::Assign(names, value)))
+        }
+        Form::AssignAt(base, at, value) => {
+            let (base, at, value) = three(alloc, scope, base, at, value)?;
+            Ok(Head::Simple(Statement::AssignAt(base, at, value)))
+        }
+        Form::Add(name, value) => {
+            let value = term(alloc, scope, value)?;
+            Ok(Head::Simple(Statement::Add(scope.binding(name), value)))
+        }
+        Form::AddAt(base, at, value) => {
+            let (base, at, value) = three(alloc, scope, base, at, value)?;
+            Ok(Head::Simple(Statement::AddAt(base, at, value)))
+        }
+        Form::Evaluate(value) => {
+            let value = term(alloc, scope, value)?;
+            Ok(Head::Simple(Statement::Evaluate(value)))
+        }
+        Form::Pass => Ok(Head::Simple(Statement::Pass)),
+        Form::Break => Ok(Head::Simple(Statement::Break)),
+        Form::Continue => Ok(Head::Simple(Statement::Continue)),
+        Form::Return(Some(value)) => {
+            let value = term(alloc, scope, value)?;
+            Ok(Head::Simple(Statement::Return(Some(value))))
+        }
+        Form::Return(None) => Ok(Head::Simple(Statement::Return(None))),
+    }
+}
+
+/// A line, but for its block.
+///
+/// # Errors
+///
+/// [`Unresolved::Breaks`] where it breaks a rule of scopes. [`Unresolved::NoMemory`] where memory was refused, or an
+/// expression is deeper than those of any text that was read.
+pub(crate) fn line_head(alloc: Global, scope: &mut Scope, form: &Form) -> Result<Head, Unresolved>
+    ensures { GivesHead line_scoped (form_of form.now) scope.old result scope.new }
+{
+    if !binds_free(form) {
+        return Err(Unresolved::Breaks);
+    }
+    form_head(alloc, scope, form)
+}

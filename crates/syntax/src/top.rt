@@ -1,0 +1,65 @@
+//! The rules of what the top level of a file binds: no name a second time, and nothing is added to one.
+
+ghost use Rattle.std.specs.Prelude.{◌≡◌, ◌++◌, [], ℕ, List, None, IfOk, true};
+ghost use Rattle.grammar.specs.LineView as view;
+ghost use Rattle.grammar.specs.LineView.{form_of};
+ghost use Rattle.syntax.specs.Names.{Scope as Around, among, file_scope, form_binds, or_else};
+ghost use Rattle.syntax.specs.Resolves.{binds_anew};
+ghost use Rattle.syntax.specs.Scopes.{adds_to_name, lines_fault, top_fault};
+
+use crate::bound::{add_lines, form_names};
+use crate::items::line_at;
+use crate::scope::{Scope, bind_anew};
+use grammar::{Form, Line};
+use indexmap::IndexSet;
+use plain::Text;
+use std::alloc::{AllocError, Global};
+
+/// The scope of the top level of a file.
+///
+/// # Errors
+///
+/// Where memory was refused; or where blocks are deeper than those of any text that was read.
+pub(crate) fn file_scope(alloc: Global, lines: &[Line]) -> Result<Scope, AllocError>
+    ensures { IfOk result (λ s. s ≡ file_scope (view.lines lines.now)) }
+{
+    let mut names = Vec::new(alloc);
+    add_lines(&mut names, lines)?;
+    Scope::new(alloc, names.as_slice())
+}
+
+fn adds_to_name(form: &Form) -> bool
+    ensures { result ≡ adds_to_name (form_of form.now) }
+{
+    matches!(form, Form::Add(_, _))
+}
+
+/// Binds what a line of the top level binds beside the names that were bound before, and tells whether it may.
+fn binds_anew(alloc: Global, before: &mut IndexSet<Text>, form: &Form) -> Result<bool, AllocError>
+    ensures told { IfOk result (λ b. b ≡ binds_anew before.old.keys (form_of form.now)) }
+    ensures bound { IfOk result (λ b. b ≡ true → (x : List ℕ) → among x before.new.keys ≡ among x (form_binds (form_of form.now) ++ before.old.keys)) }
+{
+    let names = form_names(alloc, form)?;
+    if !bind_anew(before, names.as_slice())? {
+        return Ok(false);
+    }
+    Ok(!adds_to_name(form))
+}
+
+/// The lines of a top level before the first that binds what it may not, and the number of that line.
+pub(crate) fn until_rebound(
+    alloc: Global,
+    lines: &[Line],
+) -> Result<(&[Line], Option<usize>), AllocError>
+    ensures found { IfOk result (λ r. (s : Around) → top_fault s [] (view.lines lines.now) ≡ or_else (lines_fault s (view.lines r.0.now)) r.1) }
+    ensures whole { IfOk result (λ r. r.1 ≡ None → r.0.now ≡ lines.now) }
+{
+    let mut before = IndexSet::new(alloc);
+    for i in 0..lines.len() {
+        let line = line_at(lines, i);
+        if !binds_anew(alloc, &mut before, &line.form)? {
+            return Ok((&lines[..i], Some(line.number)));
+        }
+    }
+    Ok((lines, None))
+}
