@@ -1,5 +1,7 @@
 -- Things put before others, and comprehensions without clauses.
-use Rattle.std.proofs.Common.{◌≡◌, ℕ, List, [], ◌∷◌, ◌++◌, ◌∙◌, map, Option, Some, None, refl, ap, sym}
+use Rattle.std.proofs.Common.{◌≡◌, ◌<◌, ◌+◌, ℕ, suc, List, [], ◌∷◌, ◌++◌, ◌∙◌, drop, length, map, Option, Some, None, refl, ap, sym, arith}
+use Rattle.std.proofs.Math.ListN.{get_or}
+use Rattle.std.proofs.Math.Seq.{drop-cons}
 use Rattle.std.specs.Prelude.{option_map}
 use Rattle.grammar.specs.Bare.{Tree, Rest, done, for_each, only_if}
 use Rattle.syntax.specs.ProgramView.{onto}
@@ -8,6 +10,12 @@ use Rattle.grammar.specs.BareLines.{Form, Lines, a_line, no_lines}
 use Rattle.grammar.specs.LineView.{lines_of}
 use Rattle.syntax.specs.Names.{Scope, scope_of}
 use Rattle.syntax.specs.Resolved.{Role, Statement, Steps, before, other_branch, other_steps, role_of, statement, steps_of}
+
+-- a list from a place on
+pub drop_at : {A : Type 0} (xs : List A) (i : ℕ) (x : A) → i < length xs → x ≡ get_or xs i x → drop i xs ≡ x ∷ drop (i + 1) xs
+drop_at xs i x h e =
+    let next : suc i ≡ i + 1 = omega (arith) in
+    drop-cons xs i x h ∙ ap (λ y. y ∷ drop (suc i) xs) (sym e) ∙ ap (λ n. x ∷ drop n xs) next
 
 pub onto_last : {A B R : Type 0} (f : B → R → R) (g : A → B) (xs : List A) (x : A) (r : R) → onto f (map g (xs ++ x ∷ [])) r ≡ onto f (map g xs) (f (g x) r)
 onto_last f g [] x r = refl

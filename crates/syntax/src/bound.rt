@@ -10,7 +10,6 @@ ghost use Rattle.grammar.specs.TreeView.{clause_of, rests};
 ghost use Rattle.syntax.specs.Names as names;
 ghost use Rattle.syntax.specs.Names.{Name, form_binds, lines_bind, param_name, passed_on};
 
-use crate::items::{clause_at, item_at, line_at, param_at};
 use crate::scope::add_names;
 use grammar::{Clause, Form, Item, Line, Param};
 use plain::Text;
@@ -20,8 +19,8 @@ use std::alloc::{AllocError, Global};
 fn add_items(found: &mut Vec<Text>, items: &[Item]) -> Result<(), AllocError>
     ensures { OnOk result (found.new.items ≡ found.old.items ++ map (λ i. i.binds) (map item_of items.now)) }
 {
-    for i in 0..items.len() {
-        found.push(item_at(items, i).binds.share()?)?;
+    for item in items {
+        found.push(item.binds.share()?)?;
     }
     Ok(())
 }
@@ -73,8 +72,8 @@ pub(crate) fn form_names(alloc: Global, form: &Form) -> Result<Vec<Text>, AllocE
 pub(crate) fn add_params(found: &mut Vec<Text>, params: &[Param]) -> Result<(), AllocError>
     ensures { OnOk result (found.new.items ≡ found.old.items ++ map param_name (map param_of params.now)) }
 {
-    for i in 0..params.len() {
-        match param_at(params, i) {
+    for param in params {
+        match param {
             Param::Required(name) | Param::Optional(name, _) => found.push(name.share()?)?,
         }
     }
@@ -126,8 +125,8 @@ pub(crate) fn clause_names(alloc: Global, clauses: &[Clause]) -> Result<Vec<Text
     ensures { IfOk result (λ v. v.items ≡ names.clause_names (rests clauses.now)) }
 {
     let mut found = Vec::new(alloc);
-    for i in 0..clauses.len() {
-        add_clause(&mut found, clause_at(clauses, i))?;
+    for clause in clauses {
+        add_clause(&mut found, clause)?;
     }
     Ok(found)
 }

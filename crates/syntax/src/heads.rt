@@ -15,7 +15,6 @@ ghost use Rattle.syntax.specs.Resolves.{Gives, GivesHead, GivesTerm, Keeps};
 ghost use Rattle.syntax.specs.Scopes.{defaults_last, form_scoped, line_scoped, none_predeclared, param_scoped, scoped};
 
 use crate::bound::add_params;
-use crate::items::{item_at, param_at};
 use crate::names::Binding;
 use crate::program::{Loaded, Statement, Term};
 use crate::resolver::{Unresolved, bindings, resolve};
@@ -47,8 +46,8 @@ fn term(alloc: Global, scope: &mut Scope, expr: &Expr) -> Result<Term, Unresolve
 fn items_are_free(items: &[Item]) -> bool
     ensures { result ≡ none_predeclared (map (λ i. i.binds) (map item_of items.now)) }
 {
-    for i in 0..items.len() {
-        if !is_free(&item_at(items, i).binds) {
+    for item in items {
+        if !is_free(&item.binds) {
             return false;
         }
     }
@@ -83,8 +82,8 @@ fn defaults_last(params: &[Param]) -> bool
     ensures { result ≡ defaults_last (map param_of params.now) }
 {
     let mut had_default = false;
-    for i in 0..params.len() {
-        match param_at(params, i) {
+    for param in params {
+        match param {
             Param::Optional(_, _) => had_default = true,
             Param::Required(_) => {
                 if had_default {
@@ -121,8 +120,8 @@ fn defaults(alloc: Global, scope: &mut Scope, params: &[Param]) -> Result<Vec<Te
     ensures { Gives (λ v. view.terms v.items) (λ s. list_all (param_scoped s) (map param_of params.now)) (λ s. defaults s (map param_of params.now)) scope.old result scope.new }
 {
     let mut found = Vec::new(alloc);
-    for i in 0..params.len() {
-        add_default(alloc, scope, &mut found, param_at(params, i))?;
+    for param in params {
+        add_default(alloc, scope, &mut found, param)?;
     }
     Ok(found)
 }
@@ -132,8 +131,7 @@ fn loaded(alloc: Global, scope: &Scope, items: &[Item]) -> Result<Vec<Loaded>, A
     ensures { IfOk result (λ v. v.items ≡ map (λ i. record { asked = i.asked; binds = binding_of scope.now i.binds }) (map item_of items.now)) }
 {
     let mut found = Vec::new(alloc);
-    for i in 0..items.len() {
-        let item = item_at(items, i);
+    for item in items {
         found.push(Loaded {
             asked: item.asked.share()?,
             binds: scope.binding(&item.binds),

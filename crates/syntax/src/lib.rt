@@ -9,7 +9,6 @@
 mod bound;
 pub mod file_laws;
 mod heads;
-mod items;
 mod levels;
 mod names;
 mod parsing;

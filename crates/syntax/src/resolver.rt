@@ -16,7 +16,6 @@ ghost use Rattle.syntax.specs.Scopes.{entries_scoped, keyword_names, keywords_sc
 ghost use Rattle.grammar.specs.TreeView.{clause_of, entries, entry_of, keyword_of, keywords, operator_seen, rests, tree_of, trees};
 
 use crate::bound::clause_names;
-use crate::items::{clause_at, entry_at, expr_at, keyword_at, name_at};
 use crate::names::Binding;
 use crate::program::{
     Argument, Pair, Round, Term, attribute, binary, call, choice, dict_each, dict_of, entry, index,
@@ -69,8 +68,8 @@ pub(crate) fn bindings(
 {
     let mut found = Vec::new(alloc);
     found.push(scope.binding(first))?;
-    for i in 0..others.len() {
-        found.push(scope.binding(name_at(others, i)))?;
+    for other in others {
+        found.push(scope.binding(other))?;
     }
     Ok(found)
 }
@@ -129,8 +128,8 @@ fn argument_names(alloc: Global, named: &[Keyword]) -> Result<Vec<Text>, AllocEr
     ensures { IfOk result (λ v. v.items ≡ keyword_names (keywords named.now)) }
 {
     let mut found = Vec::new(alloc);
-    for i in 0..named.len() {
-        found.push(keyword_at(named, i).name.share()?)?;
+    for keyword in named {
+        found.push(keyword.name.share()?)?;
     }
     Ok(found)
 }
@@ -170,8 +169,8 @@ impl<F: Fn(Global, &mut Scope, &Expr, usize) -> Result<Term, Unresolved>> Resolv
         ensures { Gives (λ v. view.terms v.items) (λ s. trees_scoped s (trees exprs.now)) (λ s. resolved.terms s (trees exprs.now)) scope.old result scope.new }
     {
         let mut found = Vec::with_capacity(self.alloc, exprs.len())?;
-        for i in 0..exprs.len() {
-            let term = self.one(scope, expr_at(exprs, i))?;
+        for expr in exprs {
+            let term = self.one(scope, expr)?;
             found.push(term)?;
         }
         Ok(found)
@@ -182,8 +181,8 @@ impl<F: Fn(Global, &mut Scope, &Expr, usize) -> Result<Term, Unresolved>> Resolv
         ensures { Gives (λ v. view.pairs v.items) (λ s. entries_scoped s (entries written.now)) (λ s. resolved.pairs s (entries written.now)) scope.old result scope.new }
     {
         let mut found = Vec::with_capacity(self.alloc, written.len())?;
-        for i in 0..written.len() {
-            let read = parts_of(entry_at(written, i));
+        for pair in written {
+            let read = parts_of(pair);
             let key = self.one(scope, read.0)?;
             let value = self.one(scope, read.1)?;
             let made = entry(key, value);
@@ -197,8 +196,8 @@ impl<F: Fn(Global, &mut Scope, &Expr, usize) -> Result<Term, Unresolved>> Resolv
         ensures { Gives (λ v. view.keywords v.items) (λ s. keywords_scoped s (keywords named.now)) (λ s. resolved.keywords s (keywords named.now)) scope.old result scope.new }
     {
         let mut found = Vec::with_capacity(self.alloc, named.len())?;
-        for i in 0..named.len() {
-            let read = named_value(keyword_at(named, i));
+        for argument in named {
+            let read = named_value(argument);
             let value = self.one(scope, read.1)?;
             let name = read.0.share()?;
             let made = keyword(name, value);
@@ -291,8 +290,7 @@ impl<F: Fn(Global, &mut Scope, &Expr, usize) -> Result<Term, Unresolved>> Resolv
         requires { ResolvesInside self.now.turns (F.pre self.now.inside) (F.post self.now.inside) }
         ensures { Gives (λ _. view.rounds found.new.items) (λ s. rest_scoped s s (rests clauses.now)) (λ s. rounds_onto (map view.round found.old.items) (resolved.rounds s s (rests clauses.now))) scope.old result scope.new }
     {
-        for i in 0..clauses.len() {
-            let clause = clause_at(clauses, i);
+        for clause in clauses {
             let value = self.one(scope, operand(clause))?;
             let made = round(self.alloc, scope, clause, value)?;
             found.push(made)?;

@@ -6,7 +6,6 @@ ghost use Rattle.syntax.specs.Resolved.{binding_of};
 ghost use Rattle.syntax.specs.Scopes.{none_predeclared};
 ghost use Rattle.syntax.specs.ScopeView.{entered, in_function, left};
 
-use crate::items::name_at;
 use crate::levels::Levels;
 use crate::names::{Binding, predeclared_as};
 use indexmap::IndexSet;
@@ -19,8 +18,8 @@ use std::mem;
 pub(crate) fn add_names(found: &mut Vec<Text>, names: &[Text]) -> Result<(), AllocError>
     ensures { OnOk result (found.new.items ≡ found.old.items ++ names.now) }
 {
-    for i in 0..names.len() {
-        found.push(name_at(names, i).share()?)?;
+    for name in names {
+        found.push(name.share()?)?;
     }
     Ok(())
 }
@@ -36,8 +35,8 @@ pub(crate) fn is_free(name: &Text) -> bool
 pub(crate) fn none_predeclared(names: &[Text]) -> bool
     ensures { result ≡ none_predeclared names.now }
 {
-    for i in 0..names.len() {
-        if !is_free(name_at(names, i)) {
+    for name in names {
+        if !is_free(name) {
             return false;
         }
     }
@@ -49,8 +48,8 @@ fn once(alloc: Global, names: &[Text]) -> Result<IndexSet<Text>, AllocError>
     ensures { IfOk result (λ s. s.keys ≡ once names.now) }
 {
     let mut set = IndexSet::new(alloc);
-    for i in 0..names.len() {
-        set.insert(name_at(names, i).share()?)?;
+    for name in names {
+        set.insert(name.share()?)?;
     }
     Ok(set)
 }
@@ -60,8 +59,7 @@ pub(crate) fn bind_anew(before: &mut IndexSet<Text>, names: &[Text]) -> Result<b
     ensures new { IfOk result (λ b. b ≡ (distinct names.now && apart names.now before.old.keys)) }
     ensures bound { IfOk result (λ b. b ≡ true → (x : List ℕ) → among x before.new.keys ≡ among x (names.now ++ before.old.keys)) }
 {
-    for i in 0..names.len() {
-        let name = name_at(names, i);
+    for name in names {
         if before.contains(name) {
             return Ok(false);
         }

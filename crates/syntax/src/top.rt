@@ -1,14 +1,15 @@
 //! The rules of what the top level of a file binds: no name a second time, and nothing is added to one.
 
-ghost use Rattle.std.specs.Prelude.{◌≡◌, ◌++◌, [], ℕ, List, None, IfOk, true};
+ghost use Rattle.std.specs.Prelude.{◌≡◌, ◌+◌, ◌<◌, ◌++◌, ◌∷◌, [], ℕ, List, None, IfOk, drop, length, true};
 ghost use Rattle.grammar.specs.LineView as view;
-ghost use Rattle.grammar.specs.LineView.{form_of};
+ghost use Rattle.grammar.specs.BareLines.{Lines, a_line};
+ghost use Rattle.grammar.specs.LineView.{form_of, line_of};
+ghost use Rattle.grammar.specs.declared.statements.Line.{out-Line};
 ghost use Rattle.syntax.specs.Names.{Scope as Around, among, file_scope, form_binds, or_else};
 ghost use Rattle.syntax.specs.Resolves.{binds_anew};
 ghost use Rattle.syntax.specs.Scopes.{adds_to_name, lines_fault, top_fault};
 
 use crate::bound::{add_lines, form_names};
-use crate::items::line_at;
 use crate::scope::{Scope, bind_anew};
 use grammar::{Form, Line};
 use indexmap::IndexSet;
@@ -44,6 +45,15 @@ fn binds_anew(alloc: Global, before: &mut IndexSet<Text>, form: &Form) -> Result
         return Ok(false);
     }
     Ok(!adds_to_name(form))
+}
+
+/// The line at a place.
+fn line_at(lines: &[Line], place: usize) -> &Line
+    requires { place < length lines.now }
+    ensures at { drop place lines.now ≡ result.now ∷ drop (place + 1) lines.now }
+    ensures seen { (rest : Lines) → line_of result.now rest ≡ a_line (out-Line result.now).number (form_of (out-Line result.now).form) (view.lines (out-Line result.now).block.items) rest }
+{
+    &lines[place]
 }
 
 /// The lines of a top level before the first that binds what it may not, and the number of that line.

@@ -2,5 +2,5 @@ use Rattle.std.proofs.Common.{◌≡◌, ◌++◌, drop, map}
 use Rattle.grammar.specs.LineView.{item_of}
 use Rattle.syntax.proofs.bound.add_items.Given as goal
 
-abbrev pub invariant-loop-i : goal.invariant-loop-i
-invariant-loop-i l = l.found.items ++ map (λ i. i.binds) (map item_of (drop l.i l.items)) ≡ l.initial.found.items ++ map (λ i. i.binds) (map item_of l.items)
+abbrev pub invariant-loop-item : goal.invariant-loop-item
+invariant-loop-item l = l.found.items ++ map (λ i. i.binds) (map item_of (drop l.item-index l.items)) ≡ l.initial.found.items ++ map (λ i. i.binds) (map item_of l.items)

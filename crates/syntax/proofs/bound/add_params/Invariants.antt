@@ -3,5 +3,5 @@ use Rattle.grammar.specs.LineView.{param_of}
 use Rattle.syntax.specs.Names.{param_name}
 use Rattle.syntax.proofs.bound.add_params.Given as goal
 
-abbrev pub invariant-loop-i : goal.invariant-loop-i
-invariant-loop-i l = l.found.items ++ map param_name (map param_of (drop l.i l.params)) ≡ l.initial.found.items ++ map param_name (map param_of l.params)
+abbrev pub invariant-loop-param : goal.invariant-loop-param
+invariant-loop-param l = l.found.items ++ map param_name (map param_of (drop l.param-index l.params)) ≡ l.initial.found.items ++ map param_name (map param_of l.params)

@@ -3,5 +3,5 @@ use Rattle.syntax.specs.Names.{clause_names}
 use Rattle.grammar.specs.TreeView.{rests}
 use Rattle.syntax.proofs.bound.clause_names.Given as goal
 
-abbrev pub invariant-loop-i : goal.invariant-loop-i
-invariant-loop-i l = l.found.items ++ clause_names (rests (drop l.i l.clauses)) ≡ clause_names (rests l.clauses)
+abbrev pub invariant-loop-clause : goal.invariant-loop-clause
+invariant-loop-clause l = l.found.items ++ clause_names (rests (drop l.clause-index l.clauses)) ≡ clause_names (rests l.clauses)

@@ -8,8 +8,8 @@ use Rattle.syntax.specs.Scopes.{param_scoped}
 use Rattle.syntax.proofs.heads.defaults.Given as goal
 
 -- what is left breaks no rule where all breaks none, and stands behind what was resolved
-abbrev pub invariant-loop-i : goal.invariant-loop-i
-invariant-loop-i l =
-    (list_all (param_scoped l.initial.scope) (map param_of (drop l.i l.params)) ≡ list_all (param_scoped l.initial.scope) (map param_of l.params))
-    × (terms_onto (map view.term l.found.items) (defaults l.initial.scope (map param_of (drop l.i l.params))) ≡ defaults l.initial.scope (map param_of l.params))
+abbrev pub invariant-loop-param : goal.invariant-loop-param
+invariant-loop-param l =
+    (list_all (param_scoped l.initial.scope) (map param_of (drop l.param-index l.params)) ≡ list_all (param_scoped l.initial.scope) (map param_of l.params))
+    × (terms_onto (map view.term l.found.items) (defaults l.initial.scope (map param_of (drop l.param-index l.params))) ≡ defaults l.initial.scope (map param_of l.params))
     × (l.scope ≡ l.initial.scope)

@@ -4,5 +4,5 @@ use Rattle.grammar.specs.LineView.{param_of}
 use Rattle.syntax.specs.Scopes.{defaults_last, has_default}
 use Rattle.syntax.proofs.heads.defaults_last.Given as goal
 
-abbrev pub invariant-loop-i : goal.invariant-loop-i
-invariant-loop-i l = defaults_last (map param_of l.params) ≡ (if l.had_default then list_all has_default (map param_of (drop l.i l.params)) else defaults_last (map param_of (drop l.i l.params)))
+abbrev pub invariant-loop-param : goal.invariant-loop-param
+invariant-loop-param l = defaults_last (map param_of l.params) ≡ (if l.had_default then list_all has_default (map param_of (drop l.param-index l.params)) else defaults_last (map param_of (drop l.param-index l.params)))

@@ -2,5 +2,5 @@ use Rattle.std.proofs.Common.{◌≡◌, ◌++◌, ◌∷◌, drop, map}
 use Rattle.syntax.specs.Resolved.{binding_of}
 use Rattle.syntax.proofs.resolver.bindings.Given as goal
 
-abbrev pub invariant-loop-i : goal.invariant-loop-i
-invariant-loop-i l = l.found.items ++ map (binding_of l.scope) (drop l.i l.others) ≡ map (binding_of l.scope) (l.first ∷ l.others)
+abbrev pub invariant-loop-other : goal.invariant-loop-other
+invariant-loop-other l = l.found.items ++ map (binding_of l.scope) (drop l.other-index l.others) ≡ map (binding_of l.scope) (l.first ∷ l.others)

@@ -4,7 +4,7 @@ use Rattle.syntax.proofs.scope.bind_anew.Given as goal
 
 -- the names that are left are new beside those that were bound as all are beside those from before; and with them the
 -- same are bound in the end
-abbrev pub invariant-loop-i : goal.invariant-loop-i
-invariant-loop-i l =
-    ((distinct l.names && apart l.names l.initial.before.keys) ≡ (distinct (drop l.i l.names) && apart (drop l.i l.names) l.before.keys))
-    × ((x : List ℕ) → among x (drop l.i l.names ++ l.before.keys) ≡ among x (l.names ++ l.initial.before.keys))
+abbrev pub invariant-loop-name : goal.invariant-loop-name
+invariant-loop-name l =
+    ((distinct l.names && apart l.names l.initial.before.keys) ≡ (distinct (drop l.name-index l.names) && apart (drop l.name-index l.names) l.before.keys))
+    × ((x : List ℕ) → among x (drop l.name-index l.names ++ l.before.keys) ≡ among x (l.names ++ l.initial.before.keys))

@@ -7,6 +7,6 @@ use Rattle.syntax.proofs.scope.once.Goals as goal
 
 pub returns : goal.returns
 returns c =
-    sym (ap (insert_all bytes_eq c.loop-i.set.keys) (drop_all c.loop-i.i c.args.names.now c.loop-i-test.false))
-    ∙ sym c.loop-i.invariant
+    sym (ap (insert_all bytes_eq c.loop-name.set.keys) (drop_all c.loop-name.name-index c.args.names.now c.loop-name-test.false))
+    ∙ sym c.loop-name.invariant
     ∙ insert_once c.args.names.now

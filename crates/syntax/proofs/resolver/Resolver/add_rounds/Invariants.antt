@@ -7,8 +7,8 @@ use Rattle.grammar.specs.TreeView.{rests}
 use Rattle.syntax.proofs.resolver.Resolver.add_rounds.Given as goal
 
 -- what is left breaks no rule where all breaks none, and stands behind what was resolved
-abbrev pub invariant-loop-i : goal.invariant-loop-i
-invariant-loop-i g l =
-    (rest_scoped l.initial.scope l.initial.scope (rests (drop l.i l.clauses)) ≡ rest_scoped l.initial.scope l.initial.scope (rests l.clauses))
-    × (rounds_onto (map view.round l.found.items) (resolved.rounds l.initial.scope l.initial.scope (rests (drop l.i l.clauses))) ≡ rounds_onto (map view.round l.initial.found.items) (resolved.rounds l.initial.scope l.initial.scope (rests l.clauses)))
+abbrev pub invariant-loop-clause : goal.invariant-loop-clause
+invariant-loop-clause g l =
+    (rest_scoped l.initial.scope l.initial.scope (rests (drop l.clause-index l.clauses)) ≡ rest_scoped l.initial.scope l.initial.scope (rests l.clauses))
+    × (rounds_onto (map view.round l.found.items) (resolved.rounds l.initial.scope l.initial.scope (rests (drop l.clause-index l.clauses))) ≡ rounds_onto (map view.round l.initial.found.items) (resolved.rounds l.initial.scope l.initial.scope (rests l.clauses)))
     × (l.scope ≡ l.initial.scope)

@@ -7,8 +7,8 @@ use Rattle.grammar.specs.TreeView.{trees}
 use Rattle.syntax.proofs.resolver.Resolver.all.Given as goal
 
 -- what is left breaks no rule where all breaks none, and stands behind what was resolved
-abbrev pub invariant-loop-i : goal.invariant-loop-i
-invariant-loop-i g l =
-    (trees_scoped l.initial.scope (trees (drop l.i l.exprs)) ≡ trees_scoped l.initial.scope (trees l.exprs))
-    × (terms_onto (map view.term l.found.items) (resolved.terms l.initial.scope (trees (drop l.i l.exprs))) ≡ resolved.terms l.initial.scope (trees l.exprs))
+abbrev pub invariant-loop-expr : goal.invariant-loop-expr
+invariant-loop-expr g l =
+    (trees_scoped l.initial.scope (trees (drop l.expr-index l.exprs)) ≡ trees_scoped l.initial.scope (trees l.exprs))
+    × (terms_onto (map view.term l.found.items) (resolved.terms l.initial.scope (trees (drop l.expr-index l.exprs))) ≡ resolved.terms l.initial.scope (trees l.exprs))
     × (l.scope ≡ l.initial.scope)

@@ -7,8 +7,8 @@ use Rattle.grammar.specs.TreeView.{keywords}
 use Rattle.syntax.proofs.resolver.Resolver.arguments.Given as goal
 
 -- what is left breaks no rule where all breaks none, and stands behind what was resolved
-abbrev pub invariant-loop-i : goal.invariant-loop-i
-invariant-loop-i g l =
-    (keywords_scoped l.initial.scope (keywords (drop l.i l.named)) ≡ keywords_scoped l.initial.scope (keywords l.named))
-    × (keywords_onto (map view.argument l.found.items) (resolved.keywords l.initial.scope (keywords (drop l.i l.named))) ≡ resolved.keywords l.initial.scope (keywords l.named))
+abbrev pub invariant-loop-argument : goal.invariant-loop-argument
+invariant-loop-argument g l =
+    (keywords_scoped l.initial.scope (keywords (drop l.argument-index l.named)) ≡ keywords_scoped l.initial.scope (keywords l.named))
+    × (keywords_onto (map view.argument l.found.items) (resolved.keywords l.initial.scope (keywords (drop l.argument-index l.named))) ≡ resolved.keywords l.initial.scope (keywords l.named))
     × (l.scope ≡ l.initial.scope)

@@ -7,8 +7,8 @@ use Rattle.grammar.specs.TreeView.{entries}
 use Rattle.syntax.proofs.resolver.Resolver.pairs.Given as goal
 
 -- what is left breaks no rule where all breaks none, and stands behind what was resolved
-abbrev pub invariant-loop-i : goal.invariant-loop-i
-invariant-loop-i g l =
-    (entries_scoped l.initial.scope (entries (drop l.i l.written)) ≡ entries_scoped l.initial.scope (entries l.written))
-    × (pairs_onto (map view.pair l.found.items) (resolved.pairs l.initial.scope (entries (drop l.i l.written))) ≡ resolved.pairs l.initial.scope (entries l.written))
+abbrev pub invariant-loop-pair : goal.invariant-loop-pair
+invariant-loop-pair g l =
+    (entries_scoped l.initial.scope (entries (drop l.pair-index l.written)) ≡ entries_scoped l.initial.scope (entries l.written))
+    × (pairs_onto (map view.pair l.found.items) (resolved.pairs l.initial.scope (entries (drop l.pair-index l.written))) ≡ resolved.pairs l.initial.scope (entries l.written))
     × (l.scope ≡ l.initial.scope)
