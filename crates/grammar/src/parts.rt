@@ -213,7 +213,7 @@ pub(crate) fn no_items(alloc: Global) -> Several
     }
 }
 
-/// Adds an item. Most lists have one, and take no more memory than for it.
+/// Adds an item. A list of one takes no more memory than for it.
 fn add_item(items: &mut Vec<Expr>, item: Expr) -> Result<(), AllocError>
     ensures { OnOk result (items.new.items ≡ items.old.items ++ item ∷ []) }
 {

@@ -20,7 +20,7 @@ use std::alloc::{AllocError, Global};
 ///
 /// # Errors
 ///
-/// Where memory was refused; or where blocks are deeper than those of any text that was read.
+/// Where memory was refused.
 pub(crate) fn file_scope(alloc: Global, lines: &[Line]) -> Result<Scope, AllocError>
     ensures { IfOk result (λ s. s ≡ file_scope (view.lines lines.now)) }
 {
