@@ -1,5 +1,5 @@
 -- Things put before others, and comprehensions without clauses.
-use Rattle.std.proofs.Common.{◌≡◌, ◌<◌, ◌+◌, ℕ, suc, List, [], ◌∷◌, ◌++◌, ◌∙◌, drop, length, map, Option, Some, None, refl, ap, sym, arith}
+use Rattle.std.proofs.Common.{◌≡◌, ◌<◌, ◌+◌, ℕ, suc, List, [], ◌∷◌, ◌++◌, ◌∙◌, drop, length, map, take, Option, Some, None, refl, ap, sym, arith}
 use Rattle.std.proofs.Math.ListN.{get_or}
 use Rattle.std.proofs.Math.Seq.{drop-cons}
 use Rattle.std.specs.Prelude.{option_map}
@@ -16,6 +16,10 @@ pub drop_at : {A : Type 0} (xs : List A) (i : ℕ) (x : A) → i < length xs →
 drop_at xs i x h e =
     let next : suc i ≡ i + 1 = omega (arith) in
     drop-cons xs i x h ∙ ap (λ y. y ∷ drop (suc i) xs) (sym e) ∙ ap (λ n. x ∷ drop n xs) next
+
+pub take_whole : {A : Type 0} (xs : List A) → take (length xs) xs ≡ xs
+take_whole [] = refl
+take_whole (x ∷ xs) = ap (λ ys. x ∷ ys) (take_whole xs)
 
 pub onto_last : {A B R : Type 0} (f : B → R → R) (g : A → B) (xs : List A) (x : A) (r : R) → onto f (map g (xs ++ x ∷ [])) r ≡ onto f (map g xs) (f (g x) r)
 onto_last f g [] x r = refl

@@ -68,7 +68,7 @@ pub append_none : {A : Type 0} (s : List A) → s ++ [] ≡ s
 append_none [] = refl
 append_none (b ∷ s) = ap (λ t. b ∷ t) (append_none s)
 
-append_more : (s : List Name) (b : Name) (l : List Name) → (s ++ b ∷ []) ++ l ≡ s ++ b ∷ l
+pub append_more : {A : Type 0} (s : List A) (b : A) (l : List A) → (s ++ b ∷ []) ++ l ≡ s ++ b ∷ l
 append_more [] b l = refl
 append_more (c ∷ s) b l = ap (λ t. c ∷ t) (append_more s b l)
 

@@ -47,7 +47,7 @@ pub fn parse(alloc: Global, text: &str, kind: FileKind) -> Result<Parsed, ParseS
     let Ok(mut scope) = file_scope(alloc, lines.as_slice()) else {
         return Err(ParseStop::NoMemory);
     };
-    match resolve_file(alloc, &mut scope, lines.as_slice()) {
+    match resolve_file(alloc, &mut scope, lines) {
         Ok(steps) => Ok(Parsed {
             globals: scope.into_globals(),
             steps,

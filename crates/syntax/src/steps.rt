@@ -271,6 +271,18 @@ fn before(
     }
 }
 
+/// The statements of lines that were gone through, or the first that breaks a rule.
+fn ended(later: Later) -> Result<Vec<Step>, Stopped>
+    ensures { (s : Around) (rest : Lines) → IsLater s rest later → PlacesSteps (λ s. lines_fault s rest) (λ s. steps_of s rest) s result s }
+{
+    if let Some(number) = later.fault {
+        return Err(Stopped::At(number));
+    }
+    let mut steps = later.behind.steps;
+    steps.reverse();
+    Ok(steps)
+}
+
 /// The statements of lines. It calls itself once for each block that is open: 32 at most, and the line of a head.
 ///
 /// # Errors
@@ -292,15 +304,26 @@ fn resolve_lines(alloc: Global, scope: &mut Scope, lines: &[Line]) -> Result<Vec
         let own = line_and_block(alloc, scope, line);
         later = before(alloc, line, own, later)?;
     }
-    if let Some(number) = later.fault {
-        return Err(Stopped::At(number));
-    }
-    let mut steps = later.behind.steps;
-    steps.reverse();
-    Ok(steps)
+    ended(later)
 }
 
-/// The statements of a file, in the scope of its top level.
+/// The same of lines that are given back one by one.
+fn resolve_owned(alloc: Global, scope: &mut Scope, lines: Vec<Line>) -> Result<Vec<Step>, Stopped>
+    ensures { PlacesSteps (λ s. lines_fault s (seen.lines lines.items)) (λ s. steps_of s (seen.lines lines.items)) scope.old result scope.new }
+{
+    let mut later = Later {
+        fault: None,
+        behind: Behind::nothing(alloc, lines.len())?,
+    };
+    let mut left = lines;
+    while let Some(line) = left.pop() {
+        let own = line_and_block(alloc, scope, &line);
+        later = before(alloc, &line, own, later)?;
+    }
+    ended(later)
+}
+
+/// The statements of a file, in the scope of its top level. Its lines are given back one by one.
 ///
 /// # Errors
 ///
@@ -309,12 +332,14 @@ fn resolve_lines(alloc: Global, scope: &mut Scope, lines: &[Line]) -> Result<Vec
 pub(crate) fn resolve_file(
     alloc: Global,
     scope: &mut Scope,
-    lines: &[Line],
+    lines: Vec<Line>,
 ) -> Result<Vec<Step>, Stopped>
-    ensures { PlacesSteps (λ s. top_fault s [] (seen.lines lines.now)) (λ s. steps_of s (seen.lines lines.now)) scope.old result scope.new }
+    ensures { PlacesSteps (λ s. top_fault s [] (seen.lines lines.items)) (λ s. steps_of s (seen.lines lines.items)) scope.old result scope.new }
 {
-    let (kept, number) = until_rebound(alloc, lines)?;
-    let steps = resolve_lines(alloc, scope, kept)?;
+    let (kept, number) = until_rebound(alloc, lines.as_slice())?;
+    let mut lines = lines;
+    lines.truncate(kept);
+    let steps = resolve_owned(alloc, scope, lines)?;
     match number {
         Some(number) => Err(Stopped::At(number)),
         None => Ok(steps),

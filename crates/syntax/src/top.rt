@@ -1,6 +1,6 @@
 //! The rules of what the top level of a file binds: no name a second time, and nothing is added to one.
 
-ghost use Rattle.std.specs.Prelude.{◌≡◌, ◌+◌, ◌<◌, ◌++◌, ◌∷◌, [], ℕ, List, None, IfOk, drop, length, true};
+ghost use Rattle.std.specs.Prelude.{◌≡◌, ◌+◌, ◌<◌, ◌++◌, ◌∷◌, [], ℕ, List, None, IfOk, drop, length, take, true};
 ghost use Rattle.grammar.specs.LineView as view;
 ghost use Rattle.grammar.specs.BareLines.{Lines, a_line};
 ghost use Rattle.grammar.specs.LineView.{form_of, line_of};
@@ -56,20 +56,20 @@ fn line_at(lines: &[Line], place: usize) -> &Line
     &lines[place]
 }
 
-/// The lines of a top level before the first that binds what it may not, and the number of that line.
+/// How many lines of a top level stand before the first that binds what it may not, and the number of that line.
 pub(crate) fn until_rebound(
     alloc: Global,
     lines: &[Line],
-) -> Result<(&[Line], Option<usize>), AllocError>
-    ensures found { IfOk result (λ r. (s : Around) → top_fault s [] (view.lines lines.now) ≡ or_else (lines_fault s (view.lines r.0.now)) r.1) }
-    ensures whole { IfOk result (λ r. r.1 ≡ None → r.0.now ≡ lines.now) }
+) -> Result<(usize, Option<usize>), AllocError>
+    ensures found { IfOk result (λ r. (s : Around) → top_fault s [] (view.lines lines.now) ≡ or_else (lines_fault s (view.lines (take r.0 lines.now))) r.1) }
+    ensures whole { IfOk result (λ r. r.1 ≡ None → take r.0 lines.now ≡ lines.now) }
 {
     let mut before = IndexSet::new(alloc);
     for i in 0..lines.len() {
         let line = line_at(lines, i);
         if !binds_anew(alloc, &mut before, &line.form)? {
-            return Ok((&lines[..i], Some(line.number)));
+            return Ok((i, Some(line.number)));
         }
     }
-    Ok((lines, None))
+    Ok((lines.len(), None))
 }

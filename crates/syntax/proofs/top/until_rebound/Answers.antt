@@ -1,4 +1,4 @@
-use Rattle.std.proofs.Common.{◌≡◌, ◌∙◌, ◌+◌, ◌∷◌, ◌++◌, [], ℕ, Option, ap, drop, map, sym, take}
+use Rattle.std.proofs.Common.{length, ◌≡◌, ◌∙◌, ◌+◌, ◌∷◌, ◌++◌, [], ℕ, Option, ap, drop, map, sym, take}
 use Rattle.std.proofs.lemmas.List.{drop_all, take-append-drop}
 use Rattle.std.proofs.Math.Seq.{take-add}
 use Rattle.grammar.specs.declared.statements.Line.{out-Line}
@@ -7,7 +7,7 @@ use Rattle.grammar.specs.LineView.{form_of, line_of, lines}
 use Rattle.syntax.specs.Names.{Scope, or_else, scope_of}
 use Rattle.syntax.specs.ProgramView.{onto}
 use Rattle.syntax.specs.Scopes.{line_scoped, lines_fault, top_fault, unless}
-use Rattle.syntax.proofs.ProgramLemmas.{lines_onto, onto_last}
+use Rattle.syntax.proofs.ProgramLemmas.{lines_onto, onto_last, take_whole}
 use Rattle.syntax.proofs.ScopeLemmas.{append_none, or_line, top_bound, top_rebound}
 use Rattle.syntax.proofs.top.until_rebound.Goals as goal
 
@@ -70,5 +70,8 @@ returns-clause-found c s =
     let whole = sym (append_none (take i all)) ∙ ap (λ d. take i all ++ d) (sym none) ∙ take-append-drop i all in
     c.loop-i.invariant.0 s
     ∙ ap (λ ls. or_else (lines_fault s ls) (top_fault s c.loop-i.before.keys (lines (drop i all)))) (lines_onto (map line_of (take i all)))
-    ∙ ap (λ d. or_else (lines_fault s (lines d)) (top_fault s c.loop-i.before.keys (lines (drop i all)))) whole
-    ∙ ap (λ d. or_else (lines_fault s (lines all)) (top_fault s c.loop-i.before.keys (lines d))) none
+    ∙ ap (λ d. or_else (lines_fault s (lines d)) (top_fault s c.loop-i.before.keys (lines (drop i all)))) (whole ∙ sym (take_whole all))
+    ∙ ap (λ d. or_else (lines_fault s (lines (take (length all) all))) (top_fault s c.loop-i.before.keys (lines d))) none
+
+pub returns-clause-whole : goal.returns-clause-whole
+returns-clause-whole c none = take_whole c.args.lines.now

@@ -1,0 +1,19 @@
+use Rattle.std.proofs.Common.{◌∙◌, ◌∷◌, ◌++◌, ap, subst, sym}
+use Rattle.grammar.specs.LineView.{lines}
+use Rattle.syntax.specs.Resolves.{IsLater, before_lines}
+use Rattle.syntax.proofs.ScopeLemmas.{append_more}
+use Rattle.syntax.proofs.steps.resolve_owned.Goals as goal
+
+pub loop-line-preserved : goal.loop-line-preserved
+loop-line-preserved c =
+    let was = c.loop-line.invariant in
+    let s = c.args.scope.now in
+    let x = c.in-Some.line in
+    let behind = was.0 in
+    let made = c.in_ok-later.later in
+    let told = c.in_ok-later.ensures.made c.loop-line.scope c.line_and_block-own.new.scope (lines behind) c.line_and_block-own.ensures (subst (λ v. IsLater v (lines behind) c.loop-line.later) (sym was.3) was.2) in (
+      x ∷ behind,
+      sym (append_more c.pop.new.self.items x behind) ∙ ap (λ l. l ++ behind) (sym c.in-Some.ensures.items) ∙ was.1,
+      subst (λ ls. IsLater s ls made) (sym (c.in_ok-later.ensures.seen (lines behind))) (subst (λ v. IsLater v (before_lines x (lines behind)) made) was.3 told.0),
+      told.1 ∙ was.3,
+    )
