@@ -58,7 +58,8 @@ fn word_or_name(text: &[u8], part: Span) -> Kind
 /// The name or word whose first byte is at `at`.
 fn name_at(text: &[u8], at: usize) -> Beginning
     requires { at < length text.now }
-    ensures value { beginning_seen text.now result ≡ name_at (slice_index text.now at) (drop (at + 1) text.now) }
+    ensures value { beginning_seen text.now result
+        ≡ name_at (slice_index text.now at) (drop (at + 1) text.now) }
     ensures within { EndsWithin text.now at result }
 {
     let more = word_length(&text[at + 1..]);
@@ -72,7 +73,8 @@ fn name_at(text: &[u8], at: usize) -> Beginning
 /// The number whose first digit is at `at`, if it is one.
 fn number_at(text: &[u8], at: usize) -> Beginning
     requires { at < length text.now }
-    ensures value { beginning_seen text.now result ≡ number_at (slice_index text.now at) (drop (at + 1) text.now) }
+    ensures value { beginning_seen text.now result
+        ≡ number_at (slice_index text.now at) (drop (at + 1) text.now) }
     ensures within { EndsWithin text.now at result }
 {
     let first = text[at];
@@ -90,7 +92,8 @@ fn number_at(text: &[u8], at: usize) -> Beginning
 /// The string whose opening quote is at `at`, if it is one.
 fn string_at(text: &[u8], at: usize) -> Beginning
     requires { at < length text.now }
-    ensures value { beginning_seen text.now result ≡ string_at (slice_index text.now at) (drop (at + 1) text.now) }
+    ensures value { beginning_seen text.now result
+        ≡ string_at (slice_index text.now at) (drop (at + 1) text.now) }
     ensures within { EndsWithin text.now at result }
 {
     let start = at + 1;
@@ -166,7 +169,8 @@ fn pair_at(first: u8, rest: &[u8]) -> Option<Mark>
 /// The mark whose first byte is at `at`, if it is one.
 fn mark_at(text: &[u8], at: usize) -> Beginning
     requires { at < length text.now }
-    ensures value { beginning_seen text.now result ≡ mark_at (slice_index text.now at) (drop (at + 1) text.now) }
+    ensures value { beginning_seen text.now result
+        ≡ mark_at (slice_index text.now at) (drop (at + 1) text.now) }
     ensures within { EndsWithin text.now at result }
 {
     let first = text[at];
@@ -187,7 +191,8 @@ fn mark_at(text: &[u8], at: usize) -> Beginning
 #[tactic(auto, unfolding(crate::specs::Begins::begins))]
 pub(crate) fn begins(text: &[u8], at: usize) -> Beginning
     requires { at < length text.now }
-    ensures value { beginning_seen text.now result ≡ begins (slice_index text.now at) (drop (at + 1) text.now) }
+    ensures value { beginning_seen text.now result
+        ≡ begins (slice_index text.now at) (drop (at + 1) text.now) }
     ensures within { EndsWithin text.now at result }
 {
     let first = text[at];

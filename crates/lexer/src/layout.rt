@@ -155,7 +155,8 @@ fn is_colon(mark: Option<Mark>) -> bool
 
 /// Leaves the blocks that are deeper than this column; whether one stands at it.
 fn back_to(columns: &mut Stack<usize>, column: usize) -> bool
-    ensures { MatchBool result (back_to column columns.old ≡ Some columns.new) (back_to column columns.old ≡ None) }
+    ensures { MatchBool result (back_to column columns.old ≡ Some columns.new)
+        (back_to column columns.old ≡ None) }
 {
     while let Some(innermost) = columns.top() {
         if column == innermost {
@@ -197,7 +198,8 @@ impl Layout {
 
     /// Opens the block of the line before, which ends with `:`.
     fn open_block(&mut self, line: usize, column: usize) -> Result<(), ParseStop>
-        ensures value { IfOk result (λ _. (block_opened self.old line column ≡ Ok self.new.columns) × (self.new ≡ record self.old { columns = self.new.columns })) }
+        ensures value { IfOk result (λ _. (block_opened self.old line column ≡ Ok self.new.columns)
+            × (self.new ≡ record self.old { columns = self.new.columns })) }
         ensures fault { FaultsAt FaultKind.Indent (block_opened self.old line column) result }
     {
         if column <= innermost(&self.columns) {
@@ -212,7 +214,8 @@ impl Layout {
 
     /// Finds the block of a logical line that begins here.
     fn begin_line(&mut self, line: usize, column: usize) -> Result<(), ParseStop>
-        ensures value { IfOk result (λ _. (columns_at self.old line column ≡ Ok self.new.columns) × (self.new ≡ record self.old { columns = self.new.columns })) }
+        ensures value { IfOk result (λ _. (columns_at self.old line column ≡ Ok self.new.columns)
+            × (self.new ≡ record self.old { columns = self.new.columns })) }
         ensures fault { FaultsAt FaultKind.Indent (columns_at self.old line column) result }
     {
         if self.head {
@@ -226,7 +229,8 @@ impl Layout {
 
     /// Begins a logical line where one begins at a token of this line and column.
     fn begin(&mut self, line: usize, column: usize) -> Result<bool, ParseStop>
-        ensures value { IfOk result (λ begins. (begins ≡ starts self.old line) × (begun self.old line column ≡ Ok self.new)) }
+        ensures value { IfOk result (λ begins. (begins ≡ starts self.old line)
+            × (begun self.old line column ≡ Ok self.new)) }
         ensures fault { FaultsAt FaultKind.Indent (begun self.old line column) result }
     {
         if !self.starts(line) {
@@ -240,7 +244,8 @@ impl Layout {
     /// Goes on behind a token, by the mark that it is; whether it begins a logical line.
     #[tactic(auto, unfolding(crate::specs::Layout::turn))]
     fn turn(&mut self, mark: Option<Mark>, line: usize, column: usize) -> Result<bool, ParseStop>
-        ensures value { IfOk result (λ begins. (begins ≡ starts self.old line) × (turn self.old mark line column ≡ Ok self.new)) }
+        ensures value { IfOk result (λ begins. (begins ≡ starts self.old line)
+            × (turn self.old mark line column ≡ Ok self.new)) }
         ensures fault { FaultsAt FaultKind.Indent (turn self.old mark line column) result }
     {
         let begins = self.begin(line, column)?;
@@ -267,7 +272,8 @@ impl Layout {
 
 /// Notes a place, where it counts.
 fn note(starts: &mut Vec<usize>, counts: bool, place: usize) -> Result<(), ParseStop>
-    ensures value { IfOk result (λ _. starts.new.items ≡ starts.old.items ++ (if counts then place ∷ [] else [])) }
+    ensures value { IfOk result (λ _.
+        starts.new.items ≡ starts.old.items ++ (if counts then place ∷ [] else [])) }
     ensures fault { IfErr result (λ e. e ≡ ParseStop.NoMemory) }
 {
     if counts {
@@ -291,8 +297,11 @@ fn go_on(
     place: usize,
     token: Token,
 ) -> Result<(), ParseStop>
-    ensures value { IfOk result (λ _. (text : List ℕ) (rest : List Placed) → preceded starts.new.items (line_starts (place + 1) layout.new rest) ≡ preceded starts.old.items (line_starts place layout.old (seen text token ∷ rest))) }
-    ensures fault { (text : List ℕ) (rest : List Placed) → FaultsAt FaultKind.Indent (preceded starts.old.items (line_starts place layout.old (seen text token ∷ rest))) result }
+    ensures value { IfOk result (λ _. (text : List ℕ) (rest : List Placed) →
+        preceded starts.new.items (line_starts (place + 1) layout.new rest)
+        ≡ preceded starts.old.items (line_starts place layout.old (seen text token ∷ rest))) }
+    ensures fault { (text : List ℕ) (rest : List Placed) → FaultsAt FaultKind.Indent
+        (preceded starts.old.items (line_starts place layout.old (seen text token ∷ rest))) result }
 {
     let begins = match layout.turn(token.kind.mark(), token.line, token.column) {
         Ok(begins) => begins,
@@ -303,8 +312,10 @@ fn go_on(
 
 /// The places of the tokens that begin the logical lines, or the line of the first fault.
 pub(crate) fn line_starts(alloc: Global, tokens: &[Token]) -> Result<Vec<usize>, ParseStop>
-    ensures value { IfOk result (λ starts. (text : List ℕ) → line_starts 0 at_start (map (seen text) tokens.now) ≡ Ok starts.items) }
-    ensures fault { (text : List ℕ) → FaultsAt FaultKind.Indent (line_starts 0 at_start (map (seen text) tokens.now)) result }
+    ensures value { IfOk result (λ starts. (text : List ℕ) →
+        line_starts 0 at_start (map (seen text) tokens.now) ≡ Ok starts.items) }
+    ensures fault { (text : List ℕ) →
+        FaultsAt FaultKind.Indent (line_starts 0 at_start (map (seen text) tokens.now)) result }
 {
     let mut layout = Layout::new(alloc);
     let mut starts = Vec::new(alloc);

@@ -32,7 +32,10 @@ impl<'t> Model for Lines<'t> {
     ghost use Rattle.lexer.specs.Seen.{seen};
     ghost use Rattle.lexer.specs.Lines.{lines_at};
 
-    ghost view = { λ a. record { text = a.text.now; lines = lines_at a.starts.items (map (seen a.text.now) a.tokens.items) } };
+    ghost view = { λ a. record {
+      text = a.text.now;
+      lines = lines_at a.starts.items (map (seen a.text.now) a.tokens.items);
+    } };
 
     ghost use Rattle.std.specs.Str.{IsAscii};
 
@@ -57,7 +60,8 @@ fn start_at(starts: &[usize], place: usize) -> usize
 /// The tokens of the line at a place, which go up to where the next line begins.
 fn line_at<'l>(tokens: &'l [Token], starts: &[usize], place: usize) -> &'l [Token]
     requires { place < length starts.now }
-    ensures { (text : List ℕ) → slice_get (lines_at starts.now (map (seen text) tokens.now)) place ≡ Some (map (seen text) result.now) }
+    ensures { (text : List ℕ) → slice_get (lines_at starts.now (map (seen text) tokens.now)) place
+        ≡ Some (map (seen text) result.now) }
 {
     let start = start_at(starts, place);
     let next = place + 1;

@@ -39,7 +39,8 @@ pub(crate) fn goes_on(rest: &[u8]) -> bool
 
 /// The number that digits spell, where it isn't too large.
 pub(crate) fn value_of(first: u8, digits: &[u8]) -> Option<u64>
-    ensures { result ≡ (if nat_lt greatest_number (value_after 0 (first ∷ digits.now)) then None else Some (value_after 0 (first ∷ digits.now))) }
+    ensures { result ≡ (if nat_lt greatest_number (value_after 0 (first ∷ digits.now)) then None
+        else Some (value_after 0 (first ∷ digits.now))) }
 {
     let mut value = u64::from(first.saturating_sub(b'0'));
     for b in digits {

@@ -25,7 +25,8 @@ fn step(text: &[u8], cursor: &mut Cursor, tokens: &mut Vec<Token>) -> Result<(),
     requires within { cursor.old.at < length text.now }
     ensures cursor { IfOk result (λ _. IsCursor text.now cursor.new) }
     ensures onward { IfOk result (λ _. cursor.old.at < cursor.new.at) }
-    ensures value { IfOk result (λ _. left text.now cursor.new tokens.new.items ≡ left text.now cursor.old tokens.old.items) }
+    ensures value { IfOk result (λ _. left text.now cursor.new tokens.new.items
+        ≡ left text.now cursor.old tokens.old.items) }
     ensures fault { FaultsAt FaultKind.Token (left text.now cursor.old tokens.old.items) result }
 {
     let at = cursor.at;

@@ -58,7 +58,8 @@ fn escape_meaning(b: u8) -> u8
 
 /// What a byte of a body stands for; nothing where it is the backslash of an escape.
 fn meaning(escaped: bool, b: u8) -> Option<u8>
-    ensures value { MatchOption result (meaning_of escaped b ≡ []) (λ m. meaning_of escaped b ≡ m ∷ []) }
+    ensures value { MatchOption result (meaning_of escaped b ≡ [])
+        (λ m. meaning_of escaped b ≡ m ∷ []) }
     ensures ascii { b < 128 → IfSome result (λ m. m < 128) }
 {
     if escaped {
@@ -116,7 +117,8 @@ fn escapes(escaped: bool, b: u8) -> bool
 fn passed(bytes: &[u8], place: usize, escaped: bool, b: u8) -> Option<usize>
     requires { place ≤ length bytes.now }
     ensures within { IfSome result (λ next. next ≤ length bytes.now) }
-    ensures value { (rest : List ℕ) → bytes_eq (meaning_of escaped b ++ rest) (drop place bytes.now) ≡ option_map_or (λ next. bytes_eq rest (drop next bytes.now)) result false }
+    ensures value { (rest : List ℕ) → bytes_eq (meaning_of escaped b ++ rest) (drop place bytes.now)
+        ≡ option_map_or (λ next. bytes_eq rest (drop next bytes.now)) result false }
 {
     match meaning(escaped, b) {
         None => Some(place),

@@ -229,7 +229,7 @@ fn faults_are_named_by_their_pass(rt: HostRuntime) -> Result<(), Fail> {
         let Err(stop) = logical_lines(alloc, text) else {
             panic!(rt; "{text:?} has a fault");
         };
-        assert_eq!(rt; format!(in alloc; "{stop}")?.as_str(), want);
+        assert!(rt; format!(in alloc; "{stop}")?.as_str() == want, "{text:?}");
     }
     Ok(())
 }
@@ -241,7 +241,7 @@ fn token(kind: Kind, line: usize, column: usize) -> Token {
 #[test]
 fn tokens_have_their_lines_and_columns(rt: HostRuntime) -> Result<(), Fail> {
     let read = logical_lines(rt.alloc(), "\nif x >= 10:\n    y = 'a\\'b'  # c")?;
-    assert_eq!(rt; read.len(), 2);
+    assert!(rt; read.len() == 2);
     let x = Span { start: 4, end: 5 };
     let head = [
         token(Kind::Word(Word::If), 2, 0),
@@ -259,7 +259,7 @@ fn tokens_have_their_lines_and_columns(rt: HostRuntime) -> Result<(), Fail> {
         token(Kind::Str(body), 3, 8),
     ];
     assert!(rt; read.line(1) == line.as_slice());
-    assert_eq!(rt; read.part(x), "x");
-    assert_eq!(rt; read.part(body), "a\\'b");
+    assert!(rt; read.part(x) == "x");
+    assert!(rt; read.part(body) == "a\\'b");
     Ok(())
 }
