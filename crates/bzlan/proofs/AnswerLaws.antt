@@ -6,11 +6,11 @@ use Rattle.std.specs.Cmp.Lexicographic.{slice_cmp}
 use Rattle.std.specs.Ordering.{nat_cmp}
 use Rattle.std.specs.declared.cmp.Ordering.TheVariants.{Less, Equal}
 use Rattle.bzlan.specs.Answer.{Answer, AreAscending, AreConflicts, IsAnswer, Meaning, owners}
-use Rattle.bzlan.specs.Labels.{LabelParts, label_text}
+use Rattle.workspace.specs.Labels.{LabelParts, label_text}
 use Rattle.bzlan.specs.Outcomes.{Conflict, Node}
 use Rattle.bzlan.specs.FirstForm.{FirstParts, IsFirst, first_meaning, first_target}
 use Rattle.bzlan.specs.Served.{Answers, AsksNothing, Serves}
-use Rattle.bzlan.specs.Workspaces.{Pair}
+use Rattle.workspace.specs.Workspaces.{Pair}
 use Rattle.bzlan.proofs.AnswerLemmas.{first-Answers, no_element, nothing-Answers, second-Answers}
 use Rattle.bzlan.specs.SecondForm.{IsSecond, SecondParts, is_target_of, second_meaning}
 use Rattle.std.specs.List.{list_all}

@@ -4,7 +4,7 @@ use Rattle.std.proofs.lemmas.Slice.Eq.{bytes_eq-Decides}
 use Rattle.std.specs.Str.{bytes_eq}
 use Rattle.bzlan.specs.Answer.{Answer, answer_text, IsAnswer, IsReached, requested, needed, is_loud, Meaning}
 use Rattle.bzlan.specs.FirstAnswer.{first_answer}
-use Rattle.bzlan.specs.Labels.{LabelParts}
+use Rattle.workspace.specs.Labels.{LabelParts}
 use Rattle.bzlan.specs.Outcomes.{Outcome, done, with_default_info}
 use Rattle.bzlan.specs.ReportText.{outcome_text}
 use Rattle.bzlan.specs.FirstForm.{AsksFirst, FirstParts, first_meaning, first_outcome, first_target, returned}
@@ -12,7 +12,7 @@ use Rattle.bzlan.specs.SecondAnswer.{second_answer}
 use Rattle.bzlan.specs.SecondForm.{AsksSecond, SecondParts, second_meaning}
 use Rattle.bzlan.proofs.SecondAnswers.{second-IsAnswer}
 use Rattle.bzlan.specs.Served.{Answers, AsksNothing, empty_meaning}
-use Rattle.bzlan.specs.Workspaces.{Pair}
+use Rattle.workspace.specs.Workspaces.{Pair}
 
 -- a workspace without faults, whose nodes depend on nothing
 abbrev plain : (LabelParts → Outcome) → Meaning

@@ -4,7 +4,7 @@ use Rattle.std.proofs.lemmas.List.{map-append, take-append-drop, take_more}
 use Rattle.std.proofs.Math.Seq.{drop-cons}
 use Rattle.std.specs.Prelude.{option_and_then, option_map}
 use Rattle.std.specs.Borrow.{Bor}
-use Rattle.bzlan.specs.Labels.{LabelParts, label_of}
+use Rattle.workspace.specs.Labels.{LabelParts, label_of}
 use Rattle.bzlan.specs.Asked.{each_label}
 
 -- one text more, which is a label

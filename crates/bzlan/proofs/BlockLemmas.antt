@@ -10,7 +10,7 @@ use Rattle.std.specs.Ordering.{nat_cmp, is_lt}
 use Rattle.lexer.specs.Targets.{Target}
 use Rattle.bzlan.specs.declared.blocks.Block.{Block}
 use Rattle.bzlan.specs.Answer.{answer_text, is_failed, is_loud}
-use Rattle.bzlan.specs.Labels.{LabelParts, is_label, label_text, relative_name}
+use Rattle.workspace.specs.Labels.{LabelParts, is_label, label_text, relative_name}
 use Rattle.bzlan.specs.NodeBlocks.{block_key, block_of, text_at}
 use Rattle.bzlan.specs.NodePlan.{AreOnce}
 use Rattle.bzlan.specs.NodeValues.{AreClosed, AreValues, listed_text, values_at, values_of}

@@ -4,16 +4,16 @@ use Rattle.std.proofs.lemmas.Bool.{false≢true}
 use Rattle.std.proofs.lemmas.List.{drop-drop}
 use Rattle.std.proofs.lemmas.Slice.Eq.{bytes_eq-Decides}
 use Rattle.std.specs.Str.{bytes_eq}
-use Rattle.bzlan.proofs.LabelLemmas.{segment_start}
+use Rattle.workspace.proofs.LabelLemmas.{segment_start}
 use Rattle.lexer.specs.FileForms.{HasForm}
 use Rattle.lexer.specs.Form.{build_lines, module_lines, tokens_in}
 use Rattle.lexer.specs.declared.forms.BuildForm.{BuildForm}
 use Rattle.lexer.specs.declared.forms.ModuleForm.{ModuleForm}
 use Rattle.lexer.specs.declared.forms.FileKind.TheVariants as file
 use Rattle.lexer.specs.declared.forms.FileForm.TheVariants as found
-use Rattle.bzlan.specs.FileKinds.{is_build_file, is_module}
+use Rattle.workspace.specs.FileKinds.{is_build_file, is_module}
 use Rattle.bzlan.specs.FirstForm.{AreFiles, FirstParts, HaveForms, IsFirst}
-use Rattle.bzlan.specs.Workspaces.{Pair}
+use Rattle.workspace.specs.Workspaces.{Pair}
 
 build_lines-one : (f g : BuildForm) → build_lines f ≡ build_lines g → f ≡ g
 build_lines-one f g e =

@@ -7,7 +7,7 @@ use Rattle.std.specs.Borrow.{Bor}
 use Rattle.serde_json.specs.View.{items_view, view}
 use Rattle.serde_json.specs.declared.value.Value.{Value}
 use Rattle.bzlan.specs.Input.{pair_of, pair_of_items, pairs_after, pairs_of_items}
-use Rattle.bzlan.specs.Workspaces.{Pair, pairs_behind}
+use Rattle.workspace.specs.Workspaces.{Pair, pairs_behind}
 
 pub pair_of_items-not_two : (vs : List Value) → (length vs ≡ 2 → ⊥) → pair_of_items (items_view vs) ≡ None
 pair_of_items-not_two [] other = refl

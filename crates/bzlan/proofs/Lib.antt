@@ -1,6 +1,4 @@
 pub mod DeviceLemmas
-pub mod LabelLemmas
-pub mod WorkspaceLemmas
 pub mod NumberLemmas
 pub mod CommandLemmas
 pub mod AskedLemmas
@@ -10,7 +8,6 @@ pub mod ReportLemmas
 pub mod FirstLemmas
 pub mod AnswerLemmas
 pub mod AnswerLaws
-pub mod LabelLaws
 pub mod TruthLemmas
 pub mod SecondLaws
 pub mod SecondLemmas

@@ -1,7 +1,7 @@
 -- The nodes of the second form, one after the other.
 use Rattle.std.proofs.Common.{◌≡◌, ◌∙◌, ◌<◌, ◌+◌, ℕ, zero, suc, List, [], ◌∷◌, ◌++◌, map, length, get_or, take, drop, ap, refl, sym, subst, arith, add-one, append_assoc, append-nil, drop-cons, codes}
 use Rattle.lexer.specs.Targets.{Target}
-use Rattle.bzlan.specs.Labels.{LabelParts}
+use Rattle.workspace.specs.Labels.{LabelParts}
 use Rattle.bzlan.specs.NodeValues.{AreClosed, are_named_in, listed_text, later_texts}
 use Rattle.bzlan.specs.Outcomes.{Frozen, list}
 use Rattle.bzlan.specs.ReportText.{frozen_text, later_items_text}

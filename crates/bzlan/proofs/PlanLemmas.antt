@@ -14,7 +14,7 @@ use Rattle.board.proofs.Counts.{times_here, times_else}
 use Rattle.pool.proofs.Places.{at_map, deps_inside}
 use Rattle.pool.specs.Graph.{AllDistinct, AllInside, IsAcyclic}
 use Rattle.pool.specs.Outcomes.{AreOutcomes}
-use Rattle.bzlan.specs.Labels.{relative_name}
+use Rattle.workspace.specs.Labels.{relative_name}
 use Rattle.bzlan.specs.NodePlan.{AreOnce, place_named, places_named, plan_of}
 use Rattle.bzlan.specs.NodeValues.{AreClosed, AreValues, are_named_in, listed_text, values_at, values_of}
 use Rattle.bzlan.specs.SecondForm.{is_once, names}

@@ -1,6 +1,6 @@
 -- Texts of a report, as a format joins them.
 use Rattle.std.proofs.Common.{◌≡◌, ◌++◌, ℕ, List, [], ◌∷◌, append_assoc, append-nil, codes}
-use Rattle.bzlan.specs.Labels.{LabelParts, label_text}
+use Rattle.workspace.specs.Labels.{LabelParts, label_text}
 use Rattle.bzlan.specs.Outcomes.{exported, done, with_default_info}
 use Rattle.bzlan.specs.ReportText.{outcome_text, provider_line}
 

@@ -3,8 +3,8 @@ use Rattle.std.specs.Prelude.{◌≡◌, ℕ, pos, negsuc, List, [], ◌∷◌, 
 use Rattle.std.specs.Fmt.{digits}
 use Rattle.lexer.specs.declared.fault.FaultKind.TheVariants as fault
 use Rattle.bzlan.specs.Answer.{Answer, answer_text, is_loud, owners}
-use Rattle.bzlan.specs.FileKinds.{is_build_file, is_module, package_of}
-use Rattle.bzlan.specs.Labels.{LabelParts}
+use Rattle.workspace.specs.FileKinds.{is_build_file, is_module, package_of}
+use Rattle.workspace.specs.Labels.{LabelParts}
 use Rattle.bzlan.specs.Outcomes.{Action, preorder, number, list, depset, no_items, item, load_cycle, loaded_module_failed, syntax_fault, Node, Outcome, source, done, failed, Provider, exported, cycle, no_such_target, dependency_failed, with_default_info}
 use Rattle.bzlan.specs.ReportText.{frozen_text, quoted}
 use Rattle.std.specs.Prelude.{true, false, not, ◌&&◌}

@@ -7,7 +7,7 @@ use Rattle.std.specs.List.{list_any, list_all, filter}
 use Rattle.std.specs.Str.{bytes_eq}
 use Rattle.lexer.specs.Targets.{Target}
 use Rattle.bzlan.specs.Answer.{IsAnswer, IsReached, Meaning, requested, needed, actions_of, declares, owners}
-use Rattle.bzlan.specs.Labels.{LabelParts, label_path, label_text, relative_name}
+use Rattle.workspace.specs.Labels.{LabelParts, label_path, label_text, relative_name}
 use Rattle.bzlan.specs.NodeValues.{AreClosed, are_named_in}
 use Rattle.bzlan.specs.Outcomes.{Action, Node, Outcome}
 use Rattle.bzlan.specs.SecondForm.{SecondParts, AreDeclared, IsDeclared, has_name, is_target_of, names, label_in, labels_of, second_dependencies, second_meaning, second_outcome, second_package, second_step, step_of, target_named, target_of, other_outcome}

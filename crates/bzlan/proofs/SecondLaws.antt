@@ -7,7 +7,7 @@ use Rattle.std.proofs.lemmas.Slice.Eq.{bytes_eq-Decides}
 use Rattle.std.specs.List.{list_any, list_all}
 use Rattle.std.specs.Str.{bytes_eq}
 use Rattle.lexer.specs.Targets.{Target}
-use Rattle.bzlan.specs.Labels.{LabelParts, relative_name}
+use Rattle.workspace.specs.Labels.{LabelParts, relative_name}
 use Rattle.bzlan.specs.Outcomes.{Outcome, list, done, with_default_info}
 use Rattle.bzlan.specs.SecondForm.{SecondParts, AreDeclared, frozen_items, has_name, names, label_in, labels_of, outcome_within, provided, second_dependencies, second_outcome, second_package, second_returned, second_step, target_named, target_of}
 use Rattle.bzlan.proofs.TruthLemmas.{cases_of, neither, both, all_in, or_left, or_right, same_bytes, bytes_same}

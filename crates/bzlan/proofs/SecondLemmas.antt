@@ -12,7 +12,7 @@ use Rattle.lexer.specs.declared.second_form.DepsModuleForm.{DepsModuleForm}
 use Rattle.lexer.specs.declared.forms.FileKind.TheVariants as file
 use Rattle.bzlan.specs.FirstForm.{AreFiles, FirstParts, IsFirst}
 use Rattle.bzlan.specs.SecondForm.{HaveSecondForms, IsSecond, SecondParts}
-use Rattle.bzlan.specs.Workspaces.{Pair}
+use Rattle.workspace.specs.Workspaces.{Pair}
 use Rattle.bzlan.proofs.FirstLemmas.{AreFiles-one}
 use Rattle.lexer.specs.declared.forms.FileForm.TheVariants as found
 

@@ -5,7 +5,7 @@ use Rattle.std.specs.Cmp.Lexicographic.{slice_cmp}
 use Rattle.std.specs.Ordering.{nat_cmp}
 use Rattle.std.specs.Str.{bytes_eq}
 use Rattle.std.specs.declared.cmp.Ordering.TheVariants.{Less}
-use Rattle.bzlan.specs.Labels.{LabelParts, label_text}
+use Rattle.workspace.specs.Labels.{LabelParts, label_text}
 use Rattle.bzlan.specs.Outcomes.{Action, Conflict, LoadFault, Node, Outcome, source, done, failed}
 use Rattle.bzlan.specs.ReportText.{conflict_line, load_fault_line, node_text}
 

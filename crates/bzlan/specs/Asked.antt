@@ -1,7 +1,7 @@
 -- What the words of the command line ask for (docs/REPORT.md, "Command line"; this project's own choice).
 use Rattle.std.specs.Prelude.{ℕ, List, [], ◌∷◌, Option, Some, None, map, option_map, option_and_then}
 use Rattle.bzlan.specs.CommandLine.{Written, written}
-use Rattle.bzlan.specs.Labels.{LabelParts, label_of}
+use Rattle.workspace.specs.Labels.{LabelParts, label_of}
 use Rattle.bzlan.specs.declared.words.Request.{Request}
 use Rattle.bzlan.specs.declared.words.Taken.{Taken}
 

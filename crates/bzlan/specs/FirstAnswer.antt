@@ -1,7 +1,7 @@
 -- The answer in the first form, where its one target is the only node: its block, if it is asked for.
 use Rattle.std.specs.Prelude.{List, [], ◌∷◌}
 use Rattle.bzlan.specs.Answer.{Answer}
-use Rattle.bzlan.specs.Labels.{LabelParts}
+use Rattle.workspace.specs.Labels.{LabelParts}
 use Rattle.bzlan.specs.Outcomes.{Node, done, with_default_info}
 use Rattle.bzlan.specs.FirstForm.{FirstParts, returned}
 

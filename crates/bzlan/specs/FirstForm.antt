@@ -11,10 +11,11 @@ use Rattle.lexer.specs.declared.forms.ModuleForm.{ModuleForm}
 use Rattle.lexer.specs.declared.forms.FileKind.TheVariants as file
 use Rattle.lexer.specs.declared.forms.FileForm.TheVariants as found
 use Rattle.bzlan.specs.Answer.{Meaning}
-use Rattle.bzlan.specs.FileKinds.{is_build_file, is_module, package_of}
-use Rattle.bzlan.specs.Labels.{LabelParts, is_label, label_path, last_segment}
+use Rattle.workspace.specs.FileKinds.{is_build_file, is_module, package_of}
+use Rattle.workspace.specs.Labels.{LabelParts, is_label, label_path}
+use Rattle.workspace.specs.Paths.{last_segment}
 use Rattle.bzlan.specs.Outcomes.{Outcome, source, done, failed, no_such_target, Provider, exported, number, with_default_info}
-use Rattle.bzlan.specs.Workspaces.{Pair}
+use Rattle.workspace.specs.Workspaces.{Pair}
 
 -- a workspace has just two files, in any order: a BUILD file, and a module of its package
 pub record AreFiles (workspace : List Pair) (build_file module_file : Pair) : Type 0 where

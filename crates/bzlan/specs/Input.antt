@@ -3,7 +3,7 @@ use Rattle.std.specs.Prelude.{◌≡◌, ◌≤◌, ℕ, List, [], ◌∷◌, Op
 use Rattle.serde_json.specs.Data.{Data, Items, no_items, item}
 use Rattle.serde_json.specs.Find.{as_array, as_str}
 use Rattle.serde_json.specs.Read.{read}
-use Rattle.bzlan.specs.Workspaces.{IsWorkspace, Pair}
+use Rattle.workspace.specs.Workspaces.{IsWorkspace, Pair}
 
 -- the most bytes of an input
 abbrev pub input_limit : ℕ

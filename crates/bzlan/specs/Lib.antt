@@ -1,13 +1,8 @@
-pub mod Paths
-pub mod Labels
 pub mod Devices
 pub mod Closing
-pub mod Workspaces
-pub mod Files
 pub mod CommandLine
 pub mod Asked
 pub mod Input
-pub mod FileKinds
 pub mod Outcomes
 pub mod ReportText
 pub mod Answer

@@ -2,7 +2,7 @@
 use Rattle.std.specs.Prelude.{ℕ, List}
 use Rattle.lexer.specs.Targets.{Target}
 use Rattle.bzlan.specs.declared.blocks.Block.{Block}
-use Rattle.bzlan.specs.Labels.{label_text}
+use Rattle.workspace.specs.Labels.{label_text}
 use Rattle.bzlan.specs.ReportText.{frozen_text, node_text}
 use Rattle.bzlan.specs.SecondAnswer.{node_of}
 use Rattle.bzlan.specs.SecondForm.{SecondParts, label_in, provided, second_outcome, second_package}

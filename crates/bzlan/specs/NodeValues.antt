@@ -2,7 +2,7 @@
 use Rattle.std.specs.Prelude.{◌≡◌, true, ℕ, List, [], ◌∷◌, ◌++◌, map, codes, All}
 use Rattle.std.specs.List.{list_any, list_all}
 use Rattle.lexer.specs.Targets.{Target}
-use Rattle.bzlan.specs.Labels.{relative_name}
+use Rattle.workspace.specs.Labels.{relative_name}
 use Rattle.bzlan.specs.SecondForm.{names}
 
 abbrev pub later_texts : List (List ℕ) → List ℕ

@@ -4,7 +4,7 @@
 use Rattle.std.specs.Prelude.{ℕ, ℤ, Bool, true, false, List, [], ◌∷◌, Option, codes, if◌then◌else◌}
 use Rattle.std.specs.List.{list_any}
 use Rattle.lexer.specs.declared.fault.FaultKind.{FaultKind}
-use Rattle.bzlan.specs.Labels.{LabelParts}
+use Rattle.workspace.specs.Labels.{LabelParts}
 
 -- the order of a depset (Bazel documentation, "Depsets")
 pub data DepsetOrder : Type 0 where

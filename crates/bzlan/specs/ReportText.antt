@@ -4,7 +4,7 @@ use Rattle.std.specs.Prelude.{ℕ, ◌==◌, List, [], ◌∷◌, ◌++◌, Opti
 use Rattle.std.specs.Fmt.{signed_decimal}
 use Rattle.std.specs.List.{flat_map, join_by}
 use Rattle.lexer.specs.FaultText.{kind_text}
-use Rattle.bzlan.specs.Labels.{LabelParts, label_text}
+use Rattle.workspace.specs.Labels.{LabelParts, label_text}
 use Rattle.bzlan.specs.Outcomes.{Action, Conflict, DepsetOrder, default, postorder, preorder, Frozen, FrozenItems, number, list, depset, no_items, item, LoadFault, LoadFaultKind, syntax_fault, load_cycle, missing_file, loaded_module_failed, private_name, missing_name, unexported, Node, Outcome, source, done, failed, Provider, ProviderName, default_info, exported, TargetFault, cycle, no_such_target, package_failed, dependency_failed}
 
 abbrev pub line : List ℕ → List ℕ

@@ -2,9 +2,9 @@
 use Rattle.std.specs.Prelude.{◌≡◌, ℕ, List}
 use Rattle.bzlan.specs.declared.engine.Report.{Report}
 use Rattle.bzlan.specs.Answer.{Answer, answer_text, is_loud}
-use Rattle.bzlan.specs.Labels.{LabelParts}
+use Rattle.workspace.specs.Labels.{LabelParts}
 use Rattle.bzlan.specs.Served.{Answers}
-use Rattle.bzlan.specs.Workspaces.{Pair}
+use Rattle.workspace.specs.Workspaces.{Pair}
 
 -- a report says just what the answer is
 pub record Reports (workspace : List Pair) (labels : List LabelParts) (limit : ℕ) (r : Report) : Type 0 where

@@ -5,7 +5,7 @@ use Rattle.bzlan.specs.Asked.{Asked}
 use Rattle.bzlan.specs.Input.{Spells}
 use Rattle.bzlan.specs.Reports.{Reports}
 use Rattle.bzlan.specs.Served.{Serves}
-use Rattle.bzlan.specs.Workspaces.{Pair}
+use Rattle.workspace.specs.Workspaces.{Pair}
 use Rattle.bzlan.specs.declared.engine.Report.{Report}
 
 -- the input spells a workspace, and this is the report on it

@@ -7,7 +7,7 @@ use Rattle.bzlan.specs.Asked.{Asked, asked}
 use Rattle.bzlan.specs.Devices.{WritesBeginning}
 use Rattle.bzlan.specs.Input.{Spells, input_limit}
 use Rattle.bzlan.specs.Served.{Answers, Serves}
-use Rattle.bzlan.specs.Workspaces.{Pair}
+use Rattle.workspace.specs.Workspaces.{Pair}
 
 -- the words ask for this
 abbrev pub AsksFor : List (List ℕ) → Asked → Type 0

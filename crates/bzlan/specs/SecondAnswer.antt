@@ -6,7 +6,7 @@ use Rattle.std.specs.Ordering.{nat_cmp, is_lt}
 use Rattle.std.specs.Str.{bytes_eq}
 use Rattle.lexer.specs.Targets.{Target}
 use Rattle.bzlan.specs.Answer.{Answer}
-use Rattle.bzlan.specs.Labels.{LabelParts, label_text}
+use Rattle.workspace.specs.Labels.{LabelParts, label_text}
 use Rattle.bzlan.specs.Outcomes.{Node}
 use Rattle.bzlan.specs.SecondForm.{SecondParts, has_name, names, label_in, second_outcome, second_package}
 

@@ -13,11 +13,12 @@ use Rattle.lexer.specs.declared.second_form.DepsModuleForm.{DepsModuleForm}
 use Rattle.lexer.specs.declared.forms.FileKind.TheVariants as file
 use Rattle.lexer.specs.declared.forms.FileForm.TheVariants as found
 use Rattle.bzlan.specs.Answer.{Meaning}
-use Rattle.bzlan.specs.FileKinds.{package_of}
+use Rattle.workspace.specs.FileKinds.{package_of}
 use Rattle.bzlan.specs.FirstForm.{AreFiles}
-use Rattle.bzlan.specs.Labels.{LabelParts, is_label, label_path, last_segment, relative_name}
+use Rattle.workspace.specs.Labels.{LabelParts, is_label, label_path, relative_name}
+use Rattle.workspace.specs.Paths.{last_segment}
 use Rattle.bzlan.specs.Outcomes.{Frozen, FrozenItems, list, no_items, item, Outcome, source, done, failed, cycle, no_such_target, Provider, ProviderName, default_info, exported, with_default_info}
-use Rattle.bzlan.specs.Workspaces.{Pair}
+use Rattle.workspace.specs.Workspaces.{Pair}
 
 -- a BUILD file and a module, each with its path and text, and the free parts of the two texts
 pub record SecondParts : Type 0 where

@@ -4,12 +4,12 @@ use Rattle.bzlan.specs.declared.answer.Instance.{Instance}
 use Rattle.bzlan.specs.declared.answer.ListInstance.{ListInstance}
 use Rattle.bzlan.specs.ReportText.{line}
 use Rattle.bzlan.specs.declared.first.FirstWorkspace.{FirstWorkspace}
-use Rattle.bzlan.specs.declared.workspace.File.{File}
+use Rattle.workspace.specs.declared.workspace.File.{File}
 use Rattle.bzlan.specs.Outcomes.{Frozen, Provider, exported, number}
 use Rattle.bzlan.specs.FirstForm.{FirstParts}
 use Rattle.bzlan.specs.declared.second.SecondWorkspace.{SecondWorkspace}
 use Rattle.bzlan.specs.SecondForm.{SecondParts}
-use Rattle.bzlan.specs.Workspaces.{Pair}
+use Rattle.workspace.specs.Workspaces.{Pair}
 
 abbrev pub file_seen : File → Pair
 file_seen f = (f.path, f.text)

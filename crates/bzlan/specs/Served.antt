@@ -4,9 +4,9 @@ use Rattle.std.specs.Prelude.{◌≡◌, ◌⊎◌, ℕ, List, []}
 use Rattle.bzlan.specs.Answer.{Answer, IsAnswer, Meaning}
 use Rattle.bzlan.specs.FirstForm.{AsksFirst, FirstParts, first_meaning}
 use Rattle.bzlan.specs.SecondForm.{AsksSecond, SecondParts, second_meaning}
-use Rattle.bzlan.specs.Labels.{LabelParts}
+use Rattle.workspace.specs.Labels.{LabelParts}
 use Rattle.bzlan.specs.Outcomes.{failed, no_such_target}
-use Rattle.bzlan.specs.Workspaces.{Pair}
+use Rattle.workspace.specs.Workspaces.{Pair}
 
 -- no file and no label
 pub record AsksNothing (workspace : List Pair) (labels : List LabelParts) : Type 0 where

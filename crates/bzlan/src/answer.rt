@@ -5,9 +5,9 @@ ghost use Rattle.bzlan.specs.Outcomes.{Frozen, done, with_default_info};
 ghost use Rattle.bzlan.specs.ReportText.{frozen_text, outcome_text};
 ghost use Rattle.bzlan.specs.Seen.{instance_seen, list_instance_seen};
 
-use crate::labels::Label;
 use std::alloc::{AllocError, Global};
 use std::fmt;
+use workspace::Label;
 
 /// An instance of a module's provider, with a number in its one field.
 #[derive(Clone, Copy)]

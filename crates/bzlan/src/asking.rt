@@ -1,10 +1,11 @@
 //! For tests: what the analysis answers, as a text.
-use crate::{AnalyseStop, Gate, Label, Workspace, analyse};
+use crate::{AnalyseStop, Gate, analyse};
 use std::alloc::Global;
 use std::str;
 use std::sync::Wait;
 use std::test::Fail;
 use std::thread::Threads;
+use workspace::{Label, Workspace};
 
 fn labels_of(alloc: Global, texts: &[&str]) -> Result<Vec<Label>, Fail> {
     let mut labels = Vec::new(alloc);

@@ -5,14 +5,13 @@ ghost use Rattle.std.specs.Cmp.Lexicographic.{slice_cmp};
 ghost use Rattle.std.specs.List.{flat_map, insert};
 ghost use Rattle.std.specs.Ordering.{is_lt, nat_cmp};
 ghost use Rattle.bzlan.specs.Answer.{answer_text};
-ghost use Rattle.bzlan.specs.Labels.{label_text};
+ghost use Rattle.workspace.specs.Labels.{label_text};
 ghost use Rattle.bzlan.specs.NodeBlocks.{block_key, block_of, text_at};
 ghost use Rattle.bzlan.specs.SecondAnswer.{all_placed, placed, second_answer};
 ghost use Rattle.bzlan.specs.SecondForm.{AreDeclared, second_package};
 ghost use Rattle.bzlan.specs.Seen.{second_seen};
 
 use crate::answer::{ListInstance, listing_text};
-use crate::labels::{Label, label_with};
 use crate::nodes::reached;
 use crate::second::SecondWorkspace;
 use crate::values::values;
@@ -23,6 +22,7 @@ use std::alloc::{AllocError, Global};
 use std::cmp::Ordering;
 use std::sync::Wait;
 use std::thread::Threads;
+use workspace::{Label, label_with};
 
 /// The lines of a node, with its label.
 #[derive(Drop)]

@@ -14,14 +14,13 @@ ghost use Rattle.std.specs.List.{list_all};
 use crate::answer::done_text;
 use crate::blocks::second_report;
 use crate::first::{FirstWorkspace, read_first};
-use crate::labels::Label;
 use crate::second::{SecondWorkspace, read_second};
 use crate::stops::AnalyseStop;
-use crate::workspace::Workspace;
 use pool::{Gate, NodeId, Refused};
 use std::alloc::{AllocError, Global};
 use std::sync::Wait;
 use std::thread::Threads;
+use workspace::{Label, Workspace};
 
 /// A report, and whether it is loud: whether it has a load fault, a failed target or a conflict.
 #[derive(Drop)]

@@ -4,18 +4,18 @@ ghost use Rattle.std.specs.Prelude.{◌≡◌, ◌↔◌, ◌∷◌, ◌++◌, [
 ghost use Rattle.lexer.specs.FileForms.{HasForm};
 ghost use Rattle.lexer.specs.declared.forms.FileKind.TheVariants as file;
 ghost use Rattle.lexer.specs.declared.forms.FileForm.TheVariants as found;
-ghost use Rattle.bzlan.specs.Files.{file_pairs};
+ghost use Rattle.workspace.specs.Files.{file_pairs};
 ghost use Rattle.bzlan.specs.FirstForm.{AreFiles, AreLinked, FirstParts, HaveForms, IsFirst, first_package, first_target, returned};
-ghost use Rattle.bzlan.specs.Labels.{last_segment};
+ghost use Rattle.workspace.specs.Paths.{last_segment};
 ghost use Rattle.bzlan.specs.Seen.{file_seen, first_seen, instance_seen};
-ghost use Rattle.bzlan.specs.Workspaces.{Pair};
+ghost use Rattle.workspace.specs.Workspaces.{Pair};
 
 use crate::answer::Instance;
-use crate::file_kinds::{is_build_file, is_module, package_of};
-use crate::labels::{Label, is_label, last_segment};
-use crate::workspace::{File, Workspace};
 use lexer::{BuildForm, FileForm, FileKind, ModuleForm, NoMemory, form};
 use std::alloc::Global;
+use workspace::{
+    File, Label, Workspace, is_build_file, is_label, is_module, last_segment, package_of,
+};
 
 /// A workspace of the first form.
 #[derive(Drop)]

@@ -4,13 +4,13 @@ ghost use Rattle.std.specs.Prelude.{◌≡◌, List, IfOk, Err, Some, None, IsUt
 ghost use Rattle.serde_json.specs.Read.{read};
 ghost use Rattle.serde_json.specs.View.{items_view, view};
 ghost use Rattle.bzlan.specs.Input.{Spells, pair_of, pair_of_items, pairs_of, pairs_of_items};
-ghost use Rattle.bzlan.specs.Workspaces.{Pair, pairs_behind};
+ghost use Rattle.workspace.specs.Workspaces.{Pair, pairs_behind};
 
 use crate::devices::INPUT_LIMIT;
-use crate::workspace::{Workspace, WorkspaceRefused};
 use serde_json::Value;
 use serde_json::error::Category;
 use std::alloc::Global;
+use workspace::{Workspace, WorkspaceRefused};
 
 /// Why an input gave no workspace.
 #[derive(Clone, Copy, Debug, PartialEq, Eq)]

@@ -1,17 +1,12 @@
-//! What the definitions of labels and of answers come to, as laws.
+//! What the definitions of answers come to, as laws.
 
-ghost use Rattle.std.specs.Prelude.{◌≡◌, true, ℕ, List, Option, Some, map};
+ghost use Rattle.std.specs.Prelude.{◌≡◌, ℕ, List, map};
 ghost use Rattle.bzlan.specs.Answer.{Answer, Meaning};
-ghost use Rattle.bzlan.specs.Labels.{LabelParts, is_label, label_of, label_text};
+ghost use Rattle.workspace.specs.Labels.{LabelParts};
 ghost use Rattle.bzlan.specs.Outcomes.{Outcome};
 ghost use Rattle.bzlan.specs.SecondForm.{IsSecond, SecondParts, second_dependencies, second_outcome, second_step};
 ghost use Rattle.bzlan.specs.Served.{Answers, Serves};
-ghost use Rattle.bzlan.specs.Workspaces.{Pair};
-
-/// The text of a label is read as that label, whatever package is given.
-pub fn texts_of_labels_are_read()
-    ensures { (l : LabelParts) (given : Option (List ℕ)) → is_label l ≡ true → label_of (label_text l) given ≡ Some l }
-{}
+ghost use Rattle.workspace.specs.Workspaces.{Pair};
 
 /// In a workspace of the second form what becomes of a label is the step over what becomes of its dependencies, and no
 /// other function has this law.

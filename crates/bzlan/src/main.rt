@@ -5,36 +5,29 @@ mod answer;
 mod blocks;
 mod devices;
 mod engine;
-mod file_kinds;
 mod first;
 mod input;
-mod labels;
 mod laws;
 mod nodes;
-mod paths;
 mod plan;
 mod second;
 mod serve;
 mod stops;
 mod values;
 mod words;
-mod workspace;
 
 pub use devices::{
     Counted, INPUT_LIMIT, InputStop, Sink, Source, WriteFailed, read_input, write_all,
 };
 pub use engine::analyse;
 pub use input::{InputRefused, read_workspace};
-pub use labels::{Label, LabelRefused};
-pub use laws::{outcomes_are_by_edges, served_has_one_answer, texts_of_labels_are_read};
-pub use paths::{PATH_LIMIT, is_path};
+pub use laws::{outcomes_are_by_edges, served_has_one_answer};
 pub use pool::{Gate, NoGate, NodeId};
 use serve::serve;
 use std::process::ExitCode;
 use std::{env, io};
 pub use stops::{AnalyseStop, ServeStop, closing};
 pub use words::{Request, WordsStop, read_words};
-pub use workspace::{File, TEXT_LIMIT, Workspace, WorkspaceRefused};
 
 /// The words of the command line, the program's name first.
 ///

@@ -6,11 +6,11 @@ ghost use Rattle.std.specs.Str.{bytes_eq};
 ghost use Rattle.bzlan.specs.SecondAnswer.{is_asked, is_needed_by, reached, with_reached};
 ghost use Rattle.bzlan.specs.SecondForm.{names};
 
-use crate::labels::Label;
 use crate::second::is_named;
 use lexer::TargetForm;
 use plain::Text;
 use std::alloc::{AllocError, Global};
+use workspace::Label;
 
 fn bears(label: &Label, target: &TargetForm) -> bool
     ensures { result ≡ bytes_eq label.now.name target.now.name }

@@ -10,13 +10,11 @@ ghost use Rattle.lexer.specs.declared.forms.FileForm.TheVariants as found;
 ghost use Rattle.bzlan.specs.SecondForm.{AreDeclared, HaveSecondForms, IsDeclared, IsSecond, LoadsRule, SecondParts, has_name, is_once, is_target_of, names, second_package};
 ghost use Rattle.bzlan.specs.Seen.{file_seen, second_seen};
 
-use crate::file_kinds::package_of;
 use crate::first::{loads, two_files};
-use crate::labels::{Label, is_label};
-use crate::workspace::{File, Workspace};
 use lexer::{DepsModuleForm, FileForm, FileKind, NoMemory, TargetForm, TargetsForm, form};
 use plain::Text;
 use std::alloc::Global;
+use workspace::{File, Label, Workspace, is_label, package_of};
 
 /// A workspace of the second form.
 #[derive(Drop)]

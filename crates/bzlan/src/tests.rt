@@ -1,12 +1,11 @@
 //! Labels, workspaces, command lines and inputs, as tables of what is taken and what is refused.
 
 use crate::input::{InputRefused, read_workspace};
-use crate::labels::{Label, LabelRefused};
 use crate::memory::long_text;
 use crate::words::{WordsStop, read_words};
-use crate::workspace::{Workspace, WorkspaceRefused};
 use std::alloc::Global;
 use std::test::Fail;
+use workspace::{Label, LabelRefused, Workspace, WorkspaceRefused};
 
 /// Whether a share of the label is equal to it.
 fn is_shared(label: &Label) -> bool {

@@ -7,12 +7,12 @@ ghost use Rattle.clap.specs.declared.builder.value_parser.ValueParser.TheVariant
 ghost use Rattle.bzlan.specs.Asked.{asked, asked_by, each_label, written_by};
 ghost use Rattle.bzlan.specs.CommandLine.{command_line, texts_of, labels_rule, number_within, steps_rule, workers_rule, written};
 
-use crate::labels::{Label, LabelRefused};
 use clap::builder::ValueParser;
 use clap::error::ErrorKind;
 use clap::{Arg, ArgMatches, Command, value_parser};
 use std::alloc::{AllocError, Global};
 use std::convert::AsStr;
+use workspace::{Label, LabelRefused};
 
 /// What the words ask for.
 #[derive(Drop)]

@@ -1,7 +1,7 @@
 use Rattle.std.proofs.Common.{◌∙◌, ap, List, [], ℕ, ◌++◌, codes}
 use Rattle.std.proofs.lemmas.Result.{IfOk-weaker}
 use Rattle.bzlan.proofs.ReportLemmas.{done-text}
-use Rattle.bzlan.specs.Labels.{label_text}
+use Rattle.workspace.specs.Labels.{label_text}
 use Rattle.bzlan.specs.ReportText.{line}
 use Rattle.bzlan.specs.Seen.{list_instance_seen, list_line_seen}
 use Rattle.bzlan.proofs.answer.listing_text.Goals as goal

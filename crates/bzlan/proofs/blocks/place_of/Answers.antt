@@ -1,7 +1,7 @@
 use Rattle.std.proofs.Common.{◌≡◌, ◌∙◌, ap, sym, arith, false, true}
 use Rattle.std.specs.Cmp.Lexicographic.{slice_cmp}
 use Rattle.std.specs.Ordering.{nat_cmp, is_lt}
-use Rattle.bzlan.specs.Labels.{LabelParts, label_text}
+use Rattle.workspace.specs.Labels.{LabelParts, label_text}
 use Rattle.bzlan.specs.NodeBlocks.{block_key}
 use Rattle.bzlan.proofs.BlockLemmas.{place_here, place_last, place_more}
 use Rattle.bzlan.proofs.blocks.place_of.Goals as goal

@@ -1,5 +1,5 @@
 use Rattle.std.proofs.Common.{◌≡◌, ◌∙◌, ap, sym, [], ◌∷◌, map, Some, List, ℕ, true}
-use Rattle.bzlan.specs.Labels.{LabelParts, is_label, label_text}
+use Rattle.workspace.specs.Labels.{LabelParts, is_label, label_text}
 use Rattle.bzlan.specs.NodeBlocks.{block_of}
 use Rattle.bzlan.specs.Outcomes.{Frozen, list, exported, done, with_default_info}
 use Rattle.bzlan.specs.ReportText.{frozen_text, node_text, outcome_text}

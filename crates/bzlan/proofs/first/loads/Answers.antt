@@ -1,7 +1,7 @@
 use Rattle.std.proofs.Common.{None, lit<}
 use Rattle.std.proofs.lemmas.Bool.{false≢true}
 use Rattle.std.proofs.lemmas.Str.Pattern.{strip_prefix_char}
-use Rattle.bzlan.specs.Labels.{last_segment}
+use Rattle.workspace.specs.Paths.{last_segment}
 use Rattle.bzlan.proofs.first.loads.Goals as goal
 
 pub returns-in-None : goal.returns-in-None

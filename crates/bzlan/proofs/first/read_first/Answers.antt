@@ -1,7 +1,7 @@
 use Rattle.std.proofs.Common.{sym, subst, List}
 use Rattle.bzlan.specs.Seen.{file_seen}
 use Rattle.bzlan.specs.FirstForm.{AreFiles}
-use Rattle.bzlan.specs.Workspaces.{Pair}
+use Rattle.workspace.specs.Workspaces.{Pair}
 use Rattle.bzlan.proofs.FirstLemmas.{AreFiles-one}
 use Rattle.bzlan.proofs.first.read_first.Goals as goal
 

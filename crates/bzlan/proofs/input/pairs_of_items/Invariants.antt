@@ -1,7 +1,7 @@
 use Rattle.std.proofs.Common.{◌≡◌, drop}
 use Rattle.serde_json.specs.View.{items_view}
 use Rattle.bzlan.specs.Input.{pairs_of_items}
-use Rattle.bzlan.specs.Workspaces.{pairs_behind}
+use Rattle.workspace.specs.Workspaces.{pairs_behind}
 use Rattle.bzlan.proofs.InputLemmas.{after}
 use Rattle.bzlan.proofs.input.pairs_of_items.Given as goal
 

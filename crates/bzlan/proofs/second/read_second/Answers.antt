@@ -3,7 +3,7 @@ use Rattle.std.proofs.lemmas.Bool.{false≢true}
 use Rattle.bzlan.specs.Seen.{file_seen, second_seen}
 use Rattle.bzlan.specs.FirstForm.{AreFiles}
 use Rattle.bzlan.specs.SecondForm.{AreDeclared, HaveSecondForms, SecondParts, second_package}
-use Rattle.bzlan.specs.Workspaces.{Pair}
+use Rattle.workspace.specs.Workspaces.{Pair}
 use Rattle.bzlan.proofs.FirstLemmas.{AreFiles-one}
 use Rattle.bzlan.proofs.SecondLemmas.{IsSecond-one}
 use Rattle.bzlan.proofs.second.read_second.Goals as goal

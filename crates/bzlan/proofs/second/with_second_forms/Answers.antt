@@ -2,7 +2,7 @@ use Rattle.std.proofs.Common.{◌∙◌, ap, sym, subst, List, ℕ}
 use Rattle.lexer.specs.FileForms.{HasForm}
 use Rattle.lexer.specs.declared.forms.FileKind.TheVariants as file
 use Rattle.lexer.specs.declared.forms.FileForm.TheVariants as found
-use Rattle.bzlan.specs.Workspaces.{Pair}
+use Rattle.workspace.specs.Workspaces.{Pair}
 use Rattle.bzlan.proofs.second.with_second_forms.Goals as goal
 
 pub returns-in_default-clause-none : goal.returns-in_default-clause-none

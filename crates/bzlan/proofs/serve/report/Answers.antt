@@ -1,5 +1,5 @@
 use Rattle.std.proofs.Common.{ap, sym, subst, Err, List}
-use Rattle.bzlan.specs.Labels.{LabelParts}
+use Rattle.workspace.specs.Labels.{LabelParts}
 use Rattle.bzlan.specs.Served.{Serves}
 use Rattle.bzlan.proofs.serve.report.Goals as goal
 

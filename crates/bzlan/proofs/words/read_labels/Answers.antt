@@ -1,6 +1,6 @@
 use Rattle.std.proofs.Common.{◌≡◌, ◌∙◌, ap, sym, Err, Some, List}
-use Rattle.bzlan.specs.Labels.{LabelParts}
-use Rattle.bzlan.specs.declared.labels.LabelRefused.TheVariants.{Illegal}
+use Rattle.workspace.specs.Labels.{LabelParts}
+use Rattle.workspace.specs.declared.labels.LabelRefused.TheVariants.{Illegal}
 use Rattle.bzlan.proofs.AskedLemmas.{each_label-refused, each_label-step}
 use Rattle.bzlan.proofs.words.read_labels.Goals as goal
 

@@ -1,5 +1,0 @@
-use Rattle.bzlan.proofs.LabelLaws.{label_text-reads}
-use Rattle.bzlan.proofs.laws.texts_of_labels_are_read.Goals as goal
-
-pub returns : goal.returns
-returns c = label_text-reads

@@ -1,0 +1,3 @@
+pub mod LabelLemmas
+pub mod LabelLaws
+pub mod WorkspaceLemmas

@@ -1,0 +1,222 @@
+//! The labels of targets and files.
+
+ghost use Rattle.std.specs.Prelude.{◌≡◌, IfOk, true, None, Some, Err};
+ghost use Rattle.std.specs.Str.{bytes_eq};
+ghost use Rattle.std.specs.Ordering.{nat_cmp, on};
+ghost use Rattle.workspace.specs.Labels.{is_label, label_of, label_parts, label_text, given_package, relative_name, whole_parts, written_parts};
+
+use crate::paths::{PATH_LIMIT, is_path, last_segment};
+use plain::Text;
+use std::alloc::{AllocError, Global};
+use std::cmp::Ordering;
+use std::hash::{Hash, Hasher};
+use std::marker::Model;
+
+/// The label of a target or of a file: a package, which may be empty, and a name.
+///
+/// To a contract it is these two. Labels are equal, hashed and ordered by the bytes of their texts, so
+/// `//a/b:x` comes before `//a:x`; that is why the text is kept beside its parts.
+#[derive(Drop)]
+pub struct Label {
+    package: Text,
+    name: Text,
+    text: Text,
+}
+
+impl Model for Label {
+    ghost use Rattle.workspace.specs.Labels.{LabelParts, IsLabelKept};
+
+    ghost Value = { LabelParts };
+
+    ghost view = { λ l. record { «package» = l.«package»; name = l.name } };
+
+    ghost invariant = { λ l. IsLabelKept (record { «package» = l.«package»; name = l.name }) l.text };
+}
+
+/// Why a text gave no label.
+#[derive(Clone, Copy, Debug, PartialEq, Eq)]
+pub enum LabelRefused {
+    /// The text is no label.
+    Illegal,
+    /// Memory for the label was refused.
+    NoMemory,
+}
+
+/// Package and name in what follows `//`.
+fn whole_parts(rest: &str) -> (&str, &str)
+    ensures { whole_parts rest.now ≡ record { «package» = result.0.now; name = result.1.now } }
+{
+    match rest.split_once(':') {
+        Some((package, name)) => (package, name),
+        None => (rest, last_segment(rest)),
+    }
+}
+
+/// The name that `:n` or `n` writes.
+fn relative_name(text: &str) -> &str
+    ensures { result.now ≡ relative_name text.now }
+{
+    match text.strip_prefix(':') {
+        Some(name) => name,
+        None => text,
+    }
+}
+
+/// Package and name that a text writes, legal or not.
+fn label_parts<'a>(text: &'a str, package: Option<&'a str>) -> Option<(&'a str, &'a str)>
+    ensures { written_parts result ≡ label_parts text.now (given_package «package».entry) }
+{
+    match text.strip_prefix("//") {
+        Some(rest) => Some(whole_parts(rest)),
+        None => match package {
+            Some(package) => Some((package, relative_name(text))),
+            None => None,
+        },
+    }
+}
+
+/// Whether a package and a name make a label.
+pub fn is_label(package: &str, name: &str) -> bool
+    ensures { result ≡ is_label (record { «package» = «package».now; name = name.now }) }
+{
+    is_path(name)
+        && (package.is_empty() || is_path(package) && package.len() + name.len() < PATH_LIMIT)
+}
+
+/// The label of a package and a name that make one.
+pub fn label_with(alloc: Global, package: &str, name: &str) -> Result<Label, AllocError>
+    requires { is_label (record { «package» = «package».now; name = name.now }) ≡ true }
+    ensures { IfOk result (λ l. l ≡ record { «package» = «package».now; name = name.now }) }
+{
+    let text = Text::from_string(format!(in alloc; "//{package}:{name}")?)?;
+    Ok(Label {
+        package: Text::new(alloc, package)?,
+        name: Text::new(alloc, name)?,
+        text,
+    })
+}
+
+impl Label {
+    /// The label that a text is: `//p:n`, `//:n`, `//p`, and where a package is given also `:n` and `n`.
+    ///
+    /// The name of `//p` is the last segment of `p`. A text that begins with `//` is never relative.
+    ///
+    /// # Errors
+    ///
+    /// `Illegal` where the text is no label, or none in this package, and `NoMemory` where memory was refused.
+    pub fn read(alloc: Global, text: &str, package: Option<&str>) -> Result<Label, LabelRefused>
+        ensures ok { IfOk result (λ l. label_of text.now (given_package «package».entry) ≡ Some l) }
+        ensures illegal { result ≡ Err LabelRefused.Illegal
+            → label_of text.now (given_package «package».entry) ≡ None }
+    {
+        let Some((package, name)) = label_parts(text, package) else {
+            return Err(LabelRefused::Illegal);
+        };
+        if !is_label(package, name) {
+            return Err(LabelRefused::Illegal);
+        }
+        match label_with(alloc, package, name) {
+            Ok(label) => Ok(label),
+            Err(_) => Err(LabelRefused::NoMemory),
+        }
+    }
+
+    /// Its package, empty for the root package.
+    pub fn package(&self) -> &str
+        ensures { result.now ≡ self.now.«package» }
+    {
+        self.package.as_str()
+    }
+
+    /// Its name.
+    pub fn name(&self) -> &str
+        ensures { result.now ≡ self.now.name }
+    {
+        self.name.as_str()
+    }
+
+    /// Its text, `//PACKAGE:NAME`.
+    pub fn text(&self) -> &str
+        ensures { result.now ≡ label_text self.now }
+    {
+        self.text.as_str()
+    }
+
+    /// Another name of the same label, which shares its texts.
+    ///
+    /// # Errors
+    ///
+    /// `AllocError` where the count of a text's names is at its greatest.
+    pub fn share(&self) -> Result<Label, AllocError>
+        ensures { IfOk result (λ l. l ≡ self.now) }
+    {
+        Ok(Label {
+            package: self.package.share()?,
+            name: self.name.share()?,
+            text: self.text.share()?,
+        })
+    }
+}
+
+impl PartialEq for Label {
+    ghost use Rattle.std.specs.Cmp.{partial_equiv_from_equiv};
+    ghost use Rattle.std.specs.Cmp.Lexicographic.{on_texts_equal};
+
+    ghost eq = { on label_text bytes_eq };
+
+    ghost laws = { partial_equiv_from_equiv (on_texts_equal label_text) };
+
+    fn eq(&self, other: &Label) -> bool {
+        self.text() == other.text()
+    }
+}
+
+impl Eq for Label {
+    ghost use Rattle.std.specs.Cmp.Lexicographic.{on_texts_equal};
+
+    ghost laws = { on_texts_equal label_text };
+}
+
+impl PartialOrd for Label {
+    ghost use Rattle.std.specs.Cmp.{on_po};
+    ghost use Rattle.std.specs.Cmp.Lexicographic.{slice_cmp, texts_po};
+
+    ghost partial_cmp = { λ x y. Some (on label_text (slice_cmp nat_cmp) x y) };
+
+    ghost laws = { on_po label_text texts_po };
+
+    fn partial_cmp(&self, other: &Label) -> Option<Ordering> {
+        Some(self.cmp(other))
+    }
+}
+
+impl Ord for Label {
+    ghost use Rattle.std.specs.Prelude.{refl};
+    ghost use Rattle.std.specs.Cmp.Lexicographic.{slice_cmp, on_texts, texts_ties};
+
+    ghost cmp = { on label_text (slice_cmp nat_cmp) };
+
+    ghost total = { on_texts label_text };
+
+    ghost matches_partial_cmp = { λ x y. refl };
+
+    ghost matches_eq = { λ x y. texts_ties (label_text x) (label_text y) };
+
+    fn cmp(&self, other: &Label) -> Ordering {
+        self.text().cmp(other.text())
+    }
+}
+
+impl Hash for Label {
+    ghost use Rattle.std.specs.Hash as fed;
+    ghost use Rattle.std.specs.Cmp.Rules.{hashing};
+    ghost use Rattle.std.proofs.Common.{rules};
+
+    ghost hash_input = { λ l. fed.str (label_text l) };
+
+    ghost respects_eq = { Prim.search (hashing, rules) };
+
+    fn hash<H: Hasher>(&self, state: &mut H) {
+        self.text().hash(state);
+    }
+}
