@@ -2,3 +2,4 @@ pub mod ClaimLemmas
 pub mod ClashLemmas
 pub mod ClashUnique
 pub mod OwnerLemmas
+pub mod Crossing

@@ -12,6 +12,3 @@ mod gather;
 
 pub use action::{Action, Files, Inputs, Owned, Words};
 pub use gather::{Conflict, conflicts};
-
-#[cfg(test)]
-mod tests;

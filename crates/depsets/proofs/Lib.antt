@@ -4,3 +4,4 @@ pub mod Turns
 pub mod Same
 pub mod TypeLemmas
 pub mod Walked
+pub mod Crossing

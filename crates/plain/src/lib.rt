@@ -10,6 +10,3 @@ mod text;
 
 pub use stack::Stack;
 pub use text::Text;
-
-#[cfg(test)]
-mod tests;

@@ -7,3 +7,4 @@ pub mod ReprLemmas
 pub mod VisitLemmas
 pub mod RevisitLemmas
 pub mod KeyListLemmas
+pub mod Crossing

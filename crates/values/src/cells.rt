@@ -16,7 +16,6 @@ pub const LARGEST: usize = 1_048_576;
 
 /// A cell: a list or a dict with the number of walks over it that go on, or a tuple or an instance, which
 /// never changes. The fields of an instance are entries whose keys are their names.
-#[derive(Drop)]
 pub enum Cell {
     List(Items, u64),
     Tuple(Items),
@@ -174,5 +173,16 @@ impl Entries {
             keys.insert(key)?;
         }
         Ok(keys)
+    }
+}
+
+impl Drop for Cell {
+    fn drop(self) {
+        match self {
+            Cell::List(_, _) => {}
+            Cell::Tuple(_) => {}
+            Cell::Dict(_, _) => {}
+            Cell::Instance(_, _) => {}
+        }
     }
 }

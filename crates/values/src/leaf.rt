@@ -9,7 +9,6 @@ use plain::Text;
 use std::alloc::AllocError;
 
 /// A value without parts that equality would visit.
-#[derive(Drop)]
 pub enum Leaf {
     None,
     Truth(bool),
@@ -32,7 +31,7 @@ pub enum Leaf {
 }
 
 /// A function written in Starlark: the path of its module, its name there, and its number among the module's functions.
-#[derive(PartialEq, Eq, Drop)]
+#[derive(PartialEq, Eq)]
 pub struct FunctionRef {
     pub path: Text,
     pub name: Text,
@@ -41,21 +40,21 @@ pub struct FunctionRef {
 
 /// What a provider or a rule is called: by the first global of its module that has it as its value, and
 /// until the module's end by its number among those that the module has made.
-#[derive(PartialEq, Eq, Drop)]
+#[derive(PartialEq, Eq)]
 pub enum ExportName {
     Global(Text),
     Making(u64),
 }
 
 /// A provider or a rule: the path of the module that made it, and what it is called there.
-#[derive(PartialEq, Eq, Drop)]
+#[derive(PartialEq, Eq)]
 pub struct Exported {
     pub path: Text,
     pub name: ExportName,
 }
 
 /// A provider: `DefaultInfo`, which every file knows, or one that a module made.
-#[derive(PartialEq, Eq, Drop)]
+#[derive(PartialEq, Eq)]
 pub enum ProviderRef {
     DefaultInfo,
     Exported(Exported),
@@ -73,7 +72,7 @@ pub enum AttributeKind {
 }
 
 /// An attribute declaration: its kind, the path of the module that made it, and its number among those of the module.
-#[derive(PartialEq, Eq, Drop)]
+#[derive(PartialEq, Eq)]
 pub struct AttributeRef {
     pub kind: AttributeKind,
     pub path: Text,
@@ -91,7 +90,7 @@ pub enum Object {
 }
 
 /// A key of a dict: a string, a whole number or a bool. The fields of an instance are keyed by their names.
-#[derive(PartialEq, Eq, Hash, Drop)]
+#[derive(PartialEq, Eq, Hash)]
 pub enum Key {
     Text(Text),
     Number(i64),
@@ -216,6 +215,83 @@ impl Key {
             Key::Text(text) => Ok(Leaf::Text(text.share()?)),
             Key::Number(number) => Ok(Leaf::Number(*number)),
             Key::Truth(truth) => Ok(Leaf::Truth(*truth)),
+        }
+    }
+}
+
+// The drops of these are written out: a derived one would stand in full at each place where a value may be dropped.
+
+impl Drop for Leaf {
+    fn drop(self) {
+        match self {
+            Leaf::None => {}
+            Leaf::Truth(_) => {}
+            Leaf::Number(_) => {}
+            Leaf::Text(_) => {}
+            Leaf::Label(_) => {}
+            Leaf::File(_) => {}
+            Leaf::Depset(_) => {}
+            Leaf::Function(_) => {}
+            Leaf::BuiltIn(_) => {}
+            Leaf::Provider(_) => {}
+            Leaf::Rule(_) => {}
+            Leaf::Attribute(_) => {}
+            Leaf::Target(_) => {}
+            Leaf::Object(_) => {}
+        }
+    }
+}
+
+impl Drop for FunctionRef {
+    fn drop(self) {
+        let FunctionRef {
+            path: _,
+            name: _,
+            number: _,
+        } = self;
+    }
+}
+
+impl Drop for ExportName {
+    fn drop(self) {
+        match self {
+            ExportName::Global(_) => {}
+            ExportName::Making(_) => {}
+        }
+    }
+}
+
+impl Drop for Exported {
+    fn drop(self) {
+        let Exported { path: _, name: _ } = self;
+    }
+}
+
+impl Drop for ProviderRef {
+    fn drop(self) {
+        match self {
+            ProviderRef::DefaultInfo => {}
+            ProviderRef::Exported(_) => {}
+        }
+    }
+}
+
+impl Drop for AttributeRef {
+    fn drop(self) {
+        let AttributeRef {
+            kind: _,
+            path: _,
+            number: _,
+        } = self;
+    }
+}
+
+impl Drop for Key {
+    fn drop(self) {
+        match self {
+            Key::Text(_) => {}
+            Key::Number(_) => {}
+            Key::Truth(_) => {}
         }
     }
 }

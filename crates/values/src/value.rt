@@ -5,7 +5,6 @@ use crate::{Frozen, Leaf};
 use std::alloc::AllocError;
 
 /// A value: a leaf, a cell of the heap by its number, or a frozen value.
-#[derive(Drop)]
 pub enum Value {
     Leaf(Leaf),
     Cell(usize),
@@ -21,6 +20,16 @@ impl Value {
             Value::Leaf(leaf) => Ok(Value::Leaf(leaf.share()?)),
             Value::Cell(number) => Ok(Value::Cell(*number)),
             Value::Frozen(tree) => Ok(Value::Frozen(tree.share()?)),
+        }
+    }
+}
+
+impl Drop for Value {
+    fn drop(self) {
+        match self {
+            Value::Leaf(_) => {}
+            Value::Cell(_) => {}
+            Value::Frozen(_) => {}
         }
     }
 }

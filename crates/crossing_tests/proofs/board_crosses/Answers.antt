@@ -1,0 +1,9 @@
+use Rattle.board.proofs.board.Board.TheSendSync as board
+use Rattle.crossing_tests.proofs.Crossing.{crosses}
+use Rattle.crossing_tests.proofs.board_crosses.Goals as goal
+
+pub crosses-requires-send-T : goal.crosses-requires-send-T
+crosses-requires-send-T c κs = search (board.the_send, crosses) depth 40
+
+pub crosses-requires-sync-T : goal.crosses-requires-sync-T
+crosses-requires-sync-T c κs = search (board.the_sync, crosses) depth 40
