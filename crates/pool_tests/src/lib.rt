@@ -4,8 +4,6 @@
 #[cfg(test)]
 mod analysers;
 #[cfg(test)]
-mod gates;
-#[cfg(test)]
 mod graphs;
 #[cfg(test)]
 mod pair;

@@ -2,8 +2,8 @@
 ghost use Rattle.std.specs.Prelude.{◌≡◌, length, IfSome};
 
 use crate::analysers::{Mixing, Nesting, Refusing};
-use crate::gates::{Counting, Meeting};
 use crate::graphs::{apart, chain, diamond};
+use fakes::gates::{Counting, Meeting};
 use pool::{Gate, Gathered, Graph, NoGate, NodeId, Refused, run};
 use std::alloc::Global;
 use std::sync::Wait;

@@ -4,12 +4,13 @@ use std::alloc::{AllocError, Global};
 use std::sync::atomic::{AtomicU64, Ordering};
 use std::thread;
 
-/// How often a gate looks before it gives up.
+/// How often a worker looks at a gate before it gives up.
 const TURNS: u64 = 1_000_000_000;
 
-/// Holds workers up at the nodes from `low` to `high` until so many of these nodes were entered.
+/// Holds workers up at the nodes from `low` to `high`, until as many of these nodes as are wanted
+/// were entered. A worker that looked a billion times in vain gives up.
 #[derive(Drop)]
-pub(crate) struct Meeting {
+pub struct Meeting {
     low: usize,
     high: usize,
     wanted: u64,
@@ -19,7 +20,7 @@ pub(crate) struct Meeting {
 
 impl Meeting {
     /// Nobody has entered yet.
-    pub(crate) fn of(low: usize, high: usize, wanted: u64) -> Meeting {
+    pub fn of(low: usize, high: usize, wanted: u64) -> Meeting {
         Meeting {
             low,
             high,
@@ -29,9 +30,9 @@ impl Meeting {
         }
     }
 
-    /// Whether all who were wanted met.
-    pub(crate) fn met(&self) -> bool {
-        self.entered.load(Ordering::SeqCst) >= self.wanted
+    /// Whether just those who were wanted met, and nobody gave up.
+    pub fn met(&self) -> bool {
+        self.entered.load(Ordering::SeqCst) == self.wanted
             && self.given_up.load(Ordering::SeqCst) == 0
     }
 }
@@ -56,9 +57,42 @@ impl Gate for Meeting {
 
 /// Counts for each node how often it was entered and left.
 #[derive(Drop)]
-pub(crate) struct Counting {
+pub struct Counting {
     entered: Vec<AtomicU64>,
     left: Vec<AtomicU64>,
+}
+
+impl Counting {
+    /// None of so many nodes was entered or left yet. `AllocError` comes where the allocator
+    /// refuses memory.
+    pub fn of(alloc: Global, nodes: usize) -> Result<Counting, AllocError> {
+        Ok(Counting {
+            entered: zeros(alloc, nodes)?,
+            left: zeros(alloc, nodes)?,
+        })
+    }
+
+    /// Whether each node was entered and left once.
+    pub fn once(&self) -> bool {
+        all_one(self.entered.as_slice()) && all_one(self.left.as_slice())
+    }
+}
+
+impl Gate for Counting {
+    fn enter(&self, n: NodeId) {
+        count(self.entered.as_slice(), n);
+    }
+
+    fn leave(&self, n: NodeId) {
+        count(self.left.as_slice(), n);
+    }
+}
+
+/// One more for the node, if it has a place.
+fn count(counts: &[AtomicU64], n: NodeId) {
+    if let Some(count) = counts.get(n.number()) {
+        count.fetch_add(1, Ordering::SeqCst);
+    }
 }
 
 fn zeros(alloc: Global, nodes: usize) -> Result<Vec<AtomicU64>, AllocError> {
@@ -76,33 +110,4 @@ fn all_one(counts: &[AtomicU64]) -> bool {
         }
     }
     true
-}
-
-impl Counting {
-    /// No node was entered or left yet.
-    pub(crate) fn of(alloc: Global, nodes: usize) -> Result<Counting, AllocError> {
-        Ok(Counting {
-            entered: zeros(alloc, nodes)?,
-            left: zeros(alloc, nodes)?,
-        })
-    }
-
-    /// Whether each node was entered and left once.
-    pub(crate) fn once(&self) -> bool {
-        all_one(self.entered.as_slice()) && all_one(self.left.as_slice())
-    }
-}
-
-impl Gate for Counting {
-    fn enter(&self, n: NodeId) {
-        if let Some(count) = self.entered.get(n.number()) {
-            count.fetch_add(1, Ordering::SeqCst);
-        }
-    }
-
-    fn leave(&self, n: NodeId) {
-        if let Some(count) = self.left.get(n.number()) {
-            count.fetch_add(1, Ordering::SeqCst);
-        }
-    }
 }

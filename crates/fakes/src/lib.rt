@@ -1,0 +1,4 @@
+//! What tests of several crates set in the place of the real thing.
+#![tactic(auto)]
+
+pub mod gates;
