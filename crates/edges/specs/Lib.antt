@@ -1,0 +1,5 @@
+pub mod Walks
+pub mod Outcomes
+pub mod Rows
+pub mod Flat
+pub mod Rooms

@@ -1,0 +1,27 @@
+-- Lists that fill up: each has a room of its own among the entries, and takes the first of its room.
+use Rattle.std.specs.Prelude.{◌≡◌, ℕ, ◌+◌, ◌-◌, ◌<◌, ◌≤◌, List, length, map, take, slice_index}
+use Rattle.std.specs.List.{range_with_len, slice_range, sum}
+use Rattle.edges.specs.Flat.{IsFlat}
+
+-- the lists so far, and how many entries each has room for
+pub record RoomsView : Type 0 where
+  pub lists : List (List ℕ)
+  pub room : List ℕ
+
+-- the entries from the start of a room as far as it is filled
+abbrev pub filled : List ℕ → List ℕ → List ℕ → List (List ℕ)
+filled starts ends entries = map (λ n. slice_range entries (slice_index starts n) (slice_index ends n)) (range_with_len 0 (length ends))
+
+-- how long each room is
+abbrev pub rooms : List ℕ → ℕ → List ℕ
+rooms starts count = map (λ n. slice_index starts (n + 1) - slice_index starts n) (range_with_len 0 count)
+
+-- each list ends within its room
+pub record IsRoomy (starts ends entries : List ℕ) : Type 0 where
+  pub flat : IsFlat starts entries
+  pub count : length starts ≡ length ends + 1
+  pub within : (n : ℕ) → n < length ends → (slice_index starts n ≤ slice_index ends n) × (slice_index ends n ≤ slice_index starts (n + 1))
+
+-- the sum of the first i sizes: where the room of that number starts, when rooms of these sizes stand one behind the other
+abbrev pub sum_to : List ℕ → ℕ → ℕ
+sum_to sizes i = sum (take i sizes)
