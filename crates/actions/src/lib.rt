@@ -9,6 +9,8 @@
 mod action;
 mod claims;
 mod gather;
+mod laws;
 
 pub use action::{Action, Files, Inputs, Owned, Words};
 pub use gather::{Conflict, conflicts};
+pub use laws::{actions_have_one_list_of_conflicts, owners_of_a_path_are_its_labels};
