@@ -5,3 +5,8 @@ pub mod Lists
 pub mod Flat
 pub mod Filling
 pub mod Sorting
+pub mod Counting
+pub mod Turns
+pub mod Ends
+pub mod Orders
+pub mod Renumbering

@@ -3,10 +3,14 @@
 #![tactic(auto)]
 
 mod adjacency;
+mod countdown;
+mod edges;
 pub mod laws;
 mod node;
+mod numbering;
 mod rooms;
 mod users;
 
 pub use adjacency::Adjacency;
+pub use edges::{Edges, Numbered};
 pub use node::NodeId;
