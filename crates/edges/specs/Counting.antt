@@ -1,5 +1,5 @@
 -- What a countdown of dependencies keeps, at each step.
-use Rattle.std.specs.Prelude.{◌≡◌, ℕ, suc, ◌<◌, Bool, true, not, ◌||◌, ◌&&◌, cond, List, [], ◌∷◌, length, take, filter, slice_index, nat_eq}
+use Rattle.std.specs.Prelude.{◌≡◌, ℕ, suc, ◌<◌, Bool, true, not, ◌||◌, ◌&&◌, cond, List, [], ◌∷◌, length, take, filter, slice_index, nat_eq, ◌++◌, if◌then◌else◌}
 use Rattle.std.specs.List.{IsDistinct, range_with_len}
 use Rattle.edges.specs.Rows.{row, has}
 
@@ -25,3 +25,11 @@ counted gone n done d v = has gone d || (nat_eq d n && has done v)
 -- the places of the zeros
 abbrev pub zeros : List ℕ → List ℕ
 zeros ns = filter (λ n. nat_eq (slice_index ns n) 0) (range_with_len 0 (length ns))
+
+-- the counts when all edges from the first `at` nodes in order are counted
+abbrev pub CountedTo : List (List ℕ) → ℕ → List ℕ → List ℕ → Type 0
+CountedTo deps at order left = Counting deps (λ d v. has (take at order) d) order left
+
+-- the order when one dependency more of a node is counted: the node comes next where it was the last
+abbrev pub next_order : List ℕ → List ℕ → ℕ → List ℕ
+next_order left order node = if nat_eq (slice_index left node) 1 then order ++ node ∷ [] else order

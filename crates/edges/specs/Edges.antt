@@ -1,7 +1,6 @@
 -- What a graph of numbered nodes is.
-use Rattle.std.specs.Prelude.{◌≡◌, ℕ, List, length, map}
-use Rattle.std.specs.List.{range_with_len}
-use Rattle.edges.specs.Rows.{users_of, ready_of, IsGraph, IsOrdered}
+use Rattle.std.specs.Prelude.{◌≡◌, ℕ, List}
+use Rattle.edges.specs.Rows.{all_users, ready_of, IsGraph, IsOrdered}
 
 -- the dependencies of each node, and how many nodes, the first ones, are not cyclic
 pub record EdgesView : Type 0 where
@@ -11,6 +10,6 @@ pub record EdgesView : Type 0 where
 -- users and nodes without dependencies are those of the dependencies, and the nodes stand in order
 pub record IsEdges (deps users : List (List ℕ)) (ready : List ℕ) (acyclic : ℕ) : Type 0 where
   pub graph : IsGraph deps
-  pub users_are : users ≡ map (users_of deps) (range_with_len 0 (length deps))
+  pub users_are : users ≡ all_users deps
   pub ready_are : ready ≡ ready_of deps
   pub order : IsOrdered deps acyclic

@@ -3,6 +3,7 @@ pub mod Outcomes
 pub mod Rows
 pub mod Flat
 pub mod Rooms
+pub mod Filing
 pub mod Counting
 pub mod Orders
 pub mod Edges

@@ -21,3 +21,11 @@ pub record IsOrder (given : List (List ℕ)) (order : List ℕ) (acyclic : ℕ) 
 -- the dependencies of each node in order, as places in the order
 abbrev pub replaced : List (List ℕ) → List ℕ → List ℕ → List (List ℕ)
 replaced given order places = map (λ v. map (slice_index places) (row given v)) order
+
+-- each entry is a node
+abbrev pub AreNodes : List ℕ → ℕ → Type 0
+AreNodes order nodes = (k : ℕ) → k < length order → slice_index order k < nodes
+
+-- the place of each node in order
+abbrev pub ArePlaces : List ℕ → List ℕ → Type 0
+ArePlaces order places = (k : ℕ) → k < length order → slice_index places (slice_index order k) ≡ k

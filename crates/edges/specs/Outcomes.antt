@@ -1,6 +1,7 @@
 -- The outcome of each node, by recursion along dependencies. No order of work, worker or count stands here.
-use Rattle.std.specs.Prelude.{◌≡◌, ℕ, zero, suc, true, false, List, map}
+use Rattle.std.specs.Prelude.{◌≡◌, ◌↔◌, ℕ, zero, suc, Bool, true, false, List, length, map, IsTrue}
 use Rattle.edges.specs.Walks.{Cyclic, is_cyclic}
+use Rattle.edges.specs.Rows.{row}
 
 module _ {L V : Type 0} (deps : L → List L) (cycle : L → V) (step : L → List V → V) where
   -- These are the outcomes: a cyclic node has the one that says so, and any other's is the step over the outcomes of its dependencies, in their order.
@@ -29,3 +30,33 @@ module _ {L V : Type 0} (deps : L → List L) (cycle : L → V) (step : L → Li
   pub record AreFound (found : L → V) : Type 0 where
     pub cyclic : (t : L) → Cyclic deps t → found t ≡ cycle t
     pub worked : (t : L) → (Cyclic deps t → ⊥) → fits t (map found (deps t)) → found t ≡ step t (map found (deps t))
+
+-- ---- over a graph whose nodes are numbers
+
+-- the bounded test tells what is cyclic
+abbrev pub TellsCycles : List (List ℕ) → Type 0
+TellsCycles deps = (n : ℕ) → IsTrue (is_cyclic (row deps) (length deps) n) ↔ Cyclic (row deps) n
+
+-- the outcome of a node from those of its dependencies, and a test of these
+abbrev pub Step : Type 0 → Type 0
+Step V = ℕ → List V → V
+
+abbrev pub Test : Type 0 → Type 0
+Test V = ℕ → List V → Bool
+
+module _ {V : Type 0} (deps : List (List ℕ)) (cycle : ℕ → V) (step : Step V) where
+  abbrev pub outcome_of : ℕ → V
+  outcome_of = outcome (row deps) cycle step (length deps)
+
+  -- the outcomes have their laws
+  abbrev pub AreLawful : Type 0
+  AreLawful = AreOutcomes (row deps) cycle step outcome_of
+
+  -- no other function has them
+  abbrev pub AreAlone : Type 0
+  AreAlone = (other : ℕ → V) → AreOutcomes (row deps) cycle step other → (n : ℕ) → other n ≡ outcome_of n
+
+  -- work that is the step wherever a test holds finds them, if the test holds of them
+  abbrev pub FoundByWork : Test V → Type 0
+  FoundByWork fits =
+      (found : ℕ → V) → AreFound (row deps) cycle step (λ n us. IsTrue (fits n us)) found → AllFit (row deps) cycle step (λ n us. IsTrue (fits n us)) outcome_of → (n : ℕ) → found n ≡ outcome_of n

@@ -1,7 +1,8 @@
 -- Lists that fill up: each has a room of its own among the entries, and takes the first of its room.
-use Rattle.std.specs.Prelude.{◌≡◌, ℕ, ◌+◌, ◌-◌, ◌<◌, ◌≤◌, List, length, map, take, slice_index}
+use Rattle.std.specs.Prelude.{◌≡◌, ℕ, ◌+◌, ◌-◌, ◌<◌, ◌≤◌, List, [], ◌∷◌, ◌++◌, length, map, take, slice_index, slice_set}
 use Rattle.std.specs.List.{range_with_len, slice_range, sum}
 use Rattle.edges.specs.Flat.{IsFlat}
+use Rattle.edges.specs.Rows.{row}
 
 -- the lists so far, and how many entries each has room for
 pub record RoomsView : Type 0 where
@@ -16,6 +17,9 @@ filled starts ends entries = map (λ n. slice_range entries (slice_index starts 
 abbrev pub rooms : List ℕ → ℕ → List ℕ
 rooms starts count = map (λ n. slice_index starts (n + 1) - slice_index starts n) (range_with_len 0 count)
 
+abbrev pub seen : List ℕ → List ℕ → List ℕ → RoomsView
+seen starts ends entries = record { lists = filled starts ends entries; room = rooms starts (length ends) }
+
 -- each list ends within its room
 pub record IsRoomy (starts ends entries : List ℕ) : Type 0 where
   pub flat : IsFlat starts entries
@@ -25,3 +29,18 @@ pub record IsRoomy (starts ends entries : List ℕ) : Type 0 where
 -- the sum of the first i sizes: where the room of that number starts, when rooms of these sizes stand one behind the other
 abbrev pub sum_to : List ℕ → ℕ → ℕ
 sum_to sizes i = sum (take i sizes)
+
+abbrev pub starts_of : List ℕ → ℕ → List ℕ
+starts_of sizes n = map (sum_to sizes) (range_with_len 0 n)
+
+-- the first lists are empty
+abbrev pub AreEmpty : List (List ℕ) → ℕ → Type 0
+AreEmpty lists count = (n : ℕ) → n < count → row lists n ≡ []
+
+-- each list fills its room
+abbrev pub AreFull : RoomsView → Type 0
+AreFull v = (n : ℕ) → n < length v.lists → length (row v.lists n) ≡ slice_index v.room n
+
+-- one entry more in a list
+abbrev pub pushed : List (List ℕ) → ℕ → ℕ → List (List ℕ)
+pushed lists n entry = slice_set lists n (row lists n ++ entry ∷ [])

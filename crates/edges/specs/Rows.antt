@@ -1,7 +1,10 @@
 -- A graph whose nodes are numbers, as a list of rows: the row at a place has the numbers of a node's dependencies, or of its users.
-use Rattle.std.specs.Prelude.{◌≡◌, ℕ, ◌<◌, ◌≤◌, Bool, true, List, [], length, map, filter, slice_index, slice_index_or, nat_eq}
+use Rattle.std.specs.Prelude.{◌≡◌, ℕ, ◌<◌, ◌≤◌, Bool, true, List, [], length, map, filter, slice_index, slice_index_or, nat_eq, Vec}
 use Rattle.std.specs.List.{list_any, IsDistinct, range_with_len}
 use Rattle.edges.specs.Walks.{Cyclic}
+
+abbrev pub Rows : Type 0
+Rows = List (List ℕ)
 
 -- the row of a node; past the last node there is none
 abbrev pub row : List (List ℕ) → ℕ → List ℕ
@@ -20,6 +23,10 @@ pub record IsGraph (deps : List (List ℕ)) : Type 0 where
 abbrev pub users_of : List (List ℕ) → ℕ → List ℕ
 users_of deps d = filter (λ n. has (row deps n) d) (range_with_len 0 (length deps))
 
+-- the users of all nodes
+abbrev pub all_users : List (List ℕ) → List (List ℕ)
+all_users deps = map (users_of deps) (range_with_len 0 (length deps))
+
 -- The nodes without dependencies, by number.
 abbrev pub ready_of : List (List ℕ) → List ℕ
 ready_of deps = filter (λ n. nat_eq (length (row deps n)) 0) (range_with_len 0 (length deps))
@@ -37,3 +44,7 @@ pub record IsRenumbered (given : List (List ℕ)) (origin : List ℕ) (deps : Li
   pub once : IsDistinct nat_eq origin
   pub nodes : (k : ℕ) → k < length given → slice_index origin k < length given
   pub same : (k : ℕ) → k < length given → map (slice_index origin) (row deps k) ≡ row given (slice_index origin k)
+
+-- the lists of several vectors
+abbrev pub lists : {Z : Type 0} → List (Vec ℕ Z) → List (List ℕ)
+lists vs = map (λ v. v.items) vs

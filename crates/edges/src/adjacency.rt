@@ -1,5 +1,5 @@
 //! A list of nodes for each node, in one flat form.
-ghost use Rattle.std.specs.Prelude.{◌≡◌, ◌+◌, ◌<◌, length, [], ◌++◌, ◌∷◌, IfOk, is_ok, if◌then◌else◌};
+ghost use Rattle.std.specs.Prelude.{◌≡◌, ◌<◌, length, [], ◌++◌, ◌∷◌, IfOk, is_ok, if◌then◌else◌};
 ghost use Rattle.std.specs.List.{sum_by};
 ghost use Rattle.edges.specs.Rows.{row};
 ghost use Rattle.edges.specs.Flat.{IsFlat, flat_rows};

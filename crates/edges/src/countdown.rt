@@ -1,8 +1,8 @@
 //! The order in which nodes have no dependency left, by a countdown of dependencies.
-ghost use Rattle.std.specs.Prelude.{◌≡◌, ◌+◌, ◌-◌, ◌<◌, ◌≤◌, ℕ, true, length, [], ◌++◌, ◌∷◌, map, nat_eq, IfOk, OnOk, slice_index, slice_set, if◌then◌else◌, take};
-ghost use Rattle.std.specs.List.{range_with_len};
-ghost use Rattle.edges.specs.Rows.{row, has, IsGraph, users_of};
-ghost use Rattle.edges.specs.Counting.{Counting, zeros};
+ghost use Rattle.std.specs.Prelude.{◌≡◌, ◌+◌, ◌-◌, ◌<◌, ◌≤◌, length, map, IfOk, OnOk, slice_index};
+ghost use Rattle.std.specs.Prelude.{slice_set};
+ghost use Rattle.edges.specs.Rows.{has, IsGraph, users_of, all_users};
+ghost use Rattle.edges.specs.Counting.{Counting, CountedTo, next_order, zeros};
 
 use crate::adjacency::Adjacency;
 use crate::node::NodeId;
@@ -37,7 +37,7 @@ fn lower(left: &mut [usize], order: &mut Vec<NodeId>, node: NodeId) -> Result<()
     requires node { node < length left.old }
     requires some { 0 < slice_index left.old node }
     ensures left { left.new ≡ slice_set left.old node (slice_index left.old node - 1) }
-    ensures order { OnOk result (order.new.items ≡ (if nat_eq (slice_index left.old node) 1 then order.old.items ++ node ∷ [] else order.old.items)) }
+    ensures order { OnOk result (order.new.items ≡ next_order left.old order.old.items node) }
 {
     let n = node.number();
     left[n] -= 1;
@@ -56,10 +56,10 @@ fn settle(
     at: usize,
 ) -> Result<(), AllocError>
     requires graph { IsGraph deps.now }
-    requires counting { Counting deps.now (λ d v. has (take at order.old.items) d) order.old.items left.old }
+    requires counting { CountedTo deps.now at order.old.items left.old }
     requires turn { at < length order.old.items }
     requires users { users.now ≡ users_of deps.now (slice_index order.old.items at) }
-    ensures counting { OnOk result (Counting deps.now (λ d v. has (take (at + 1) order.new.items) d) order.new.items left.new) }
+    ensures counting { OnOk result (CountedTo deps.now (at + 1) order.new.items left.new) }
     ensures more { OnOk result (length order.old.items ≤ length order.new.items) }
 {
     let _deps = deps;
@@ -76,7 +76,7 @@ pub fn count_down(
     users: &Adjacency,
 ) -> Result<(Vec<NodeId>, Vec<usize>), AllocError>
     requires graph { IsGraph deps.now }
-    requires users { users.now ≡ map (users_of deps.now) (range_with_len 0 (length deps.now)) }
+    requires users { users.now ≡ all_users deps.now }
     ensures { IfOk result (λ r. Counting deps.now (λ d v. has r.0.items d) r.0.items r.1.items) }
 {
     let mut left = counts(alloc, deps)?;

@@ -1,7 +1,8 @@
 //! A graph whose nodes are numbered in an order that respects dependencies.
-ghost use Rattle.std.specs.Prelude.{◌≡◌, ◌↔◌, ◌<◌, ℕ, length, map, take, IfOk, IsTrue};
+ghost use Rattle.std.specs.Prelude.{◌≡◌, ◌↔◌, ◌<◌, length, take, IfOk, IsTrue};
 ghost use Rattle.edges.specs.Walks.{Cyclic};
-ghost use Rattle.edges.specs.Rows.{row, has, users_of, ready_of, IsGraph, IsOrdered, IsRenumbered};
+ghost use Rattle.edges.specs.Rows.{row, lists, users_of, ready_of};
+ghost use Rattle.edges.specs.Rows.{IsGraph, IsOrdered, IsRenumbered};
 
 use crate::adjacency::Adjacency;
 use crate::node::NodeId;
@@ -133,7 +134,7 @@ impl Edges {
     ///
     /// It fails where the allocator refuses memory.
     pub fn plan(&self, alloc: Global) -> Result<Vec<Vec<usize>>, AllocError>
-        ensures { IfOk result (λ v. map (λ l. l.items) v.items ≡ take self.now.acyclic self.now.deps) }
+        ensures { IfOk result (λ v. lists v.items ≡ take self.now.acyclic self.now.deps) }
     {
         let mut plan = Vec::with_capacity(alloc, self.acyclic)?;
         for n in 0..self.acyclic {

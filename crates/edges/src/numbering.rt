@@ -1,8 +1,9 @@
 //! New numbers for nodes, by an order of all of them.
-ghost use Rattle.std.specs.Prelude.{◌≡◌, ◌<◌, ℕ, true, length, ◌++◌, map, nat_eq, IfOk, OnOk, slice_index};
+ghost use Rattle.std.specs.Prelude.{◌≡◌, ◌<◌, ℕ, true, length, ◌++◌, map, nat_eq, IfOk, OnOk};
+ghost use Rattle.std.specs.Prelude.{slice_index};
 ghost use Rattle.std.specs.List.{IsDistinct};
 ghost use Rattle.edges.specs.Rows.{row, has, IsGraph};
-ghost use Rattle.edges.specs.Orders.{rest, replaced, IsOrder};
+ghost use Rattle.edges.specs.Orders.{rest, replaced, IsOrder, AreNodes, ArePlaces};
 
 use crate::adjacency::Adjacency;
 use crate::countdown::count_down;
@@ -38,9 +39,9 @@ pub fn order_of(alloc: Global, given: &Adjacency) -> Result<(Vec<NodeId>, usize)
 /// The place of each node in the order.
 pub fn places_of(alloc: Global, order: &[NodeId]) -> Result<Vec<NodeId>, AllocError>
     requires once { IsDistinct nat_eq order.now }
-    requires nodes { (k : ℕ) → k < length order.now → slice_index order.now k < length order.now }
+    requires nodes { AreNodes order.now (length order.now) }
     ensures len { IfOk result (λ v. length v.items ≡ length order.now) }
-    ensures places { IfOk result (λ v. (k : ℕ) → k < length order.now → slice_index v.items (slice_index order.now k) ≡ k) }
+    ensures places { IfOk result (λ v. ArePlaces order.now v.items) }
 {
     let mut places = vec![in alloc; NodeId::of(0); order.len()]?;
     for (k, node) in order.iter().enumerate() {
@@ -68,7 +69,7 @@ pub fn replace_all(
     order: &[NodeId],
     places: &[NodeId],
 ) -> Result<Adjacency, AllocError>
-    requires nodes { (k : ℕ) → k < length order.now → slice_index order.now k < length given.now }
+    requires nodes { AreNodes order.now (length given.now) }
     requires inside { (n d : ℕ) → has (row given.now n) d ≡ true → d < length places.now }
     ensures { IfOk result (λ a. a ≡ replaced given.now order.now places.now) }
 {

@@ -1,8 +1,7 @@
 //! Lists that fill up, in one flat form: what users are sorted into.
-ghost use Rattle.std.specs.Prelude.{◌≡◌, ◌+◌, ◌<◌, ℕ, length, [], ◌++◌, ◌∷◌, map, IfOk, slice_index, slice_set, sum};
-ghost use Rattle.std.specs.List.{range_with_len};
+ghost use Rattle.std.specs.Prelude.{◌≡◌, ◌+◌, ◌<◌, length, IfOk, slice_index, sum};
 ghost use Rattle.edges.specs.Rows.{row};
-ghost use Rattle.edges.specs.Rooms.{sum_to};
+ghost use Rattle.edges.specs.Rooms.{starts_of, AreEmpty, AreFull, pushed};
 
 use crate::adjacency::Adjacency;
 use crate::node::NodeId;
@@ -21,12 +20,11 @@ pub struct Rooms {
 }
 
 impl Model for Rooms {
-    ghost use Rattle.std.specs.Prelude.{length};
-    ghost use Rattle.edges.specs.Rooms.{RoomsView, filled, rooms, IsRoomy};
+    ghost use Rattle.edges.specs.Rooms.{RoomsView, seen, IsRoomy};
 
     ghost Value = { RoomsView };
 
-    ghost view = { λ r. record { lists = filled r.starts.items r.ends.items r.entries.items; room = rooms r.starts.items (length r.ends.items) } };
+    ghost view = { λ r. seen r.starts.items r.ends.items r.entries.items };
 
     ghost invariant = { λ r. IsRoomy r.starts.items r.ends.items r.entries.items };
 }
@@ -38,8 +36,8 @@ fn layout(
     total: usize,
 ) -> Result<(Vec<usize>, Vec<usize>), AllocError>
     requires total { total ≡ sum sizes.now }
-    ensures starts { IfOk result (λ r. r.0.items ≡ map (sum_to sizes.now) (range_with_len 0 (length sizes.now + 1))) }
-    ensures ends { IfOk result (λ r. r.1.items ≡ map (sum_to sizes.now) (range_with_len 0 (length sizes.now))) }
+    ensures starts { IfOk result (λ r. r.0.items ≡ starts_of sizes.now (length sizes.now + 1)) }
+    ensures ends { IfOk result (λ r. r.1.items ≡ starts_of sizes.now (length sizes.now)) }
 {
     let mut starts = Vec::with_capacity(alloc, sizes.len() + 1)?;
     let mut ends = Vec::with_capacity(alloc, sizes.len())?;
@@ -58,7 +56,7 @@ impl Rooms {
     pub fn of(alloc: Global, sizes: &[usize], total: usize) -> Result<Rooms, AllocError>
         requires total { total ≡ sum sizes.now }
         ensures len { IfOk result (λ r. length r.lists ≡ length sizes.now) }
-        ensures empty { IfOk result (λ r. (n : ℕ) → n < length sizes.now → row r.lists n ≡ []) }
+        ensures empty { IfOk result (λ r. AreEmpty r.lists (length sizes.now)) }
         ensures room { IfOk result (λ r. r.room ≡ sizes.now) }
     {
         let (starts, ends) = layout(alloc, sizes, total)?;
@@ -74,7 +72,7 @@ impl Rooms {
     pub fn push(&mut self, n: NodeId, entry: NodeId)
         requires node { n < length self.old.lists }
         requires room { length (row self.old.lists n) < slice_index self.old.room n }
-        ensures lists { self.new.lists ≡ slice_set self.old.lists n (row self.old.lists n ++ entry ∷ []) }
+        ensures lists { self.new.lists ≡ pushed self.old.lists n entry }
         ensures room { self.new.room ≡ self.old.room }
     {
         let n = n.number();
@@ -85,7 +83,7 @@ impl Rooms {
 
     /// The lists, all of which are full.
     pub fn full(self) -> Adjacency
-        requires full { (n : ℕ) → n < length self.lists → length (row self.lists n) ≡ slice_index self.room n }
+        requires full { AreFull self }
         ensures { result ≡ self.lists }
     {
         Adjacency::of(self.starts, self.entries)

@@ -1,7 +1,8 @@
 //! Who depends on each node.
-ghost use Rattle.std.specs.Prelude.{◌≡◌, ◌+◌, ◌≤◌, ◌<◌, ℕ, true, length, [], ◌++◌, ◌∷◌, map, nat_eq, IfOk, slice_index, if◌then◌else◌, sum};
-ghost use Rattle.std.specs.List.{IsDistinct, range_with_len, sum_by};
-ghost use Rattle.edges.specs.Rows.{row, has, IsGraph, users_of};
+ghost use Rattle.std.specs.Prelude.{◌≡◌, ◌+◌, ◌<◌, ℕ, true, length, nat_eq, IfOk, slice_index, sum};
+ghost use Rattle.std.specs.List.{IsDistinct, sum_by};
+ghost use Rattle.edges.specs.Rows.{has, IsGraph, all_users};
+ghost use Rattle.edges.specs.Filing.{Counted, Filed, AreCounts, HaveRoom};
 
 use crate::adjacency::Adjacency;
 use crate::node::NodeId;
@@ -13,7 +14,7 @@ fn count_row(counts: &mut [usize], list: &[NodeId])
     requires distinct { IsDistinct nat_eq list.now }
     requires inside { (d : ℕ) → has list.now d ≡ true → d < length counts.old }
     requires fits { (d : ℕ) → slice_index counts.old d < usize.MAX }
-    ensures each { (d : ℕ) → slice_index counts.new d ≡ (if has list.now d then slice_index counts.old d + 1 else slice_index counts.old d) }
+    ensures each { Counted list.now counts.old counts.new }
     ensures sum { sum counts.new ≡ sum counts.old + length list.now }
 {
     for d in list {
@@ -25,7 +26,7 @@ fn count_row(counts: &mut [usize], list: &[NodeId])
 fn user_counts(alloc: Global, deps: &Adjacency) -> Result<Vec<usize>, AllocError>
     requires graph { IsGraph deps.now }
     ensures len { IfOk result (λ v. length v.items ≡ length deps.now) }
-    ensures counts { IfOk result (λ v. (d : ℕ) → d < length deps.now → slice_index v.items d ≡ length (users_of deps.now d)) }
+    ensures counts { IfOk result (λ v. AreCounts deps.now v.items) }
     ensures sum { IfOk result (λ v. sum v.items ≡ sum_by length deps.now) }
 {
     let mut counts = vec![in alloc; 0; deps.len()]?;
@@ -39,9 +40,9 @@ fn user_counts(alloc: Global, deps: &Adjacency) -> Result<Vec<usize>, AllocError
 fn file_row(users: &mut Rooms, list: &[NodeId], user: NodeId)
     requires distinct { IsDistinct nat_eq list.now }
     requires inside { (d : ℕ) → has list.now d ≡ true → d < length users.old.lists }
-    requires room { (d : ℕ) → has list.now d ≡ true → length (row users.old.lists d) < slice_index users.old.room d }
+    requires room { HaveRoom list.now users.old }
     ensures len { length users.new.lists ≡ length users.old.lists }
-    ensures each { (d : ℕ) → row users.new.lists d ≡ (if has list.now d then row users.old.lists d ++ user ∷ [] else row users.old.lists d) }
+    ensures each { Filed list.now user users.old.lists users.new.lists }
     ensures room { users.new.room ≡ users.old.room }
 {
     for d in list {
@@ -53,7 +54,7 @@ fn file_row(users: &mut Rooms, list: &[NodeId], user: NodeId)
 /// one that sorts.
 pub fn users_of(alloc: Global, deps: &Adjacency) -> Result<Adjacency, AllocError>
     requires graph { IsGraph deps.now }
-    ensures { IfOk result (λ u. u ≡ map (users_of deps.now) (range_with_len 0 (length deps.now))) }
+    ensures { IfOk result (λ u. u ≡ all_users deps.now) }
 {
     let counts = user_counts(alloc, deps)?;
     let mut users = Rooms::of(alloc, &counts, deps.entries())?;
