@@ -5,11 +5,20 @@ use crate::tree::Expr;
 use plain::Text;
 
 /// A parameter of a function.
-#[derive(Drop)]
 pub enum Param {
     Required(Text),
     /// With its default.
     Optional(Text, Expr),
+}
+
+// By hand, so that letting one go is a call and isn't written out wherever one may be let go.
+impl Drop for Param {
+    fn drop(self) {
+        match self {
+            Param::Required(_) => {}
+            Param::Optional(_, _) => {}
+        }
+    }
 }
 
 /// What a `load` asks for: the name that it binds, and the one in the module.
@@ -20,7 +29,6 @@ pub struct Item {
 }
 
 /// A line, without the lines of its block. Where names are bound, the first stands before the others.
-#[derive(Drop)]
 pub enum Form {
     /// `load(MODULE, ..)`.
     Load(Text, Vec<Item>),
@@ -44,6 +52,29 @@ pub enum Form {
     Break,
     Continue,
     Return(Option<Expr>),
+}
+
+// By hand, as of `Param`.
+impl Drop for Form {
+    fn drop(self) {
+        match self {
+            Form::Load(_, _) => {}
+            Form::Def(_, _) => {}
+            Form::If(_) => {}
+            Form::Elif(_) => {}
+            Form::Else => {}
+            Form::For(_, _, _) => {}
+            Form::Assign(_, _, _) => {}
+            Form::AssignAt(_, _, _) => {}
+            Form::Add(_, _) => {}
+            Form::AddAt(_, _, _) => {}
+            Form::Evaluate(_) => {}
+            Form::Pass => {}
+            Form::Break => {}
+            Form::Continue => {}
+            Form::Return(_) => {}
+        }
+    }
 }
 
 /// A line, with the number of its first line in the file, counted from 1, and the lines of its block.
