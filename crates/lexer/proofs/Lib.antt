@@ -12,6 +12,7 @@ pub mod LayoutLaws
 pub mod LayoutLemmas
 pub mod LineLemmas
 pub mod MarkLaws
+pub mod NameLaws
 pub mod NumberLemmas
 pub mod PartLaws
 pub mod ReadingLaws

@@ -12,6 +12,7 @@ pub mod FaultText
 pub mod Layout
 pub mod Lines
 pub mod Fits
+pub mod Names
 pub mod Parts
 pub mod LaidOut
 pub mod Form

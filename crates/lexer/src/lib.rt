@@ -14,6 +14,7 @@ mod forms;
 mod laws;
 mod layout;
 mod lines;
+mod names;
 mod numbers;
 mod scan;
 mod second_form;
@@ -29,6 +30,7 @@ pub use laws::{
 };
 pub use layout::Bracket;
 pub use lines::{Lines, logical_lines};
+pub use names::is_name;
 pub use second_form::{DepsModuleForm, TARGET_LIMIT, TargetForm, TargetsForm};
 pub use strings::unescape;
 pub use token::{Kind, Mark, Span, Token, Word};
