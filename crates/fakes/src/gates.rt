@@ -5,10 +5,10 @@ use std::sync::atomic::{AtomicU64, Ordering};
 use std::thread;
 
 /// How often a worker looks at a gate before it gives up.
-const TURNS: u64 = 1_000_000_000;
+const TURNS: u64 = 20_000_000;
 
 /// Holds workers up at the nodes from `low` to `high`, until as many of these nodes as are wanted
-/// were entered. A worker that looked a billion times in vain gives up.
+/// were entered. A worker that looked 20 million times in vain gives up.
 #[derive(Drop)]
 pub struct Meeting {
     low: usize,
@@ -110,4 +110,23 @@ fn all_one(counts: &[AtomicU64]) -> bool {
         }
     }
     true
+}
+
+/// Two gates, one after the other.
+#[derive(Drop)]
+pub struct Both<'g, G, H> {
+    pub first: &'g G,
+    pub second: &'g H,
+}
+
+impl<'g, G: Gate, H: Gate> Gate for Both<'g, G, H> {
+    fn enter(&self, n: NodeId) {
+        self.first.enter(n);
+        self.second.enter(n);
+    }
+
+    fn leave(&self, n: NodeId) {
+        self.first.leave(n);
+        self.second.leave(n);
+    }
 }

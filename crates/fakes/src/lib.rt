@@ -2,3 +2,5 @@
 #![tactic(auto)]
 
 pub mod gates;
+pub mod graphs;
+pub mod shelves;

@@ -3,3 +3,4 @@ pub mod Places
 pub mod Settles
 pub mod Outcomes
 pub mod Gathers
+pub mod Numbers

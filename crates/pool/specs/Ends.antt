@@ -1,13 +1,36 @@
--- What a worker's end says of its pass.
-use Rattle.std.specs.Prelude.{◌≡◌, ◌⊎◌, ℕ, true, false, List, ◌∷◌, length, Some}
+-- What a run begins with, and what a worker's end says of its pass.
+use Rattle.std.specs.Prelude.{◌≡◌, ◌⊎◌, ℕ, ◌+◌, ◌<◌, true, false, List, ◌∷◌, length, Some}
 use Rattle.std.specs.List.{All}
 use Rattle.board.specs.declared.journal.Journal.{Journal}
-use Rattle.board.specs.Views.{BoardView, PassView}
+use Rattle.board.specs.Journal.{edge_times}
+use Rattle.board.specs.Views.{BoardView, PassView, IsNew}
 use Rattle.pool.specs.Settled.{IsSound}
 use Rattle.pool.specs.declared.worker.Stop.{Stop}
 use Rattle.pool.specs.declared.worker.Stop.TheVariants as S
 use Rattle.pool.specs.declared.worker.Ending.{Ending}
 use Rattle.pool.specs.declared.worker.Ending.TheVariants as E
+
+-- each of these is an end of a shelf for the nodes of the board, of which `nodes` tells the number
+abbrev pub AreEnds : {E : Type 0} → (E → ℕ) → BoardView → List E → Type 0
+AreEnds nodes b ends = All (λ e. nodes e ≡ length b.plan) ends
+
+-- With these ends and passes workers can run: 1 to 64 ends of a shelf for the board's nodes, and all passes of the board,
+-- one more than there are ends, of which none has done anything.
+pub record CanRun {E V : Type 0} (nodes : E → ℕ) (b : BoardView) (ends : List E) (passes : List (PassView V)) : Type 0 where
+  pub shelves : AreEnds nodes b ends
+  pub some : 0 < length ends
+  pub most : length ends < 65
+  pub count : length ends + 1 ≡ length passes
+  pub all : length passes ≡ b.passes
+  pub new : All (IsNew b) passes
+
+-- the journal has more seen nodes and may have seen the halt, and is the same else
+abbrev pub OnlyLooked : Journal → Journal → Type 0
+OnlyLooked old new = new ≡ record old { seen = new.seen; saw = new.saw }
+
+-- how often the pass delivered the edge from node n to its user u
+abbrev pub times_sent : {V : Type 0} → PassView V → ℕ → ℕ → ℕ
+times_sent p n u = edge_times n u p.journal.delivered
 
 -- who stopped at the halt saw it
 abbrev pub StopSays : Stop → Journal → Type 0

@@ -22,5 +22,6 @@ pub trait Analyse<V>: Sync {
     /// `NoMemory` comes where the allocator refuses memory.
     fn analyse_one(&self, alloc: Global, n: NodeId, values: &[&V]) -> Result<V, NoMemory>
         requires node { n < nodes self.now }
-        ensures step { IfOk result (λ v. fits self.now n (map (λ r. r.now) values.now) → v ≡ step self.now n (map (λ r. r.now) values.now)) };
+        ensures step { let us = map (λ r. r.now) values.now in
+            IfOk result (λ v. fits self.now n us → v ≡ step self.now n us) };
 }

@@ -108,8 +108,8 @@ fn note_user(users: &mut Vec<Vec<usize>>, list: &[usize], n: usize) -> Result<()
     ensures size { length users.new.items ≡ length users.old.items }
     ensures noted { OnOk result ((d m : ℕ) → times m (deps (map (λ l. l.items) users.new.items) d) ≡ times m (deps (map (λ l. l.items) users.old.items) d) + cond (eqb m n) (times d list.now) 0) }
 {
-    for i in 0..list.len() {
-        push_at(users, list[i], n)?;
+    for d in list {
+        push_at(users, *d, n)?;
     }
     Ok(())
 }

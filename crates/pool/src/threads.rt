@@ -5,25 +5,17 @@ ghost use Rattle.std.specs.List.{All};
 ghost use Rattle.board.specs.declared.journal.Journal.{Journal};
 ghost use Rattle.board.specs.Views.{IsPassOf, IsNew};
 ghost use Rattle.pool.specs.Settled.{IsSound};
-ghost use Rattle.pool.specs.Ends.{EndingSays, EndedWell, IsFine, IsGathering};
+ghost use Rattle.pool.specs.Ends.{AreEnds, CanRun, EndingSays, EndedWell, IsFine, IsGathering};
 
 use crate::analyse::Analyse;
 use crate::gate::Gate;
+use crate::running::Refused;
 use crate::shelf::Shelf;
 use crate::worker::{Ending, Site, run_worker};
 use board::{Board, Pass};
 use std::sync::Wait;
 use std::thread;
 use std::thread::{Promise, PromisedHandle, Scope, Threads};
-
-/// Why a run has no answer.
-#[derive(Clone, Copy, Debug, PartialEq, Eq)]
-pub enum Refused {
-    /// The allocator refused memory, to a worker or for what they share.
-    NoMemory,
-    /// A thread was refused, and nobody was refused memory.
-    NoThread,
-}
 
 /// What a worker's thread promises: its pass is of the board, each node that it finished has the
 /// step of what the pass knows of the node's dependencies, and the pass says how the worker ended.
@@ -34,13 +26,14 @@ pub struct Duty<'s, V, A> {
 }
 
 impl<'s, V, A: Analyse<V>> Promise<(Pass<V>, Ending)> for Duty<'s, V, A> {
-    ghost kept_by = { λ p r. IsSound (A.step p.analyse.now) (A.fits p.analyse.now) p.board.now r.0 × EndingSays r.1 r.0.journal };
+    ghost kept_by = { λ p r. IsSound (A.step p.analyse.now) (A.fits p.analyse.now) p.board.now r.0
+        × EndingSays r.1 r.0.journal };
 }
 
 /// A worker at work.
 type Handle<'s, V, A> = PromisedHandle<(Pass<V>, Ending), Duty<'s, V, A>>;
 
-/// Starts one worker. `None` where a thread was refused.
+/// Starts one worker. `None` where a thread was refused, or the memory to start it.
 fn start_one<'s, E, V, A, S, G, R>(
     scope: &Scope<'s, E>,
     site: &'s Site<'s, V, A, G, R>,
@@ -53,10 +46,10 @@ where
     S: Shelf + Send + 's,
     G: Gate,
     R: Threads + Wait + Sync,
-    requires site { (site.now.graph.now.plan ≡ site.now.board.now.plan) × (A.nodes site.now.analyse.now ≡ length site.now.board.now.plan) }
     requires shelf { S.nodes end ≡ length site.now.board.now.plan }
     requires pass { IsNew site.now.board.now pass }
-    ensures { IfSome result (λ h. (h.promise.board.now ≡ site.entry.now.board.now) × (h.promise.analyse.now ≡ site.entry.now.analyse.now)) }
+    ensures { IfSome result (λ h. (h.promise.board.now ≡ site.entry.now.board.now)
+        × (h.promise.analyse.now ≡ site.entry.now.analyse.now)) }
 {
     let duty: Duty<'s, V, A> = Duty {
         board: site.board,
@@ -66,8 +59,11 @@ where
         .spawn_with(
             duty,
             move || -> (Pass<V>, Ending)
-                requires { (site.now.graph.now.plan ≡ site.now.board.now.plan) × (A.nodes site.now.analyse.now ≡ length site.now.board.now.plan) × (S.nodes end ≡ length site.now.board.now.plan) × IsNew site.now.board.now pass }
-                ensures { IsSound (A.step site.entry.now.analyse.now) (A.fits site.entry.now.analyse.now) site.entry.now.board.now result.0 × EndingSays result.1 result.0.journal }
+                requires shelf { S.nodes end ≡ length site.now.board.now.plan }
+                requires pass { IsNew site.now.board.now pass }
+                ensures { let a = site.entry.now.analyse.now in
+                    IsSound (A.step a) (A.fits a) site.entry.now.board.now result.0
+                    × EndingSays result.1 result.0.journal }
             { run_worker(site, end, pass) },
         )
         .ok()
@@ -89,14 +85,16 @@ where
     S: Shelf + Send + 's,
     G: Gate,
     R: Threads + Wait + Sync,
-    requires site { (site.now.graph.now.plan ≡ site.now.board.now.plan) × (A.nodes site.now.analyse.now ≡ length site.now.board.now.plan) }
-    requires shelves { All (λ e. S.nodes e ≡ length site.now.board.now.plan) ends.items }
+    requires ends { AreEnds S.nodes site.now.board.now ends.items }
     requires count { vec_len ends ≡ vec_len passes }
     requires passes { All (IsNew site.now.board.now) passes.items }
     requires own { IsPassOf site.now.board.now own.old }
     requires room { (vec_len handles ≡ 0) × (vec_len passes ≤ vec_capacity handles) }
-    ensures promises { All (λ h. (h.promise.board.now ≡ site.entry.now.board.now) × (h.promise.analyse.now ≡ site.entry.now.analyse.now)) result.0.items }
-    ensures all { MatchBool result.1 ((vec_len result.0 ≡ vec_len passes) × (own.new ≡ own.old)) (own.new.journal.set ≡ true) }
+    ensures promises { All (λ h. (h.promise.board.now ≡ site.entry.now.board.now)
+        × (h.promise.analyse.now ≡ site.entry.now.analyse.now)) result.0.items }
+    ensures all { MatchBool result.1
+        ((vec_len result.0 ≡ vec_len passes) × (own.new ≡ own.old))
+        (own.new.journal.set ≡ true) }
     ensures most { vec_len result.0 ≤ vec_len passes }
 {
     for pass in passes {
@@ -107,6 +105,7 @@ where
             Some(handle) => handles.push_reserved(handle),
             None => {
                 site.board.halt(own);
+                site.idle.wake_all();
                 return (handles, false);
             }
         }
@@ -137,34 +136,35 @@ where
     V: Send + Sync + Drop,
     A: Analyse<V>,
     R: Threads,
-    requires promises { All (λ h. (h.promise.board.now ≡ board.now) × (h.promise.analyse.now ≡ analyse.now)) handles.items }
+    requires promises { All (λ h. (h.promise.board.now ≡ board.now)
+        × (h.promise.analyse.now ≡ analyse.now)) handles.items }
     requires room { (vec_len passes ≡ 0) × (vec_len handles < vec_capacity passes) }
     ensures count { vec_len result.0 ≡ vec_len handles.entry }
     ensures room { vec_len result.0 < vec_capacity result.0 }
-    ensures fine { OnTrue result.1 (All (IsFine (A.step analyse.entry.now) (A.fits analyse.entry.now) board.entry.now) result.0.items) }
+    ensures fine { let a = analyse.entry.now in
+        OnTrue result.1 (All (IsFine (A.step a) (A.fits a) board.entry.now) result.0.items) }
 {
     let _board = board;
     let _analyse = analyse;
     let mut well = true;
     for handle in handles {
         let (pass, ending) = handle.join(rt);
-        let fine = ended_well(ending);
-        well = well & fine;
+        well &= ended_well(ending);
         passes.push_reserved(pass);
     }
     (passes, well)
 }
 
-/// All passes, after a worker for each but `own` has ended.
+/// All passes, after a worker for each but the last has ended.
 ///
 /// `NoMemory` comes where a worker was refused memory or there was none for the passes, `NoThread`
-/// where a thread was refused and none of this was. All workers that were started are joined.
+/// where a thread was refused, or the memory to start it, and none of this was. All workers that
+/// were started are joined.
 fn in_scope<'s, E, V, A, S, G, R>(
     scope: &Scope<'s, E>,
     site: &'s Site<'s, V, A, G, R>,
     ends: Vec<S>,
-    passes: Vec<Pass<V>>,
-    mut own: Pass<V>,
+    mut passes: Vec<Pass<V>>,
 ) -> Result<Vec<Pass<V>>, Refused>
 where
     V: Send + Sync + Drop + 's,
@@ -172,13 +172,13 @@ where
     S: Shelf + Send + 's,
     G: Gate,
     R: Threads + Wait + Sync,
-    requires site { (site.now.graph.now.plan ≡ site.now.board.now.plan) × (A.nodes site.now.analyse.now ≡ length site.now.board.now.plan) }
-    requires shelves { All (λ e. S.nodes e ≡ length site.now.board.now.plan) ends.items }
-    requires count { (0 < vec_len ends) × (vec_len ends < 65) × (vec_len ends ≡ vec_len passes) × (vec_len passes + 1 ≡ site.now.board.now.passes) }
-    requires passes { All (IsNew site.now.board.now) passes.items }
-    requires own { IsNew site.now.board.now own }
-    ensures { IfOk result (λ v. IsGathering (A.step site.entry.now.analyse.now) (A.fits site.entry.now.analyse.now) site.entry.now.board.now v.items) }
+    requires { CanRun S.nodes site.now.board.now ends.items passes.items }
+    ensures { let a = site.entry.now.analyse.now in IfOk result
+        (λ v. IsGathering (A.step a) (A.fits a) site.entry.now.board.now v.items) }
 {
+    let Some(mut own) = passes.pop() else {
+        unreachable!()
+    };
     let workers = passes.len();
     let Ok(handles) = Vec::with_capacity(site.alloc, workers) else {
         return Err(Refused::NoMemory);
@@ -205,7 +205,6 @@ pub fn in_threads<'x, V, A, S, G, R>(
     site: &'x Site<'x, V, A, G, R>,
     ends: Vec<S>,
     passes: Vec<Pass<V>>,
-    own: Pass<V>,
 ) -> Result<Vec<Pass<V>>, Refused>
 where
     V: Send + Sync + Drop,
@@ -213,19 +212,17 @@ where
     S: Shelf + Send,
     G: Gate,
     R: Threads + Wait + Sync,
-    requires site { (site.now.graph.now.plan ≡ site.now.board.now.plan) × (A.nodes site.now.analyse.now ≡ length site.now.board.now.plan) }
-    requires shelves { All (λ e. S.nodes e ≡ length site.now.board.now.plan) ends.items }
-    requires count { (0 < vec_len ends) × (vec_len ends < 65) × (vec_len ends ≡ vec_len passes) × (vec_len passes + 1 ≡ site.now.board.now.passes) }
-    requires passes { All (IsNew site.now.board.now) passes.items }
-    requires own { IsNew site.now.board.now own }
-    ensures { IfOk result (λ v. IsGathering (A.step site.entry.now.analyse.now) (A.fits site.entry.now.analyse.now) site.entry.now.board.now v.items) }
+    requires { CanRun S.nodes site.now.board.now ends.items passes.items }
+    ensures { let a = site.entry.now.analyse.now in IfOk result
+        (λ v. IsGathering (A.step a) (A.fits a) site.entry.now.board.now v.items) }
 {
     thread::scope(
         thread::scope_env(),
         site.rt,
         |scope| -> Result<Vec<Pass<V>>, Refused>
-            requires { (site.now.graph.now.plan ≡ site.now.board.now.plan) × (A.nodes site.now.analyse.now ≡ length site.now.board.now.plan) × All (λ e. S.nodes e ≡ length site.now.board.now.plan) ends.items × (0 < vec_len ends) × (vec_len ends < 65) × (vec_len ends ≡ vec_len passes) × (vec_len passes + 1 ≡ site.now.board.now.passes) × All (IsNew site.now.board.now) passes.items × IsNew site.now.board.now own }
-            ensures { IfOk result (λ v. IsGathering (A.step site.entry.now.analyse.now) (A.fits site.entry.now.analyse.now) site.entry.now.board.now v.items) }
-        { in_scope(scope, site, ends, passes, own) },
+            requires { CanRun S.nodes site.now.board.now ends.items passes.items }
+            ensures { let a = site.entry.now.analyse.now in IfOk result
+                (λ v. IsGathering (A.step a) (A.fits a) site.entry.now.board.now v.items) }
+        { in_scope(scope, site, ends, passes) },
     )
 }

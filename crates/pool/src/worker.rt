@@ -1,29 +1,33 @@
 //! One worker: what it does with a node, and its turns until no node is left.
 ghost use Rattle.std.specs.Prelude.{◌≡◌, ◌≢◌, ◌<◌, ℕ, length, map, Some, None, true, false, IfOk, IfErr, IfSome, IfNone, OnOk};
-ghost use Rattle.board.specs.Journal.{times, edge_times, deps};
+ghost use Rattle.board.specs.Journal.{times, deps};
 ghost use Rattle.board.specs.Views.{IsPassOf, IsHeld, IsUnsent, Keeps, knows};
 ghost use Rattle.pool.specs.Settled.{Knows, Stepped, IsSound};
-ghost use Rattle.pool.specs.Ends.{StopSays, EndingSays};
+ghost use Rattle.pool.specs.Ends.{StopSays, EndingSays, OnlyLooked, times_sent};
 
 use crate::analyse::Analyse;
 use crate::gate::Gate;
 use crate::graph::Graph;
+use crate::idle::{Idle, Rest};
 use crate::node::NodeId;
 use crate::shelf::Shelf;
 use board::{Board, NoMemory, Pass, Published, Readiness};
+use crossbeam_utils::Backoff;
 use std::alloc::Global;
 use std::sync::Wait;
-use std::thread;
 
-/// What all workers of a run share.
+/// What all workers of a run share. The board is that of the graph, and `analyse` has its nodes.
 #[derive(Drop)]
-pub struct Site<'s, V, A, G, R> {
+pub struct Site<'s, V, A: Analyse<V>, G, R> {
     pub rt: &'s R,
     pub alloc: Global,
     pub board: &'s Board<V>,
     pub graph: &'s Graph,
     pub analyse: &'s A,
     pub gate: &'s G,
+    pub idle: &'s Idle,
+    ghost plan: { graph.now.plan ≡ board.now.plan },
+    ghost nodes: { A.nodes analyse.now ≡ length board.now.plan },
 }
 
 /// Why a worker gave up on a node.
@@ -58,10 +62,11 @@ fn wait_for<'b, V, R: Wait>(
     ensures of { IsPassOf board.entry.now pass.new }
     ensures keeps { Keeps (knows pass.old) (knows pass.new) }
     ensures others { (k : ℕ) → k ≢ n → knows pass.new k ≡ knows pass.old k }
-    ensures stays { pass.new.journal ≡ record pass.old.journal { seen = pass.new.journal.seen; saw = pass.new.journal.saw } }
+    ensures stays { OnlyLooked pass.old.journal pass.new.journal }
     ensures some { IfSome result (λ v. knows pass.new n ≡ Some v.now) }
     ensures none { IfNone result (pass.new.journal.saw ≡ true) }
 {
+    let backoff = Backoff::new();
     for _ in rt.forever() {
         if let Some(value) = board.read(pass, n) {
             return Some(value);
@@ -69,7 +74,7 @@ fn wait_for<'b, V, R: Wait>(
         if board.halted(pass) {
             return None;
         }
-        thread::yield_now();
+        backoff.snooze();
     }
     unreachable!()
 }
@@ -89,18 +94,18 @@ fn read_all<'b, V, R: Wait>(
     ensures of { IsPassOf board.entry.now pass.new }
     ensures keeps { Keeps (knows pass.old) (knows pass.new) }
     ensures fresh { knows pass.new n ≡ knows pass.old n }
-    ensures stays { pass.new.journal ≡ record pass.old.journal { seen = pass.new.journal.seen; saw = pass.new.journal.saw } }
+    ensures stays { OnlyLooked pass.old.journal pass.new.journal }
     ensures ok { IfOk result (λ vs. Knows (knows pass.new) list.now (map (λ r. r.now) vs.items)) }
     ensures err { IfErr result (λ e. StopSays e pass.new.journal) }
 {
-    let mut values = Vec::new(alloc);
-    for i in 0..list.len() {
-        let Some(value) = wait_for(rt, board, pass, list[i]) else {
+    let Ok(mut values) = Vec::with_capacity(alloc, list.len()) else {
+        return Err(Stop::NoMemory);
+    };
+    for d in list {
+        let Some(value) = wait_for(rt, board, pass, *d) else {
             return Err(Stop::Halted);
         };
-        let Ok(()) = values.push(value) else {
-            return Err(Stop::NoMemory);
-        };
+        values.push_reserved(value);
     }
     Ok(values)
 }
@@ -111,13 +116,15 @@ fn outcome_of<V, A: Analyse<V>, G: Gate, R: Wait>(
     pass: &mut Pass<V>,
     n: usize,
 ) -> Result<V, Stop>
-    requires site { (site.now.graph.now.plan ≡ site.now.board.now.plan) × (A.nodes site.now.analyse.now ≡ length site.now.board.now.plan) }
     requires node { n < length site.now.board.now.plan }
-    requires pass { IsSound (A.step site.now.analyse.now) (A.fits site.now.analyse.now) site.now.board.now pass.old }
-    ensures pass { IsSound (A.step site.now.analyse.now) (A.fits site.now.analyse.now) site.now.board.now pass.new }
+    requires pass { let a = site.now.analyse.now in
+        IsSound (A.step a) (A.fits a) site.now.board.now pass.old }
+    ensures pass { let a = site.now.analyse.now in
+        IsSound (A.step a) (A.fits a) site.now.board.now pass.new }
     ensures fresh { knows pass.new n ≡ knows pass.old n }
-    ensures stays { pass.new.journal ≡ record pass.old.journal { seen = pass.new.journal.seen; saw = pass.new.journal.saw } }
-    ensures ok { IfOk result (λ v. Stepped (A.step site.now.analyse.now) (A.fits site.now.analyse.now) site.now.board.now.plan (knows pass.new) n v) }
+    ensures stays { OnlyLooked pass.old.journal pass.new.journal }
+    ensures ok { let a = site.now.analyse.now in IfOk result
+        (λ v. Stepped (A.step a) (A.fits a) site.now.board.now.plan (knows pass.new) n v) }
     ensures err { IfErr result (λ e. StopSays e pass.new.journal) }
 {
     let list = site.graph.deps(n);
@@ -133,19 +140,20 @@ fn outcome_of<V, A: Analyse<V>, G: Gate, R: Wait>(
     }
 }
 
-/// Delivers a published node to one user, and puts that on the shelf if it can be started now.
+/// Delivers a published node to one user, and puts that on the shelf if it can be started now. True
+/// says that it can.
 fn deliver_one<V, S: Shelf>(
     board: &Board<V>,
     shelf: &mut S,
     pass: &mut Pass<V>,
     published: &mut Published,
     user: usize,
-) -> Result<(), NoMemory>
+) -> Result<bool, NoMemory>
     requires shelf { S.nodes shelf.old ≡ length board.now.plan }
     requires user { user < length board.now.plan }
     requires pass { IsPassOf board.now pass.old }
     requires held { IsHeld pass.old published.old.node }
-    requires first { edge_times published.old.node user pass.old.journal.delivered ≡ 0 }
+    requires first { times_sent pass.old published.old.node user ≡ 0 }
     requires edge { 0 < times published.old.node (deps board.now.plan user) }
     ensures of { IsPassOf board.now pass.new }
     ensures shelf { S.nodes shelf.new ≡ S.nodes shelf.old }
@@ -154,19 +162,24 @@ fn deliver_one<V, S: Shelf>(
     ensures memory { pass.new.memory ≡ pass.old.memory }
     ensures finished { pass.new.journal.finished ≡ pass.old.journal.finished }
     ensures set { pass.new.journal.set ≡ pass.old.journal.set }
-    ensures sent { 0 < edge_times published.old.node user pass.new.journal.delivered }
-    ensures others { (u : ℕ) → u ≢ user → edge_times published.old.node u pass.new.journal.delivered ≡ edge_times published.old.node u pass.old.journal.delivered }
+    ensures sent { 0 < times_sent pass.new published.old.node user }
+    ensures others { let n = published.old.node in
+        (u : ℕ) → u ≢ user → times_sent pass.new n u ≡ times_sent pass.old n u }
 {
     match board.deliver(pass, published, user) {
-        Readiness::Ready => shelf.put(NodeId::of(user)),
-        Readiness::Waiting => Ok(()),
+        Readiness::Ready => shelf.put(NodeId::of(user))?,
+        Readiness::Waiting => return Ok(false),
     }
+    Ok(true)
 }
 
 /// Delivers a published node to all its users, and puts those that can be started now on the shelf.
+///
+/// For each of these but one it wakes a worker: the one is for this worker, which looks next.
 fn deliver_all<V, S: Shelf>(
     board: &Board<V>,
     graph: &Graph,
+    idle: &Idle,
     shelf: &mut S,
     pass: &mut Pass<V>,
     published: &mut Published,
@@ -184,11 +197,18 @@ fn deliver_all<V, S: Shelf>(
     ensures memory { pass.new.memory ≡ pass.old.memory }
     ensures finished { pass.new.journal.finished ≡ pass.old.journal.finished }
     ensures set { pass.new.journal.set ≡ pass.old.journal.set }
-    ensures whole { OnOk result ((u : ℕ) → 0 < times n (deps board.now.plan u) → 0 < edge_times n u pass.new.journal.delivered) }
+    ensures whole { OnOk result
+        ((u : ℕ) → 0 < times n (deps board.now.plan u) → 0 < times_sent pass.new n u) }
 {
     let users = graph.users(n);
-    for i in 0..users.len() {
-        deliver_one(board, shelf, pass, published, users[i])?;
+    let mut has_next = false;
+    for user in users {
+        if deliver_one(board, shelf, pass, published, *user)? {
+            if has_next {
+                idle.wake_one();
+            }
+            has_next = true;
+        }
     }
     Ok(())
 }
@@ -202,20 +222,30 @@ fn complete<V: Drop, A: Analyse<V>, S: Shelf, G: Gate, R: Wait>(
     n: usize,
     value: V,
 ) -> Result<(), NoMemory>
-    requires site { site.now.graph.now.plan ≡ site.now.board.now.plan }
     requires shelf { S.nodes shelf.old ≡ length site.now.board.now.plan }
     requires node { n < length site.now.board.now.plan }
     requires started { (0 < times n pass.old.journal.started) × (knows pass.old n ≡ None) }
-    requires pass { IsSound (A.step site.now.analyse.now) (A.fits site.now.analyse.now) site.now.board.now pass.old }
-    requires stepped { Stepped (A.step site.now.analyse.now) (A.fits site.now.analyse.now) site.now.board.now.plan (knows pass.old) n value }
+    requires pass { let a = site.now.analyse.now in
+        IsSound (A.step a) (A.fits a) site.now.board.now pass.old }
+    requires stepped { let a = site.now.analyse.now in
+        Stepped (A.step a) (A.fits a) site.now.board.now.plan (knows pass.old) n value }
     ensures shelf { S.nodes shelf.new ≡ S.nodes shelf.old }
-    ensures pass { IsSound (A.step site.now.analyse.now) (A.fits site.now.analyse.now) site.now.board.now pass.new }
+    ensures pass { let a = site.now.analyse.now in
+        IsSound (A.step a) (A.fits a) site.now.board.now pass.new }
     ensures set { pass.new.journal.set ≡ pass.old.journal.set }
 {
     match site.board.publish(pass, n, value) {
         Ok(mut published) => {
             site.gate.leave(NodeId::of(n));
-            deliver_all(site.board, site.graph, shelf, pass, &mut published, n)?;
+            deliver_all(
+                site.board,
+                site.graph,
+                site.idle,
+                shelf,
+                pass,
+                &mut published,
+                n,
+            )?;
             site.board.finish(pass, published);
             Ok(())
         }
@@ -233,13 +263,14 @@ fn work<V: Drop, A: Analyse<V>, S: Shelf, G: Gate, R: Wait>(
     pass: &mut Pass<V>,
     n: usize,
 ) -> Result<(), Stop>
-    requires site { (site.now.graph.now.plan ≡ site.now.board.now.plan) × (A.nodes site.now.analyse.now ≡ length site.now.board.now.plan) }
     requires shelf { S.nodes shelf.old ≡ length site.now.board.now.plan }
     requires node { n < length site.now.board.now.plan }
     requires started { (0 < times n pass.old.journal.started) × (knows pass.old n ≡ None) }
-    requires pass { IsSound (A.step site.now.analyse.now) (A.fits site.now.analyse.now) site.now.board.now pass.old }
+    requires pass { let a = site.now.analyse.now in
+        IsSound (A.step a) (A.fits a) site.now.board.now pass.old }
     ensures shelf { S.nodes shelf.new ≡ S.nodes shelf.old }
-    ensures pass { IsSound (A.step site.now.analyse.now) (A.fits site.now.analyse.now) site.now.board.now pass.new }
+    ensures pass { let a = site.now.analyse.now in
+        IsSound (A.step a) (A.fits a) site.now.board.now pass.new }
     ensures set { pass.new.journal.set ≡ pass.old.journal.set }
     ensures err { IfErr result (λ e. StopSays e pass.new.journal) }
 {
@@ -257,33 +288,39 @@ pub fn run_worker<V: Drop, A: Analyse<V>, S: Shelf, G: Gate, R: Wait>(
     mut shelf: S,
     mut pass: Pass<V>,
 ) -> (Pass<V>, Ending)
-    requires site { (site.now.graph.now.plan ≡ site.now.board.now.plan) × (A.nodes site.now.analyse.now ≡ length site.now.board.now.plan) }
     requires shelf { S.nodes shelf ≡ length site.now.board.now.plan }
-    requires pass { IsSound (A.step site.now.analyse.now) (A.fits site.now.analyse.now) site.now.board.now pass }
+    requires pass { let a = site.now.analyse.now in
+        IsSound (A.step a) (A.fits a) site.now.board.now pass }
     requires unset { pass.journal.set ≡ false }
-    ensures pass { IsSound (A.step site.now.analyse.now) (A.fits site.now.analyse.now) site.now.board.now result.0 }
+    ensures pass { let a = site.now.analyse.now in
+        IsSound (A.step a) (A.fits a) site.now.board.now result.0 }
     ensures ending { EndingSays result.1 result.0.journal }
 {
+    let mut rest = Rest::new(site.idle);
     for _ in site.rt.forever() {
         if site.board.left(&mut pass) == 0 {
+            site.idle.wake_all();
             return (pass, Ending::Done);
         }
         if site.board.halted(&mut pass) {
             return (pass, Ending::Halted);
         }
         let Some(node) = shelf.take() else {
-            thread::yield_now();
+            rest.turn(site.rt);
             continue;
         };
         let n = node.number();
         let Ok(()) = site.board.start(&mut pass, n) else {
+            rest.pause();
             continue;
         };
+        rest.end();
         match work(site, &mut shelf, &mut pass, n) {
             Ok(()) => {}
             Err(Stop::Halted) => return (pass, Ending::Halted),
             Err(Stop::NoMemory) => {
                 site.board.halt(&mut pass);
+                site.idle.wake_all();
                 return (pass, Ending::NoMemory);
             }
         }

@@ -4,10 +4,12 @@
 #[cfg(test)]
 mod analysers;
 #[cfg(test)]
-mod graphs;
-#[cfg(test)]
 mod pair;
+#[cfg(test)]
+mod random;
 #[cfg(test)]
 mod runs;
 #[cfg(test)]
 mod shelves;
+#[cfg(test)]
+mod texts;

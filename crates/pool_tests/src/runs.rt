@@ -1,36 +1,119 @@
-//! Runs of several workers.
-ghost use Rattle.std.specs.Prelude.{◌≡◌, length, IfSome};
+//! Runs of several workers. All are at watched ends, so that a shelf that loses a number fails a
+//! test and doesn't hang it.
+ghost use Rattle.std.specs.Prelude.{◌≡◌, ◌<◌, length, IfOk, IfSome};
+ghost use Rattle.std.specs.List.{All};
 
-use crate::analysers::{Mixing, Nesting, Refusing};
-use crate::graphs::{apart, chain, diamond};
-use fakes::gates::{Counting, Meeting};
-use pool::{Gate, Gathered, Graph, NoGate, NodeId, Refused, run};
+use crate::analysers::{Mixing, Refusing};
+use fakes::gates::{Both, Counting, Meeting};
+use fakes::graphs::{apart, chain, diamond};
+use fakes::shelves::{Watch, all_twice, all_watched};
+use pool::{
+    Analyse, Gate, Gathered, Graph, LockShelf, NoGate, NodeId, Refused, Shelf, StealShelf, run_on,
+};
 use std::alloc::Global;
 use std::sync::Wait;
 use std::test::Fail;
 use std::thread::Threads;
 
-/// Runs so many workers, from 1 to 64.
-fn mix<G: Gate, R: Threads + Wait + Sync>(
+/// On which shelf the workers of a test run.
+#[derive(Clone, Copy, PartialEq, Eq)]
+pub(crate) enum Kind {
+    Lock,
+    Steal,
+    StealTwice,
+}
+
+pub(crate) const KINDS: [Kind; 3] = [Kind::Lock, Kind::Steal, Kind::StealTwice];
+
+/// A run of workers at these ends. `None` where an end gave up, or a node was worked on that the
+/// shelf hadn't given.
+fn run_at<S, A, G, R>(
     rt: &R,
     alloc: Global,
     graph: &Graph,
-    workers: usize,
+    analyse: &A,
+    ends: Vec<S>,
+    gate: &G,
+) -> Option<Result<Gathered<u64>, Refused>>
+where
+    S: Shelf + Send,
+    A: Analyse<u64>,
+    G: Gate,
+    R: Threads + Wait + Sync,
+    requires ends { All (λ e. S.nodes e ≡ length graph.now.plan) ends.items }
+    requires count { (0 < length ends.items) × (length ends.items < 65) }
+    requires nodes { A.nodes analyse.now ≡ length graph.now.plan }
+    ensures { IfSome result (λ a. IfOk a (λ g. length g.known ≡ length graph.now.plan)) }
+{
+    let watch = Watch::of(alloc, graph.nodes()).ok()?;
+    let ends = all_watched(alloc, ends, graph.nodes(), &watch).ok()?;
+    let both = Both {
+        first: gate,
+        second: &watch,
+    };
+    let answer = run_on(rt, alloc, graph, analyse, ends, &both);
+    if watch.is_fine() { Some(answer) } else { None }
+}
+
+/// A run of so many workers, from 1 to 64, on such a shelf.
+fn run_by<A, G, R>(
+    rt: &R,
+    alloc: Global,
+    graph: &Graph,
+    analyse: &A,
+    by: (Kind, usize),
+    gate: &G,
+) -> Option<Result<Gathered<u64>, Refused>>
+where
+    A: Analyse<u64>,
+    G: Gate,
+    R: Threads + Wait + Sync,
+    requires { A.nodes analyse.now ≡ length graph.now.plan }
+    ensures { IfSome result (λ a. IfOk a (λ g. length g.known ≡ length graph.now.plan)) }
+{
+    let (kind, workers) = by;
+    if workers == 0 || workers > 64 {
+        return None;
+    }
+    let nodes = graph.nodes();
+    match kind {
+        Kind::Lock => {
+            let ends = LockShelf::ends(rt, alloc, workers, nodes).ok()?;
+            run_at(rt, alloc, graph, analyse, ends, gate)
+        }
+        Kind::Steal => {
+            let ends = StealShelf::ends(alloc, workers, nodes).ok()?;
+            run_at(rt, alloc, graph, analyse, ends, gate)
+        }
+        Kind::StealTwice => {
+            let ends = StealShelf::ends(alloc, workers, nodes).ok()?;
+            let ends = all_twice(alloc, ends, nodes).ok()?;
+            run_at(rt, alloc, graph, analyse, ends, gate)
+        }
+    }
+}
+
+/// The outcomes of a run whose outcome at each node mixes those of its dependencies.
+pub(crate) fn mix<G: Gate, R: Threads + Wait + Sync>(
+    rt: &R,
+    alloc: Global,
+    graph: &Graph,
+    by: (Kind, usize),
     gate: &G,
 ) -> Option<Gathered<u64>>
     ensures { IfSome result (λ g. length g.known ≡ length graph.now.plan) }
 {
-    if workers == 0 || workers > 64 {
-        return None;
-    }
     let mixing = Mixing {
         nodes: graph.nodes(),
     };
-    run(rt, alloc, graph, &mixing, workers, gate).ok()
+    match run_by(rt, alloc, graph, &mixing, by, gate)? {
+        Ok(gathered) => Some(gathered),
+        Err(_) => None,
+    }
 }
 
 /// Whether the nodes have these outcomes, one for each, and no node was left at the end.
-fn has(graph: &Graph, gathered: Option<Gathered<u64>>, wanted: &[u64]) -> bool
+pub(crate) fn has(graph: &Graph, gathered: Option<Gathered<u64>>, wanted: &[u64]) -> bool
     requires { IfSome gathered (λ g. length g.known ≡ length graph.now.plan) }
 {
     let Some(gathered) = gathered else {
@@ -48,28 +131,34 @@ fn has(graph: &Graph, gathered: Option<Gathered<u64>>, wanted: &[u64]) -> bool
     true
 }
 
-/// The diamond has its outcomes by so many workers.
-fn diamond_by<R: Threads + Wait + Sync>(
+/// Whether the graph has these outcomes by 1, 2 and 64 workers, on each shelf.
+fn found_by_all<R: Threads + Wait + Sync>(
     rt: &R,
     alloc: Global,
-    workers: usize,
-) -> Result<bool, Fail> {
-    let Some(graph) = diamond(alloc)? else {
-        return Ok(false);
-    };
-    Ok(has(
-        &graph,
-        mix(rt, alloc, &graph, workers, &NoGate),
-        &[0, 1, 2, 7],
-    ))
+    graph: &Graph,
+    wanted: &[u64],
+) -> bool {
+    for kind in KINDS {
+        for workers in [1, 2, 64] {
+            if !has(
+                graph,
+                mix(rt, alloc, graph, (kind, workers), &NoGate),
+                wanted,
+            ) {
+                return false;
+            }
+        }
+    }
+    true
 }
 
 #[test]
 fn the_diamond_by_1_2_and_64_workers(rt: HostRuntime) -> Result<(), Fail> {
     let alloc = rt.alloc();
-    assert!(rt; diamond_by(&rt, alloc, 1)?);
-    assert!(rt; diamond_by(&rt, alloc, 2)?);
-    assert!(rt; diamond_by(&rt, alloc, 64)?);
+    let Some(graph) = diamond(alloc)? else {
+        panic!(rt; "no graph")
+    };
+    assert!(rt; found_by_all(&rt, alloc, &graph, &[0, 1, 2, 7]));
     Ok(())
 }
 
@@ -83,7 +172,7 @@ fn a_chain_of_16(rt: HostRuntime) -> Result<(), Fail> {
         0, 1, 5, 18, 58, 179, 543, 1636, 4916, 14757, 44281, 132854, 398574, 1195735, 3587219,
         10761672,
     ];
-    assert!(rt; has(&graph, mix(&rt, alloc, &graph, 4, &NoGate), &wanted));
+    assert!(rt; found_by_all(&rt, alloc, &graph, &wanted));
     Ok(())
 }
 
@@ -93,32 +182,37 @@ fn the_empty_graph(rt: HostRuntime) -> Result<(), Fail> {
     let Some(graph) = apart(alloc, 0)? else {
         panic!(rt; "no graph")
     };
-    assert!(rt; has(&graph, mix(&rt, alloc, &graph, 2, &NoGate), &[]));
+    assert!(rt; found_by_all(&rt, alloc, &graph, &[]));
     Ok(())
 }
 
-/// Whether as many of the nodes from `low` to `high` as are wanted were at work at one time.
+/// Whether the nodes from `low` to `high` were all at work at one time, on each shelf.
 fn meet<R: Threads + Wait + Sync>(
     rt: &R,
     alloc: Global,
     graph: &Graph,
     workers: usize,
-    gate: &Meeting,
+    low: usize,
+    high: usize,
 ) -> bool {
-    mix(rt, alloc, graph, workers, gate).is_some() && gate.met()
+    for kind in KINDS {
+        let wanted = (high as u64).saturating_sub(low as u64).saturating_add(1);
+        let gate = Meeting::of(low, high, wanted);
+        if mix(rt, alloc, graph, (kind, workers), &gate).is_none() || !gate.met() {
+            return false;
+        }
+    }
+    true
 }
 
 #[test]
 fn two_workers_are_at_work_at_once(rt: HostRuntime) -> Result<(), Fail> {
     let alloc = rt.alloc();
-    let Some(two) = apart(alloc, 2)? else {
+    let (Some(two), Some(graph)) = (apart(alloc, 2)?, diamond(alloc)?) else {
         panic!(rt; "no graph")
     };
-    assert!(rt; meet(&rt, alloc, &two, 2, &Meeting::of(0, 1, 2)));
-    let Some(graph) = diamond(alloc)? else {
-        panic!(rt; "no graph")
-    };
-    assert!(rt; meet(&rt, alloc, &graph, 2, &Meeting::of(1, 2, 2)));
+    assert!(rt; meet(&rt, alloc, &two, 2, 0, 1));
+    assert!(rt; meet(&rt, alloc, &graph, 2, 1, 2));
     Ok(())
 }
 
@@ -128,7 +222,7 @@ fn eight_workers_are_at_work_at_once(rt: HostRuntime) -> Result<(), Fail> {
     let Some(eight) = apart(alloc, 8)? else {
         panic!(rt; "no graph")
     };
-    assert!(rt; meet(&rt, alloc, &eight, 8, &Meeting::of(0, 7, 8)));
+    assert!(rt; meet(&rt, alloc, &eight, 8, 0, 7));
     Ok(())
 }
 
@@ -138,15 +232,16 @@ fn each_node_is_entered_and_left_once(rt: HostRuntime) -> Result<(), Fail> {
     let Some(graph) = diamond(alloc)? else {
         panic!(rt; "no graph")
     };
-    let gate = Counting::of(alloc, 4)?;
-    let gathered = mix(&rt, alloc, &graph, 8, &gate);
-    assert!(rt; has(&graph, gathered, &[0, 1, 2, 7]));
-    assert!(rt; gate.once());
+    for kind in KINDS {
+        let gate = Counting::of(alloc, 4)?;
+        let gathered = mix(&rt, alloc, &graph, (kind, 8), &gate);
+        assert!(rt; has(&graph, gathered, &[0, 1, 2, 7]) && gate.once());
+    }
     Ok(())
 }
 
-/// Runs so many workers for whom there is no memory at one node. Whether they say so.
-fn is_refused<G: Gate, R: Threads + Wait + Sync>(
+/// Whether so many workers for whom there is no memory at one node say so, on each shelf.
+fn are_refused<G: Gate, R: Threads + Wait + Sync>(
     rt: &R,
     alloc: Global,
     graph: &Graph,
@@ -154,38 +249,28 @@ fn is_refused<G: Gate, R: Threads + Wait + Sync>(
     at: usize,
     gate: &G,
 ) -> bool {
-    if workers == 0 || workers > 64 {
-        return false;
+    for kind in KINDS {
+        let mixing = Mixing {
+            nodes: graph.nodes(),
+        };
+        let refusing = Refusing { mixing, at };
+        match run_by(rt, alloc, graph, &refusing, (kind, workers), gate) {
+            Some(Err(Refused::NoMemory)) => {}
+            _ => return false,
+        }
     }
-    let mixing = Mixing {
-        nodes: graph.nodes(),
-    };
-    let refusing = Refusing { mixing, at };
-    match run(rt, alloc, graph, &refusing, workers, gate) {
-        Ok(_) => false,
-        Err(refused) => refused == Refused::NoMemory,
-    }
-}
-
-/// Whether workers for whom there is no memory at one node of the diamond say so.
-fn refused_at<R: Threads + Wait + Sync>(
-    rt: &R,
-    alloc: Global,
-    workers: usize,
-    at: usize,
-) -> Result<bool, Fail> {
-    let Some(graph) = diamond(alloc)? else {
-        return Ok(false);
-    };
-    Ok(is_refused(rt, alloc, &graph, workers, at, &NoGate))
+    true
 }
 
 #[test]
 fn a_worker_without_memory_ends_the_run(rt: HostRuntime) -> Result<(), Fail> {
     let alloc = rt.alloc();
-    assert!(rt; refused_at(&rt, alloc, 1, 0)?);
-    assert!(rt; refused_at(&rt, alloc, 2, 2)?);
-    assert!(rt; refused_at(&rt, alloc, 64, 3)?);
+    let Some(graph) = diamond(alloc)? else {
+        panic!(rt; "no graph")
+    };
+    assert!(rt; are_refused(&rt, alloc, &graph, 1, 0, &NoGate));
+    assert!(rt; are_refused(&rt, alloc, &graph, 2, 2, &NoGate));
+    assert!(rt; are_refused(&rt, alloc, &graph, 64, 3, &NoGate));
     Ok(())
 }
 
@@ -197,40 +282,39 @@ fn the_halt_reaches_workers_that_were_refused_nothing(rt: HostRuntime) -> Result
     };
     // Each worker is at a node of its own when node 2 is refused; this one stays left, so that only
     // the halt ends the others.
+    let mixing = Mixing {
+        nodes: four.nodes(),
+    };
+    let refusing = Refusing { mixing, at: 2 };
     let gate = Meeting::of(0, 3, 4);
-    assert!(rt; is_refused(&rt, alloc, &four, 4, 2, &gate));
-    assert!(rt; gate.met());
+    let answer = run_by(&rt, alloc, &four, &refusing, (Kind::Steal, 4), &gate);
+    assert!(rt; matches!(answer, Some(Err(Refused::NoMemory))) && gate.met());
     Ok(())
 }
 
-/// The text of the diamond's last node, by so many workers.
-fn nested_by<R: Threads + Wait + Sync>(
-    rt: &R,
-    alloc: Global,
-    workers: usize,
-) -> Result<bool, Fail> {
-    if workers == 0 || workers > 64 {
-        return Ok(false);
-    }
-    let Some(graph) = diamond(alloc)? else {
-        return Ok(false);
-    };
-    let nesting = Nesting {
+/// At how many ends numbers are asked for, where 64 ends are handed to a run of the graph.
+fn ends_in_use<R: Threads + Wait + Sync>(rt: &R, alloc: Global, graph: &Graph) -> Option<u64> {
+    let mixing = Mixing {
         nodes: graph.nodes(),
     };
-    if graph.nodes() != 4 {
-        return Ok(false);
+    let watch = Watch::of(alloc, graph.nodes()).ok()?;
+    let ends = LockShelf::ends(rt, alloc, 64, graph.nodes()).ok()?;
+    let ends = all_watched(alloc, ends, graph.nodes(), &watch).ok()?;
+    let answer = run_on(rt, alloc, graph, &mixing, ends, &NoGate);
+    if answer.is_ok() {
+        Some(watch.ends())
+    } else {
+        None
     }
-    Ok(match run(rt, alloc, &graph, &nesting, workers, &NoGate) {
-        Ok(gathered) => gathered.outcome(NodeId::of(3)).as_bytes() == b"[[[]][[]]]".as_slice(),
-        Err(_) => false,
-    })
 }
 
 #[test]
-fn texts_in_brackets(rt: HostRuntime) -> Result<(), Fail> {
+fn no_more_workers_start_than_there_are_nodes(rt: HostRuntime) -> Result<(), Fail> {
     let alloc = rt.alloc();
-    assert!(rt; nested_by(&rt, alloc, 1)?);
-    assert!(rt; nested_by(&rt, alloc, 8)?);
+    let (Some(none), Some(three)) = (apart(alloc, 0)?, apart(alloc, 3)?) else {
+        panic!(rt; "no graph")
+    };
+    assert!(rt; ends_in_use(&rt, alloc, &none).is_some_and(|n| n <= 1));
+    assert!(rt; ends_in_use(&rt, alloc, &three).is_some_and(|n| n <= 3));
     Ok(())
 }

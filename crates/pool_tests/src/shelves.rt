@@ -1,47 +1,56 @@
-//! One queue and its ends.
+//! Shelves and their ends.
 ghost use Rattle.std.specs.Prelude.{◌≡◌, ◌<◌, IfSome};
 ghost use Rattle.std.specs.List.{All};
 
 use board::NoMemory;
-use pool::{LockShelf, NodeId, Shelf};
+use pool::{LockShelf, NodeId, Shelf, StealShelf};
 use std::test::Fail;
 
 /// One of the ends.
-fn pop_end<'r, R>(ends: &mut Vec<LockShelf<'r, R>>, nodes: usize) -> Option<LockShelf<'r, R>>
-    requires { All (λ e. e ≡ nodes) ends.old.items }
-    ensures rest { All (λ e. e ≡ nodes) ends.new.items }
-    ensures some { IfSome result (λ e. e ≡ nodes) }
+fn pop_end<S: Shelf>(ends: &mut Vec<S>, nodes: usize) -> Option<S>
+    requires { All (λ e. S.nodes e ≡ nodes) ends.old.items }
+    ensures rest { All (λ e. S.nodes e ≡ nodes) ends.new.items }
+    ensures some { IfSome result (λ e. S.nodes e ≡ nodes) }
 {
     let _nodes = nodes;
     ends.pop()
 }
 
-/// Whether two nodes that are put on one end are taken from the other, each once.
-fn passed_on<S: Shelf>(one: &mut S, other: &mut S, a: NodeId, b: NodeId) -> Result<bool, NoMemory>
-    requires { (a < S.nodes one.old) × (b < S.nodes one.old) }
+/// Whether two nodes that are put on one end of two are taken from the other, each once.
+fn are_passed_on<S: Shelf>(mut ends: Vec<S>, nodes: usize) -> Result<bool, NoMemory>
+    requires ends { All (λ e. S.nodes e ≡ nodes) ends.items }
+    requires nodes { 3 < nodes }
 {
-    one.put(a)?;
-    one.put(b)?;
+    let (Some(mut one), Some(mut other)) = (pop_end(&mut ends, nodes), pop_end(&mut ends, nodes))
+    else {
+        return Ok(false);
+    };
+    one.put(NodeId::of(3))?;
+    one.put(NodeId::of(1))?;
     let first = other.take();
     let second = other.take();
-    Ok(first == Some(a) && second == Some(b) && other.take().is_none() && one.take().is_none())
+    Ok(
+        first == Some(NodeId::of(3))
+            && second == Some(NodeId::of(1))
+            && other.take().is_none()
+            && one.take().is_none(),
+    )
 }
 
 #[test]
-fn what_one_end_was_given_another_gives(rt: HostRuntime) -> Result<(), Fail> {
-    let alloc = rt.alloc();
-    let Ok(mut ends) = LockShelf::ends(&rt, alloc, 2, 4) else {
+fn what_one_end_of_a_queue_was_given_another_gives(rt: HostRuntime) -> Result<(), Fail> {
+    let Ok(ends) = LockShelf::ends(&rt, rt.alloc(), 2, 4) else {
         panic!(rt; "no memory")
     };
-    let Some(mut one) = pop_end(&mut ends, 4) else {
-        panic!(rt; "no end")
-    };
-    let Some(mut other) = pop_end(&mut ends, 4) else {
-        panic!(rt; "no other end")
-    };
-    let Ok(passed) = passed_on(&mut one, &mut other, NodeId::of(3), NodeId::of(1)) else {
+    assert!(rt; matches!(are_passed_on(ends, 4), Ok(true)));
+    Ok(())
+}
+
+#[test]
+fn what_one_deque_was_given_another_steals(rt: HostRuntime) -> Result<(), Fail> {
+    let Ok(ends) = StealShelf::ends(rt.alloc(), 2, 4) else {
         panic!(rt; "no memory")
     };
-    assert!(rt; passed);
+    assert!(rt; matches!(are_passed_on(ends, 4), Ok(true)));
     Ok(())
 }

@@ -34,6 +34,6 @@ loop-handle-preserved g c =
           (record {
             sound = subst (λ t. IsSound (g.A.Analyse.step t) (g.A.Analyse.fits t) c.args.board.now pass) own.1
                 (subst (λ b. IsSound (g.A.Analyse.step c.in-Some.handle.promise.analyse.now) (g.A.Analyse.fits c.in-Some.handle.promise.analyse.now) b pass) own.0 join.0);
-            ended = on_true _ _ (c.ended_well-fine.ensures pass.journal join.1) two.1;
+            ended = on_true _ _ (c.ended_well-well.ensures pass.journal join.1) two.1;
           }));
     }

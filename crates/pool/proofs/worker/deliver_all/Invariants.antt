@@ -3,8 +3,8 @@ use Rattle.board.specs.Journal.{edge_times}
 use Rattle.board.specs.Views.{IsPassOf, IsHeld}
 use Rattle.pool.proofs.worker.deliver_all.Given as goal
 
-abbrev pub invariant-loop-i : goal.invariant-loop-i
-invariant-loop-i g l = record {
+abbrev pub invariant-loop-user : goal.invariant-loop-user
+invariant-loop-user g l = record {
   of : IsPassOf l.board l.pass;
   shelf : g.S.Shelf.nodes l.shelf ≡ g.S.Shelf.nodes l.initial.shelf;
   held : IsHeld l.pass l.n;
@@ -12,6 +12,6 @@ invariant-loop-i g l = record {
   memory : l.pass.memory ≡ l.initial.pass.memory;
   finished : l.pass.journal.finished ≡ l.initial.pass.journal.finished;
   set : l.pass.journal.set ≡ l.initial.pass.journal.set;
-  sent : (k : ℕ) → k < l.i → 0 < edge_times l.n (get_or l.users k 0) l.pass.journal.delivered;
-  unsent : (k : ℕ) → l.i ≤ k → k < length l.users → edge_times l.n (get_or l.users k 0) l.pass.journal.delivered ≡ 0;
+  sent : (k : ℕ) → k < l.user-index → 0 < edge_times l.n (get_or l.users k 0) l.pass.journal.delivered;
+  unsent : (k : ℕ) → l.user-index ≤ k → k < length l.users → edge_times l.n (get_or l.users k 0) l.pass.journal.delivered ≡ 0;
 }

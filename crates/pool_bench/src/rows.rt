@@ -1,0 +1,127 @@
+//! The graphs that are timed, and their runs.
+ghost use Rattle.std.specs.Prelude.{◌≡◌, length, IfSome};
+
+use crate::work::Busy;
+use board::Board;
+use fakes::graphs::layers;
+use pool::{Gathered, Graph, NoGate, NodeId, run};
+use std::alloc::{AllocError, Global};
+use std::io;
+use std::rt::Clock;
+use std::sync::Wait;
+use std::thread::Threads;
+use std::time::{CpuClock, Instant};
+
+/// A kind of graph: layers of `width` nodes, each of which depends on `degree` nodes.
+#[derive(Clone, Copy)]
+pub struct Row {
+    pub name: &'static str,
+    pub width: usize,
+    pub degree: usize,
+    pub nodes: usize,
+}
+
+fn graph_of(alloc: Global, row: &Row) -> Result<Option<Graph>, AllocError> {
+    layers(alloc, row.nodes, row.width, row.degree)
+}
+
+/// A run of so many workers, from 1 to 64.
+fn run_by<R: Threads + Wait + Sync>(
+    rt: &R,
+    alloc: Global,
+    graph: &Graph,
+    workers: usize,
+    steps: u64,
+) -> Option<Gathered<u64>>
+    ensures { IfSome result (λ g. length g.known ≡ length graph.now.plan) }
+{
+    if workers == 0 || workers > 64 {
+        return None;
+    }
+    let busy = Busy {
+        nodes: graph.nodes(),
+        steps,
+    };
+    run(rt, alloc, graph, &busy, workers, &NoGate).ok()
+}
+
+/// Whether both have the same outcome for each of so many nodes.
+fn are_same(one: &Gathered<u64>, other: &Gathered<u64>, nodes: usize) -> bool
+    requires { (nodes ≡ length one.now.known) × (nodes ≡ length other.now.known) }
+{
+    for n in 0..nodes {
+        let node = NodeId::of(n);
+        if one.outcome(node) != other.outcome(node) {
+            return false;
+        }
+    }
+    true
+}
+
+/// Whether one worker and four find the same outcomes.
+pub fn agree<R: Threads + Wait + Sync>(rt: &R, alloc: Global, row: &Row) -> io::Result<bool> {
+    let Some(graph) = graph_of(alloc, row)? else {
+        return Ok(false);
+    };
+    let (Some(one), Some(four)) = (
+        run_by(rt, alloc, &graph, 1, 0),
+        run_by(rt, alloc, &graph, 4, 0),
+    ) else {
+        return Ok(false);
+    };
+    Ok(are_same(&one, &four, graph.nodes()))
+}
+
+/// How many nanoseconds it takes to open a board of the graph for so many workers, and to close it.
+fn open_and_close<R: Clock>(
+    rt: &R,
+    alloc: Global,
+    graph: &Graph,
+    workers: usize,
+) -> io::Result<(u128, u128)> {
+    let start = Instant::now(rt)?;
+    let Ok((board, passes)) = Board::<u64>::new(alloc, graph.plan(), workers.min(64) + 1) else {
+        return Ok((0, 0));
+    };
+    let opened = start.elapsed(rt)?.as_nanos();
+    let start = Instant::now(rt)?;
+    let closed = board.close(passes);
+    let time = start.elapsed(rt)?.as_nanos();
+    drop(closed);
+    Ok((opened, time))
+}
+
+/// Prints the times of a row by so many workers.
+pub fn time_row<R: Print + Clock + CpuClock + Threads + Wait + Sync>(
+    rt: &R,
+    alloc: Global,
+    row: &Row,
+    workers: usize,
+    micros: u64,
+    steps: u64,
+) -> io::Result<()> {
+    let Some(graph) = graph_of(alloc, row)? else {
+        return println!(rt; "no graph");
+    };
+    let (opened, closed) = open_and_close(rt, alloc, &graph, workers)?;
+    let used = rt.process_cpu_time()?;
+    let start = Instant::now(rt)?;
+    let gathered = run_by(rt, alloc, &graph, workers, steps);
+    let wall = start.elapsed(rt)?.as_nanos();
+    let used = rt.process_cpu_time()?.saturating_sub(used).as_nanos();
+    let answer = if gathered.is_some() {
+        ""
+    } else {
+        " (no answer)"
+    };
+    let nodes = row.nodes.max(1) as u128;
+    println!(rt;
+        "{} of {}, {micros} us a node, {workers} workers: open {} ms, close {} ms, run {} ns a node, processor {} ns a node{answer}",
+        row.name,
+        row.nodes,
+        opened / 1_000_000,
+        closed / 1_000_000,
+        wall / nodes,
+        used / nodes
+    )
+}
