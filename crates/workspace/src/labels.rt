@@ -30,7 +30,8 @@ impl Model for Label {
 
     ghost view = { λ l. record { «package» = l.«package»; name = l.name } };
 
-    ghost invariant = { λ l. IsLabelKept (record { «package» = l.«package»; name = l.name }) l.text };
+    ghost invariant = { λ l.
+        IsLabelKept (record { «package» = l.«package»; name = l.name }) l.text };
 }
 
 /// Why a text gave no label.

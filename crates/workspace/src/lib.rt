@@ -15,4 +15,4 @@ pub use file_kinds::{is_build_file, is_module, package_of};
 pub use labels::{Label, LabelRefused, is_label, label_with};
 pub use laws::texts_of_labels_are_read;
 pub use paths::{PATH_LIMIT, is_path, last_segment};
-pub use workspace::{File, TEXT_LIMIT, Workspace, WorkspaceRefused};
+pub use workspace::{File, TEXT_LIMIT, Workspace, WorkspaceBuilder, WorkspaceRefused};

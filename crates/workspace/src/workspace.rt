@@ -1,15 +1,15 @@
 //! Workspaces: the files that are analysed.
 
-ghost use Rattle.std.specs.Prelude.{◌≡◌, ◌∷◌, ◌++◌, [], IfOk, OnOk, Err, true, not};
-ghost use Rattle.std.specs.HashSet.{Updates, contains};
+ghost use Rattle.std.specs.Prelude.{◌≡◌, ◌∷◌, ◌++◌, [], true, false, IfOk, OnOk, OnErr, Err};
+ghost use Rattle.std.specs.List.{IsDistinct};
 ghost use Rattle.std.specs.Str.{bytes_eq};
-ghost use Rattle.workspace.specs.Files.{Gathers, file_pairs};
-ghost use Rattle.workspace.specs.Workspaces.{IsWorkspace, is_file, pairs_behind};
+ghost use Rattle.workspace.specs.Files.{file_pairs};
+ghost use Rattle.workspace.specs.Workspaces.{IsWorkspace, is_file, pairs_behind, paths_of};
 
 use crate::paths::is_path;
 use plain::Text;
 use std::alloc::{AllocError, Global};
-use std::collections::HashSet;
+use std::collections::BTreeSet;
 use std::marker::Model;
 
 /// The most bytes of a file's text.
@@ -44,6 +44,28 @@ impl Model for Workspace {
     ghost invariant = { λ w. IsWorkspace (file_pairs w.files.items) };
 }
 
+/// Files on the way to a workspace, taken one after another.
+///
+/// Each is a legal one. Whether a path stands twice is found at the end, over all of them. To a contract it is the list
+/// of the pairs that were taken.
+#[derive(Drop)]
+pub struct WorkspaceBuilder {
+    files: Vec<File>,
+}
+
+impl Model for WorkspaceBuilder {
+    ghost use Rattle.std.specs.Prelude.{◌≡◌, true, List};
+    ghost use Rattle.std.specs.List.{list_all};
+    ghost use Rattle.workspace.specs.Files.{file_pairs};
+    ghost use Rattle.workspace.specs.Workspaces.{Pair, is_file};
+
+    ghost Value = { List Pair };
+
+    ghost view = { λ b. file_pairs b.files.items };
+
+    ghost invariant = { λ b. list_all is_file (file_pairs b.files.items) ≡ true };
+}
+
 /// Why pairs gave no workspace.
 #[derive(Clone, Copy, Debug, PartialEq, Eq)]
 pub enum WorkspaceRefused {
@@ -60,54 +82,87 @@ fn is_file(path: &str, text: &str) -> bool
     is_path(path) && text.len() <= TEXT_LIMIT
 }
 
-/// Puts one file behind those that were taken.
-fn push_file(alloc: Global, files: &mut Vec<File>, path: &str, text: &str) -> Result<(), AllocError>
-    ensures { OnOk result (file_pairs files.new.items
-        ≡ file_pairs files.old.items ++ (path.now, text.now) ∷ []) }
+/// A file of copies of a path and a text.
+fn copied(alloc: Global, path: &str, text: &str) -> Result<File, AllocError>
+    ensures path { IfOk result (λ f. f.path ≡ path.now) }
+    ensures text { IfOk result (λ f. f.text ≡ text.now) }
 {
-    files.push(File {
+    Ok(File {
         path: Text::new(alloc, path)?,
         text: Text::new(alloc, text)?,
-    })?;
-    Ok(())
+    })
 }
 
-/// Notes a path and says whether it is a new one.
-fn note_path(alloc: Global, paths: &mut HashSet<Text>, path: &str) -> Result<bool, AllocError>
-    ensures fresh { IfOk result (λ is_new. is_new ≡ not (contains bytes_eq paths.old path.now)) }
-    ensures noted { OnOk result (Updates bytes_eq paths.old paths.new path.now true) }
+/// Whether no path stands twice.
+///
+/// The paths are put in order: who chooses them can't make this slow, as with a hash whose seed is known.
+fn are_distinct(alloc: Global, files: &[File]) -> Result<bool, AllocError>
+    ensures distinct { IfOk result
+        (λ d. d ≡ true → IsDistinct bytes_eq (paths_of (file_pairs files.now))) }
+    ensures twice { IfOk result
+        (λ d. d ≡ false → IsDistinct bytes_eq (paths_of (file_pairs files.now)) → ⊥) }
 {
-    let path = Text::new(alloc, path)?;
-    let is_new = paths.insert(path)?;
-    Ok(is_new)
+    let mut paths = BTreeSet::new(alloc);
+    for file in files {
+        let is_new = paths.insert(file.path.as_str())?;
+        if !is_new {
+            return Ok(false);
+        }
+    }
+    Ok(true)
 }
 
-/// Takes one file more, unless it is illegal or its path was taken before.
-fn take_file(
-    alloc: Global,
-    files: &mut Vec<File>,
-    paths: &mut HashSet<Text>,
-    path: &str,
-    text: &str,
-) -> Result<(), WorkspaceRefused>
-    requires { Gathers (file_pairs files.old.items) paths.old }
-    ensures taken { OnOk result (file_pairs files.new.items
-        ≡ file_pairs files.old.items ++ (path.now, text.now) ∷ []) }
-    ensures gathers { OnOk result (Gathers (file_pairs files.new.items) paths.new) }
-    ensures illegal { result ≡ Err WorkspaceRefused.Illegal
-        → IsWorkspace (file_pairs files.old.items ++ (path.now, text.now) ∷ []) → ⊥ }
-{
-    if !is_file(path, text) {
-        return Err(WorkspaceRefused::Illegal);
+impl WorkspaceBuilder {
+    /// No file yet.
+    pub fn new(alloc: Global) -> WorkspaceBuilder
+        ensures { result ≡ [] }
+    {
+        WorkspaceBuilder {
+            files: Vec::new(alloc),
+        }
     }
-    match note_path(alloc, paths, path) {
-        Ok(true) => {}
-        Ok(false) => return Err(WorkspaceRefused::Illegal),
-        Err(_) => return Err(WorkspaceRefused::NoMemory),
+
+    /// Takes one file more, and copies its path and its text.
+    ///
+    /// # Errors
+    ///
+    /// `Illegal` where the path is illegal or the text too long, and `NoMemory` where memory was refused. Then no file
+    /// was taken.
+    pub fn add(&mut self, alloc: Global, path: &str, text: &str) -> Result<(), WorkspaceRefused>
+        ensures ok { OnOk result (self.new ≡ self.old ++ (path.now, text.now) ∷ []) }
+        ensures legal { OnOk result (is_file (path.now, text.now) ≡ true) }
+        ensures kept { OnErr result (self.new ≡ self.old) }
+        ensures illegal { result ≡ Err WorkspaceRefused.Illegal
+            → is_file (path.now, text.now) ≡ false }
+    {
+        if !is_file(path, text) {
+            return Err(WorkspaceRefused::Illegal);
+        }
+        let file = match copied(alloc, path, text) {
+            Ok(file) => file,
+            Err(_) => return Err(WorkspaceRefused::NoMemory),
+        };
+        match self.files.push(file) {
+            Ok(()) => Ok(()),
+            Err(_) => Err(WorkspaceRefused::NoMemory),
+        }
     }
-    match push_file(alloc, files, path, text) {
-        Ok(()) => Ok(()),
-        Err(_) => Err(WorkspaceRefused::NoMemory),
+
+    /// The workspace of the files that were taken, in their order.
+    ///
+    /// # Errors
+    ///
+    /// `Illegal` where a path stands twice, and `NoMemory` where memory was refused.
+    pub fn finish(self, alloc: Global) -> Result<Workspace, WorkspaceRefused>
+        ensures ok { IfOk result (λ w. w ≡ self) }
+        ensures legal { IfOk result IsWorkspace }
+        ensures illegal { result ≡ Err WorkspaceRefused.Illegal → IsWorkspace self → ⊥ }
+    {
+        match are_distinct(alloc, self.files.as_slice()) {
+            Ok(true) => Ok(Workspace { files: self.files }),
+            Ok(false) => Err(WorkspaceRefused::Illegal),
+            Err(_) => Err(WorkspaceRefused::NoMemory),
+        }
     }
 }
 
@@ -124,15 +179,14 @@ impl Workspace {
         ensures illegal { result ≡ Err WorkspaceRefused.Illegal
             → IsWorkspace (pairs_behind pairs.now) → ⊥ }
     {
-        let mut files = Vec::new(alloc);
-        let mut paths = HashSet::new(alloc);
+        let mut files = WorkspaceBuilder::new(alloc);
         for &(path, text) in pairs {
-            match take_file(alloc, &mut files, &mut paths, path, text) {
+            match files.add(alloc, path, text) {
                 Ok(()) => {}
                 Err(refused) => return Err(refused),
             }
         }
-        Ok(Workspace { files })
+        files.finish(alloc)
     }
 
     /// Its files, in the order of the pairs that it was made of.
