@@ -1,11 +1,12 @@
 -- The rule holds of a new table.
-use Rattle.std.proofs.Common.{◌≡◌, ℕ, zero, suc, ◌+◌, ◌<◌, ◌≤◌, eqb, List, [], ◌∷◌, ◌++◌, map, length, get_or, sym, refl, ap, ◌∙◌, arith, eq-eqb, length-append}
+use Rattle.std.proofs.Common.{◌≡◌, ℕ, zero, suc, ◌+◌, ◌<◌, ◌≤◌, eqb, List, [], ◌∷◌, ◌++◌, map, length, get_or, sym, refl, ap, ◌∙◌, subst, arith, eq-eqb, length-append}
 use Rattle.std.proofs.lemmas.List.{length-map}
 use Rattle.board.specs.declared.journal.Journal.{Journal}
 use Rattle.board.specs.Journal.{times, edge_times, tally, Each, bit, deps, starts, readies, finishes, delivers, sets, missing, unfinished}
 use Rattle.board.proofs.Facts.{Fits, lawful_of}
-use Rattle.board.specs.Rule.{all_journals, blank, blanks, first_words, IsBoardState}
-use Rattle.board.proofs.JournalLists.{tally-append, each-append}
+use Rattle.board.specs.Rule.{blank, blanks, first_words, IsBoardState}
+use Rattle.board.specs.Lawful.{IsLawful}
+use Rattle.board.proofs.JournalLists.{append_none, each-append}
 use Rattle.board.proofs.Counts.{short_list}
 
 blanks_zero : (f : Journal → ℕ) (plan : List (List ℕ)) (k : ℕ) → f (blank plan) ≡ 0 → tally f (blanks plan k) ≡ 0
@@ -40,44 +41,47 @@ past_end (x ∷ xs) rest j = let e : suc (length xs) + j ≡ suc (length xs + j)
 pub first_length : (plan : List (List ℕ)) → length (first_words plan) ≡ length plan + 2
 first_length plan = let a = length-append (map length plan) (length plan ∷ 0 ∷ []) in let m : length (map length plan) ≡ length plan = simp length-map in omega arith
 
-pub begins : (plan : List (List ℕ)) (passes : ℕ) → ((n d : ℕ) → times d (deps plan n) ≤ 1) → ((n d : ℕ) → 0 < times d (deps plan n) → d < length plan) → length plan < 18446744073709551615
-    → IsBoardState plan passes (first_words plan) (blanks plan passes ∷ [])
-begins plan passes distinct inside small =
-    let hs : List Journal = all_journals (blanks plan passes ∷ []) in
-    let none : (f : Journal → ℕ) → f (blank plan) ≡ 0 → tally f hs ≡ 0 = λ f e. let a = tally-append f (blanks plan passes) [] in let b = blanks_zero f plan passes e in omega arith in
-    let each : (P : Journal → Type 0) → P (blank plan) → Each P hs = λ P p. each-append P (blanks plan passes) [] (blanks_each P plan passes p) tt in
-    let st : (n : ℕ) → starts n hs ≡ 0 = λ n. none (λ x. times n x.started) refl in
-    let re : (n : ℕ) → readies n hs ≡ 0 = λ n. none (λ x. times n x.readied) refl in
-    let fi : (n : ℕ) → finishes n hs ≡ 0 = λ n. none (λ x. times n x.finished) refl in
-    let de : (d u : ℕ) → delivers d u hs ≡ 0 = λ d u. none (λ x. edge_times d u x.delivered) refl in
-    let se : sets hs ≡ 0 = none (λ x. bit x.set) refl in
-    let mi : (n : ℕ) → missing hs n (deps plan n) ≡ length (deps plan n) = λ n. missing_all hs n (deps plan n) (λ d. de d n) in
+-- a new board is lawful
+pub first_law : (plan : List (List ℕ)) (passes : ℕ) → IsLawful plan (first_words plan) (blanks plan passes)
+first_law plan passes =
+    let js : List Journal = blanks plan passes in
+    let none : (f : Journal → ℕ) → f (blank plan) ≡ 0 → tally f js ≡ 0 = λ f e. blanks_zero f plan passes e in
+    let st : (n : ℕ) → starts n js ≡ 0 = λ n. none (λ x. times n x.started) refl in
+    let re : (n : ℕ) → readies n js ≡ 0 = λ n. none (λ x. times n x.readied) refl in
+    let fi : (n : ℕ) → finishes n js ≡ 0 = λ n. none (λ x. times n x.finished) refl in
+    let de : (d u : ℕ) → delivers d u js ≡ 0 = λ d u. none (λ x. edge_times d u x.delivered) refl in
+    let se : sets js ≡ 0 = none (λ x. bit x.set) refl in
+    let mi : (n : ℕ) → missing js n (deps plan n) ≡ length (deps plan n) = λ n. missing_all js n (deps plan n) (λ d. de d n) in
     let wc : get_or (first_words plan) (length plan) 0 ≡ length plan = let e : length plan ≡ length plan + 0 = omega arith in let q = past_end plan (length plan ∷ 0 ∷ []) 0 in ap (λ (k : ℕ). get_or (first_words plan) k 0) e ∙ q in
     let wh : get_or (first_words plan) (length plan + 1) 0 ≡ 0 = past_end plan (length plan ∷ 0 ∷ []) 1 in
-    record {
-      wide = first_length plan;
-      all = omega (arith, length-append (blanks plan passes) [], blanks_length plan passes);
-      told = each (λ x. x.plan ≡ plan) refl;
-      shape = record { distinct = distinct; inside = inside; short = λ n. let a = short_list (length plan) (deps plan n) (inside n) (distinct n) in omega arith };
-      law = lawful_of plan (first_words plan) hs (record {
-        once_started = λ n. let a = st n in omega arith;
-        once_readied = λ n. let a = re n in omega arith;
-        once_finished = λ n. let a = fi n in omega arith;
-        once_delivered = λ d u. let a = de d u in omega arith;
-        fits = each (Fits plan (first_words plan) hs) (record {
-          own = record { nodes = λ n p. absurd (omega arith); edges = λ d u p. absurd (omega arith); delivered = λ d u p. absurd (omega arith); finished = λ n p. absurd (omega arith); whole = λ n u p q. absurd (omega arith) };
-          least = tt;
-          saw = λ e. absurd (cc);
-          seen = λ n p. absurd (omega arith);
-        });
-        waiting = λ n lt _. degree_at plan (length plan ∷ 0 ∷ []) n lt ∙ sym (mi n);
-        marked = λ n lt p. let a = st n in absurd (omega arith);
-        complete = λ n p. let a = st n in absurd (omega arith);
-        ready = λ n p z. let a = mi n in absurd (omega arith);
-        readied = λ n p. let a = re n in absurd (omega arith);
-        count = wc ∙ sym (unfinished_all hs (length plan) fi);
-        halt = omega arith;
-        halt_set = λ p. absurd (omega arith);
-        set_halt = λ e. absurd (omega arith);
+    lawful_of plan (first_words plan) js (record {
+      once_started = λ n. let a = st n in omega arith;
+      once_readied = λ n. let a = re n in omega arith;
+      once_finished = λ n. let a = fi n in omega arith;
+      once_delivered = λ d u. let a = de d u in omega arith;
+      fits = blanks_each (Fits plan (first_words plan) js) plan passes (record {
+        own = record { nodes = λ n p. absurd (omega arith); edges = λ d u p. absurd (omega arith); delivered = λ d u p. absurd (omega arith); finished = λ n p. absurd (omega arith); whole = λ n p u q. absurd (omega arith) };
+        least = tt;
+        saw = λ e. absurd (cc);
+        seen = λ n p. absurd (omega arith);
       });
-    }
+      waiting = λ n lt _. degree_at plan (length plan ∷ 0 ∷ []) n lt ∙ sym (mi n);
+      marked = λ n lt p. let a = st n in absurd (omega arith);
+      complete = λ n p. let a = st n in absurd (omega arith);
+      ready = λ n p z. let a = mi n in absurd (omega arith);
+      readied = λ n p. let a = re n in absurd (omega arith);
+      count = wc ∙ sym (unfinished_all js (length plan) fi);
+      halt = omega arith;
+      halt_set = λ p. absurd (omega arith);
+      set_halt = λ e. absurd (omega arith);
+    })
+
+pub begins : (plan : List (List ℕ)) (passes : ℕ) → ((n d : ℕ) → times d (deps plan n) ≤ 1) → ((n d : ℕ) → 0 < times d (deps plan n) → d < length plan) → length plan < 18446744073709551615
+    → IsBoardState plan passes (first_words plan) (blanks plan passes ∷ [])
+begins plan passes distinct inside small = record {
+  wide = first_length plan;
+  all = omega (arith, length-append (blanks plan passes) [], blanks_length plan passes);
+  told = each-append (λ x. x.plan ≡ plan) (blanks plan passes) [] (blanks_each (λ x. x.plan ≡ plan) plan passes refl) tt;
+  shape = record { distinct = distinct; inside = inside; short = λ n. let a = short_list (length plan) (deps plan n) (inside n) (distinct n) in omega arith };
+  law = subst (IsLawful plan (first_words plan)) (sym (append_none (blanks plan passes))) (first_law plan passes);
+}

@@ -12,11 +12,7 @@ use Rattle.board.specs.Lawful.{IsEnd, IsLawful}
 use Rattle.board.proofs.Facts.{Fits, facts_of}
 use Rattle.board.specs.Rule.{IsBoardState}
 use Rattle.board.specs.Views.{PassView, MemoryView, known_at, knows, learned, is_known, Union, Knower, Keeps, IsGathered, journal_of}
-use Rattle.board.proofs.JournalLists.{each_on}
-
-append_none : {X : Type 0} (l : List X) → l ++ [] ≡ l
-append_none [] = refl
-append_none (x ∷ xs) = λ i. x ∷ append_none xs i
+use Rattle.board.proofs.JournalLists.{append_none, each_on}
 
 module _ {V : Type 0} where
   if_some : (P : V → Type 0) (o : Option V) (v : V) → IfSome o P → o ≡ Some v → P v

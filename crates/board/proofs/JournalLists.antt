@@ -6,6 +6,10 @@ use Rattle.board.specs.declared.journal.Journal.{Journal}
 use Rattle.board.specs.Journal.{Among, tally, Each}
 use Rattle.board.specs.Rule.{all_journals}
 
+pub append_none : {X : Type 0} (l : List X) → l ++ [] ≡ l
+append_none [] = refl
+append_none (x ∷ xs) = λ i. x ∷ append_none xs i
+
 pub tally-append : (f : Journal → ℕ) (a b : List Journal) → tally f (a ++ b) ≡ tally f a + tally f b
 tally-append f [] b = omega arith
 tally-append f (h ∷ hs) b = let r = tally-append f hs b in omega arith

@@ -115,7 +115,7 @@ module _ (plan : List (List ℕ)) (words : List ℕ) (vs : List (List Journal)) 
     edges = λ d u p. o.edges d u p;
     delivered = λ d u p. let a = o.delivered d u p in omega arith;
     finished = λ m p. let a = o.finished m p in omega arith;
-    whole = λ m u p q. o.whole m u p q;
+    whole = λ m p u q. o.whole m p u q;
   }
 
   pub started_law : Facts plan ws' al'
@@ -202,8 +202,8 @@ module _ (plan : List (List ℕ)) (words : List ℕ) (vs : List (List Journal)) 
     edges = o.edges;
     delivered = o.delivered;
     finished = λ m p. dite (ℕ_discrete m n) (λ e. subst (λ j. 0 < times j h.started) (sym e) start) (λ ne. o.finished m (let a = times_else m n h.finished ne in omega arith));
-    whole = λ m u p q. dite (ℕ_discrete m n) (λ e. subst (λ j. 0 < edge_times j u h.delivered) (sym e) (whole u (subst (λ j. 0 < times j (deps plan u)) e q)))
-        (λ ne. o.whole m u (let a = times_else m n h.finished ne in omega arith) q);
+    whole = λ m p u q. dite (ℕ_discrete m n) (λ e. subst (λ j. 0 < edge_times j u h.delivered) (sym e) (whole u (subst (λ j. 0 < times j (deps plan u)) e q)))
+        (λ ne. o.whole m (let a = times_else m n h.finished ne in omega arith) u q);
   }
 
   pub finished_law : Facts plan us' bs'
@@ -367,7 +367,7 @@ module _ (plan : List (List ℕ)) (words : List ℕ) (vs : List (List Journal)) 
           (λ e. subst (λ j. 0 < times j h.started) (sym e) start)
           (λ ne. o.delivered a b (let t = edge_times_else a b d u h.delivered (λ q. ne q.0) in let v = ap (edge_times a b) d_delivered in omega arith)));
       finished = λ n p. subst (λ l. 0 < times n l) (sym d_started) (o.finished n (subst (λ l. 0 < times n l) d_finished p));
-      whole = λ n b p q. let t = o.whole n b (subst (λ l. 0 < times n l) d_finished p) q in let v = ap (edge_times n b) d_delivered in omega arith;
+      whole = λ n p b q. let t = o.whole n (subst (λ l. 0 < times n l) d_finished p) b q in let v = ap (edge_times n b) d_delivered in omega arith;
     }
 
     pub gave_law : Facts plan ws ds'

@@ -131,7 +131,7 @@ module _ (plan : List (List ℕ)) (passes slots id : ℕ) (me : Mine) (one : IsO
         tt,
         subst (λ b. Holds (stepped s n (either b mark x) id me.1 (h ∷ []) keeps)) (sym (ne_eqb x 0 nz))
             (loads s r at_ n h (looked s r at_ h (λ _. refl) (λ _. refl) (λ _. refl) (λ _ _. refl) refl f) refl),
-        (refl, record { took = λ z. absurd (nz z); fresh = λ z. absurd (nz z); complete = λ z. absurd (nz z); other = λ m. absurd (nm m); early = λ _ _. (refl, waits, unready) }),
+        (refl, record { took = λ z. absurd (nz z); fresh = λ z. absurd (nz z); complete = λ z. absurd (nz z); other = λ m. absurd (nm m); early = λ _ _. (refl, (waits, unready)) }),
       )))
 
   pub allows_finish : (n : ℕ) → 0 < times n h.started → times n h.finished ≡ 0 → ((u : ℕ) → 0 < times n (deps plan u) → 0 < edge_times n u h.delivered)
@@ -242,7 +242,7 @@ module _ (plan : List (List ℕ)) (passes slots id : ℕ) (me : Mine) (one : IsO
         keeps,
         tt,
         loads s r at_ n h (looked s r at_ h (λ _. refl) (λ _. refl) (λ _. refl) (λ _ _. refl) refl f) refl,
-        (refl, record { started = λ m. absurd (nm m); unstarted = λ _. (refl, mine_not, unseen) }),
+        (refl, record { started = λ m. absurd (nm m); unstarted = λ _. (refl, (mine_not, unseen)) }),
       ))
 
 -- the views are cut and joined otherwise, and the journals stay

@@ -1,5 +1,5 @@
 -- What the journals of all passes say, counted. A node is a number, and its dependencies are the list at that place of the plan. An edge is a pair: a dependency, and the node that depends on it.
-use Rattle.std.specs.Prelude.{◌≡◌, ◌⊎◌, ℕ, zero, suc, ◌+◌, ◌≤◌, Bool, cond, eqb, List, [], ◌∷◌, length, slice_index, slice_index_or, Option, None, Some}
+use Rattle.std.specs.Prelude.{◌≡◌, ◌⊎◌, ℕ, zero, suc, ◌+◌, ◌<◌, ◌≤◌, Bool, cond, eqb, List, [], ◌∷◌, length, slice_index, slice_index_or, Option, None, Some}
 use Rattle.board.specs.declared.journal.Journal.{Journal}
 
 -- how often x stands in the list
@@ -71,6 +71,18 @@ missing js u (d ∷ ds) = cond (eqb (delivers d u js) 0) 1 0 + missing js u ds
 abbrev pub unfinished : List Journal → ℕ → ℕ
 unfinished js zero = 0
 unfinished js (suc k) = cond (eqb (finishes k js) 0) 1 0 + unfinished js k
+
+-- this pass neither started the node nor saw it started
+abbrev pub IsUnbegun : ℕ → Journal → Type 0
+IsUnbegun n j = (times n j.started ≡ 0) × (times n j.seen ≡ 0)
+
+-- the node has dependencies, and this pass did not ready it: an edge into it may be missing
+abbrev pub MayWait : List (List ℕ) → ℕ → Journal → Type 0
+MayWait plan n j = (0 < length (deps plan n)) × (times n j.readied ≡ 0)
+
+-- this pass delivered the edges from the node to all its users
+abbrev pub HasSentAll : List (List ℕ) → ℕ → Journal → Type 0
+HasSentAll plan n j = (u : ℕ) → 0 < times n (deps plan u) → 0 < edge_times n u j.delivered
 
 -- n is at most the number that was seen, if one was
 abbrev pub AtMost : ℕ → Option ℕ → Type 0

@@ -1,7 +1,7 @@
 -- The law of a board: what its words and the journals of all its passes say of each other, after every step, whichever pass made it.
 use Rattle.std.specs.Prelude.{IsTrue, ◌↔◌, ◌≡◌, ℕ, ◌+◌, ◌<◌, ◌≤◌, Bool, true, List, length, slice_index, Some}
 use Rattle.board.specs.declared.journal.Journal.{Journal}
-use Rattle.board.specs.Journal.{times, edge_times, Each, Among, deps, starts, readies, finishes, delivers, sets, delivered_into, finished_count, missing, unfinished, AtMost, mark, count_word, halt_word}
+use Rattle.board.specs.Journal.{times, edge_times, HasSentAll, Each, Among, deps, starts, readies, finishes, delivers, sets, delivered_into, finished_count, missing, unfinished, AtMost, mark, count_word, halt_word}
 
 -- Over all passes no node is started, readied or finished twice, and no edge is delivered twice.
 pub record NothingTwice (js : List Journal) : Type 0 where
@@ -16,11 +16,12 @@ pub record WorkFollowsStart (plan : List (List ℕ)) (j : Journal) : Type 0 wher
   pub edges : (d u : ℕ) → 0 < edge_times d u j.delivered → 0 < times d (deps plan u)
   pub delivered : (d u : ℕ) → 0 < edge_times d u j.delivered → 0 < times d j.started
   pub finished : (n : ℕ) → 0 < times n j.finished → 0 < times n j.started
-  pub whole : (n u : ℕ) → 0 < times n j.finished → 0 < times n (deps plan u) → 0 < edge_times n u j.delivered
+  pub whole : (n : ℕ) → 0 < times n j.finished → HasSentAll plan n j
 
 -- The word of a node that no pass started counts the dependencies whose edge was not delivered yet. The word of a started node is the mark.
 pub record WordsCountMissingEdges (plan : List (List ℕ)) (words : List ℕ) (js : List Journal) : Type 0 where
-  pub waiting : (n : ℕ) → n < length plan → starts n js ≡ 0 → slice_index words n ≡ missing js n (deps plan n)
+  pub waiting : (n : ℕ) → n < length plan → starts n js ≡ 0
+      → slice_index words n ≡ missing js n (deps plan n)
   pub started : (n : ℕ) → n < length plan → 0 < starts n js → slice_index words n ≡ mark
 
 -- All edges into a started node were delivered.
@@ -29,7 +30,8 @@ StartedHaveAllEdges plan js = (n : ℕ) → 0 < starts n js → missing js n (de
 
 -- A node with at least one dependency was readied exactly where all edges into it were delivered.
 pub record ReadiedWithLastEdge (plan : List (List ℕ)) (js : List Journal) : Type 0 where
-  pub if_all : (n : ℕ) → 0 < length (deps plan n) → missing js n (deps plan n) ≡ 0 → 0 < readies n js
+  pub if_all : (n : ℕ) → 0 < length (deps plan n) → missing js n (deps plan n) ≡ 0
+      → 0 < readies n js
   pub only_if_all : (n : ℕ) → 0 < readies n js → missing js n (deps plan n) ≡ 0
 
 -- The count is how many nodes are not finished, and at most what any pass saw.
@@ -65,7 +67,8 @@ pub record IsPlan (plan : List (List ℕ)) : Type 0 where
 
 -- The law in numbers. The word of a node that no pass started is the number of its dependencies less the edges into it that were delivered, and the count is the number of nodes less the finished ones. Both are sums, since no number here is below 0.
 pub record CountsAreDifferences (plan : List (List ℕ)) (words : List ℕ) (js : List Journal) : Type 0 where
-  pub waiting : (n : ℕ) → n < length plan → starts n js ≡ 0 → slice_index words n + delivered_into n js ≡ length (deps plan n)
+  pub waiting : (n : ℕ) → n < length plan → starts n js ≡ 0
+      → slice_index words n + delivered_into n js ≡ length (deps plan n)
   pub edges : (n : ℕ) → missing js n (deps plan n) + delivered_into n js ≡ length (deps plan n)
   pub count : count_word plan words + finished_count js ≡ length plan
 

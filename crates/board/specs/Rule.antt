@@ -1,7 +1,7 @@
 -- What the table of a board keeps between any two steps. Each seat has a view, a list of journals, mostly of one: views are joined by `++`, and a joined seat leaves an empty one. The law speaks of all journals, so it does not see how they are grouped.
-use Rattle.std.specs.Prelude.{◌≡◌, ℕ, zero, suc, ◌+◌, false, List, [], ◌∷◌, ◌++◌, map, length, None}
+use Rattle.std.specs.Prelude.{◌≡◌, ℕ, zero, suc, ◌+◌, false, List, [], ◌∷◌, ◌++◌, map, length, None, Vec}
+use Rattle.std.specs.declared.alloc.Global.{Global}
 use Rattle.board.specs.declared.journal.Journal.{Journal}
-use Rattle.board.specs.declared.journal.BoardKey.{BoardKey}
 use Rattle.board.specs.Journal.{Each}
 use Rattle.board.specs.Lawful.{IsLawful, IsPlan}
 
@@ -9,8 +9,9 @@ abbrev pub all_journals : List (List Journal) → List Journal
 all_journals [] = []
 all_journals (v ∷ vs) = v ++ all_journals vs
 
-abbrev pub plan_of : BoardKey → List (List ℕ)
-plan_of k = map (λ v. v.items) k.deps.items
+-- the plan that these lists are: each node's dependencies
+abbrev pub plan_in : List (Vec ℕ Global) → List (List ℕ)
+plan_in lists = map (λ l. l.items) lists
 
 -- the journal of a pass that has done and seen nothing
 abbrev pub blank : List (List ℕ) → Journal

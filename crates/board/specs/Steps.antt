@@ -1,8 +1,8 @@
 -- What each step adds to the journal of the pass that makes it, and what it tells that pass.
-use Rattle.std.specs.Prelude.{◌≡◌, ◌≢◌, ℕ, ◌+◌, ◌<◌, ◌≤◌, true, false, List, [], ◌∷◌, length, Some}
+use Rattle.std.specs.Prelude.{◌≡◌, ◌≢◌, ℕ, ◌+◌, ◌≤◌, true, false, List, [], ◌∷◌, length, Some}
 use Rattle.atomic_table.specs.Table.{Me, Step}
 use Rattle.board.specs.declared.journal.Journal.{Journal}
-use Rattle.board.specs.Journal.{times, deps, AtMost, mark}
+use Rattle.board.specs.Journal.{AtMost, IsUnbegun, MayWait, mark}
 use Rattle.board.specs.Lawful.{NothingTwice, WasComplete}
 use Rattle.board.specs.Rule.{blank}
 
@@ -59,10 +59,10 @@ Told P m found m' = (m'.1 ≡ m.1) × P found (first_journal m.0) m'.0
 -- a node's word was exchanged for the mark where it was 0; at the mark the pass saw the node started, and at any other number an edge is missing
 pub record TriedStart (n found : ℕ) (j : Journal) (w : List Journal) : Type 0 where
   pub took : found ≡ 0 → w ≡ with_started n j ∷ []
-  pub fresh : found ≡ 0 → (times n j.started ≡ 0) × (times n j.seen ≡ 0)
+  pub fresh : found ≡ 0 → IsUnbegun n j
   pub complete : found ≡ 0 → WasComplete n j
   pub other : found ≡ mark → w ≡ with_seen n j ∷ []
-  pub early : found ≢ 0 → found ≢ mark → (w ≡ j ∷ []) × (0 < length (deps j.plan n)) × (times n j.readied ≡ 0)
+  pub early : found ≢ 0 → found ≢ mark → (w ≡ j ∷ []) × MayWait j.plan n j
 
 -- the edge from d to u was delivered, and u was readied where its word went to 0
 pub record Delivered (d u found : ℕ) (j : Journal) (w : List Journal) : Type 0 where
@@ -83,7 +83,7 @@ pub record HeardHalt (found : ℕ) (j : Journal) (w : List Journal) : Type 0 whe
 -- a node's word was the mark or not, and then this pass had neither started the node nor seen it started
 pub record LookedAt (n found : ℕ) (j : Journal) (w : List Journal) : Type 0 where
   pub started : found ≡ mark → w ≡ with_seen n j ∷ []
-  pub unstarted : found ≢ mark → (w ≡ j ∷ []) × (times n j.started ≡ 0) × (times n j.seen ≡ 0)
+  pub unstarted : found ≢ mark → (w ≡ j ∷ []) × IsUnbegun n j
 
 -- each kind of step, as the table's steps tell it
 abbrev pub starting : Step (Unit {0}) → Mine → ℕ → Mine → Type 0

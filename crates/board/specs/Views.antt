@@ -5,7 +5,8 @@ use Rattle.atomic_table.specs.Seated.{TableId}
 use Rattle.once_cell.specs.declared.race.note.Note.{Note}
 use Rattle.once_cell.specs.Once.{Agrees}
 use Rattle.board.specs.declared.journal.Journal.{Journal}
-use Rattle.board.specs.Journal.{times, edge_times}
+use Rattle.board.specs.Journal.{times, edge_times, IsUnbegun}
+use Rattle.board.specs.Steps.{with_seen}
 use Rattle.board.specs.Rule.{blank}
 
 -- a board: which table and cells it has, its plan, and how many passes it was made with
@@ -44,6 +45,14 @@ module _ {V : Type 0} where
   abbrev pub journal_of : PassView V → Journal
   journal_of p = p.journal
 
+  -- there is something known, or nothing, of each cell
+  abbrev pub IsLevel : MemoryView V → Type 0
+  IsLevel m = length m.cells ≡ length m.known
+
+  -- the second memory is of the same cells, and speaks of as many values
+  abbrev pub SameCells : MemoryView V → MemoryView V → Type 0
+  SameCells m m' = (m'.cells ≡ m.cells) × (length m'.known ≡ length m.known)
+
   abbrev pub known_at : MemoryView V → ℕ → Option V
   known_at m n = slice_index_or m.known n None
 
@@ -64,13 +73,27 @@ module _ {V : Type 0} where
   abbrev pub with_known : PassView V → ℕ → V → PassView V
   with_known p n v = record p { memory = learned p.memory n v }
 
+  -- the pass after it saw the node started
+  abbrev pub saw_started : PassView V → ℕ → PassView V
+  saw_started p n = with_journal p (with_seen n p.journal)
+
+  -- a read that found no value: the pass saw the node started, or neither did so before nor started it
+  abbrev pub FoundNothing : ℕ → PassView V → PassView V → Type 0
+  FoundNothing n old new = ((new ≡ old) × IsUnbegun n old.journal) ⊎ (new ≡ saw_started old n)
+
+  -- a read that found the value: the pass knows it, and may have seen the node started
+  abbrev pub FoundValue : ℕ → V → PassView V → PassView V → Type 0
+  FoundValue n v old new =
+      (new ≡ with_known old n v) ⊎ (new ≡ with_known (saw_started old n) n v)
+
   -- the pass is of this board
   abbrev pub IsPassOf : BoardView → PassView V → Type 0
   IsPassOf b p = (p.table ≡ b.table) × (p.memory.cells ≡ b.cells) × (p.journal.plan ≡ b.plan)
 
   -- the pass is of this board, and has done, seen and learned nothing
   abbrev pub IsNew : BoardView → PassView V → Type 0
-  IsNew b p = IsPassOf b p × (p.journal ≡ blank b.plan) × (length p.memory.known ≡ length b.cells) × ((n : ℕ) → knows p n ≡ None)
+  IsNew b p = IsPassOf b p × (p.journal ≡ blank b.plan)
+      × (length p.memory.known ≡ length b.cells) × ((n : ℕ) → knows p n ≡ None)
 
   -- the pass published the node, and has not finished it
   pub record IsHeld (p : PassView V) (n : ℕ) : Type 0 where
@@ -84,7 +107,8 @@ module _ {V : Type 0} where
 
   -- a pass started or saw started what it knows, and knows what it finished or delivered from
   pub record IsBacked (j : Journal) (m : MemoryView V) : Type 0 where
-    pub backed : (n : ℕ) → is_known (known_at m n) ≡ true → (0 < times n j.started) ⊎ (0 < times n j.seen)
+    pub backed : (n : ℕ) → is_known (known_at m n) ≡ true
+        → (0 < times n j.started) ⊎ (0 < times n j.seen)
     pub ended : (n : ℕ) → 0 < times n j.finished → is_known (known_at m n) ≡ true
     pub gave : (d u : ℕ) → 0 < edge_times d u j.delivered → is_known (known_at m d) ≡ true
 
@@ -117,7 +141,8 @@ module _ {V : Type 0} where
 
   -- c knows what a or b knows, with that value
   abbrev pub Union : Option V → Option V → Option V → Type 0
-  Union a b c = IfSome a (λ x. c ≡ Some x) × IfSome b (λ x. c ≡ Some x) × (is_known c ≡ true → (is_known a ≡ true) ⊎ (is_known b ≡ true))
+  Union a b c = IfSome a (λ x. c ≡ Some x) × IfSome b (λ x. c ≡ Some x)
+      × (is_known c ≡ true → (is_known a ≡ true) ⊎ (is_known b ≡ true))
 
   -- m' knows what m and the passes know, together
   pub record IsGathered (m : MemoryView V) (ps : List (PassView V)) (m' : MemoryView V) : Type 0 where
@@ -125,4 +150,5 @@ module _ {V : Type 0} where
     pub size : length m'.known ≡ length m.known
     pub own : Keeps (known_at m) (known_at m')
     pub kept : All (λ p. Keeps (knows p) (known_at m')) ps
-    pub only : (n : ℕ) → is_known (known_at m' n) ≡ true → (is_known (known_at m n) ≡ true) ⊎ Knower n ps
+    pub only : (n : ℕ) → is_known (known_at m' n) ≡ true
+        → (is_known (known_at m n) ≡ true) ⊎ Knower n ps

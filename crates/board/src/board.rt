@@ -4,13 +4,19 @@
 //! its contract says so by one equation, `pass`, with the other clauses for callers' ease. `of`
 //! says that the pass is still of this board. Each step of a board is one atomic operation on one
 //! word; values go by cells that are set once, outside the words.
-ghost use Rattle.std.specs.Prelude.{◌≡◌, ◌≢◌, ℕ, ◌+◌, ◌<◌, ◌≤◌, ◌⊎◌, [], ◌∷◌, length, None, Some, MatchResult, MatchBool, MatchOption, IfOk, IfErr, IfSome, false};
+ghost use Rattle.std.specs.Prelude.{◌≡◌, ◌≢◌, ℕ, ◌+◌, ◌<◌, ◌≤◌, ◌⊎◌, [], ◌∷◌, length, false};
+ghost use Rattle.std.specs.Prelude.{None, Some, IfOk, IfErr, IfSome};
+ghost use Rattle.std.specs.Prelude.{MatchResult, MatchBool, MatchOption};
 ghost use Rattle.once_cell.specs.Once.{Agrees};
 ghost use Rattle.board.specs.Journal.{times, edge_times, deps, AtMost};
+ghost use Rattle.board.specs.Journal.{MayWait, HasSentAll};
 ghost use Rattle.board.specs.Lawful.{NothingTwice, WasComplete};
 ghost use Rattle.board.specs.Answers.{MatchReadiness};
-ghost use Rattle.board.specs.Steps.{with_started, with_finished, with_seen, with_least, with_set, with_saw, with_delivered, with_readied};
-ghost use Rattle.board.specs.Views.{Keeps, Agree, IsHeld, IsUnsent, IsPassOf, knows, with_journal, with_known};
+ghost use Rattle.board.specs.Steps.{with_started, with_delivered, with_readied, with_finished};
+ghost use Rattle.board.specs.Steps.{with_least, with_set, with_saw};
+ghost use Rattle.board.specs.Views.{Keeps, Agree, IsHeld, IsUnsent, IsPassOf};
+ghost use Rattle.board.specs.Views.{knows, with_journal, with_known, saw_started};
+ghost use Rattle.board.specs.Views.{FoundNothing, FoundValue};
 
 use crate::answers::{NoMemory, NotReady, Readiness};
 use crate::pass::{Pass, Published};
@@ -35,14 +41,21 @@ pub struct Board<V> {
 impl<V> Model for Board<V> {
     ghost use Rattle.std.specs.Prelude.{◌≡◌, ◌+◌, ◌<◌, length, map};
     ghost use Rattle.once_cell.specs.Once.{cell_name};
-    ghost use Rattle.board.specs.Rule.{plan_of};
     ghost use Rattle.board.specs.Views.{BoardView};
 
     ghost Value = { BoardView };
 
-    ghost view = { λ b. record { table = b.table.shared.table_id; cells = map cell_name b.cells.items; plan = plan_of b.table.shared.key; passes = b.table.shared.key.passes } };
+    ghost view = { λ b. record {
+      table = b.table.shared.table_id;
+      cells = map cell_name b.cells.items;
+      plan = b.table.shared.key.plan;
+      passes = b.table.shared.key.passes;
+    } };
 
-    ghost invariant = { λ b. (length (plan_of b.table.shared.key) ≡ length b.cells.items) × (b.table.shared.table_id.words ≡ length b.cells.items + 2) × (b.table.shared.table_id.slots ≡ 0) × (0 < b.table.shared.key.passes) };
+    ghost invariant = { λ b. (length b.table.shared.key.plan ≡ length b.cells.items)
+        × (b.table.shared.table_id.words ≡ length b.cells.items + 2)
+        × (b.table.shared.table_id.slots ≡ 0)
+        × (0 < b.table.shared.key.passes) };
 }
 
 impl<V> Board<V> {
@@ -56,12 +69,15 @@ impl<V> Board<V> {
         requires pass { IsPassOf self.now pass.old }
         requires node { n < length self.now.plan }
         ensures of { IsPassOf self.now pass.new }
-        ensures fresh { IfOk result (λ _. (knows pass.old n ≡ None) × (knows pass.new n ≡ None) × (0 < times n pass.new.journal.started)) }
+        ensures fresh { IfOk result (λ _. (knows pass.old n ≡ None) × (knows pass.new n ≡ None)
+            × (0 < times n pass.new.journal.started)) }
         ensures complete { IfOk result (λ _. WasComplete n pass.old.journal) }
-        ensures stays { IfErr result (λ _. pass.new ≡ with_journal pass.old (record pass.old.journal { seen = pass.new.journal.seen })) }
+        ensures stays { IfErr result (λ _. pass.new
+            ≡ with_journal pass.old (record pass.old.journal { seen = pass.new.journal.seen })) }
         ensures pass { let j = pass.old.journal in MatchResult result
             (λ _. pass.new ≡ with_journal pass.old (with_started n j))
-            (λ _. (pass.new ≡ with_journal pass.old (with_seen n j)) ⊎ ((pass.new ≡ pass.old) × (0 < length (deps self.now.plan n)) × (times n j.readied ≡ 0))) }
+            (λ _. (pass.new ≡ saw_started pass.old n)
+            ⊎ ((pass.new ≡ pass.old) × MayWait self.now.plan n j)) }
     {
         steps::start(&self.table.shared, &mut pass.seat, n)
     }
@@ -79,8 +95,13 @@ impl<V> Board<V> {
         ensures same { published.new ≡ published.old }
         ensures held { IsHeld pass.new published.old.node }
         ensures sent { 0 < edge_times published.old.node user pass.new.journal.delivered }
-        ensures others { (u : ℕ) → u ≢ user → edge_times published.old.node u pass.new.journal.delivered ≡ edge_times published.old.node u pass.old.journal.delivered }
-        ensures pass { let j = with_delivered published.old.node user pass.old.journal in MatchReadiness result (pass.new ≡ with_journal pass.old (with_readied user j)) (pass.new ≡ with_journal pass.old j) }
+        ensures others { let d = published.old.node in (u : ℕ) → u ≢ user
+            → edge_times d u pass.new.journal.delivered
+            ≡ edge_times d u pass.old.journal.delivered }
+        ensures pass { let j = with_delivered published.old.node user pass.old.journal in
+            MatchReadiness result
+            (pass.new ≡ with_journal pass.old (with_readied user j))
+            (pass.new ≡ with_journal pass.old j) }
     {
         steps::deliver(&self.table.shared, &mut pass.seat, published.node, user)
     }
@@ -90,9 +111,10 @@ impl<V> Board<V> {
     pub fn finish(&self, pass: &mut Pass<V>, published: Published)
         requires pass { IsPassOf self.now pass.old }
         requires held { IsHeld pass.old published.node }
-        requires whole { (u : ℕ) → 0 < times published.node (deps self.now.plan u) → 0 < edge_times published.node u pass.old.journal.delivered }
+        requires whole { HasSentAll self.now.plan published.node pass.old.journal }
         ensures of { IsPassOf self.now pass.new }
-        ensures pass { pass.new ≡ with_journal pass.old (with_finished published.node pass.old.journal) }
+        ensures pass { pass.new
+            ≡ with_journal pass.old (with_finished published.node pass.old.journal) }
     {
         let Published { node } = published;
         steps::finish(&self.table.shared, &mut pass.seat, self.cells.len(), node);
@@ -123,8 +145,11 @@ impl<V> Board<V> {
     pub fn halted(&self, pass: &mut Pass<V>) -> bool
         requires pass { IsPassOf self.now pass.old }
         ensures of { IsPassOf self.now pass.new }
-        ensures stays { pass.new ≡ with_journal pass.old (record pass.old.journal { saw = pass.new.journal.saw }) }
-        ensures pass { let j = pass.old.journal in MatchBool result (pass.new ≡ with_journal pass.old (with_saw j)) ((pass.new ≡ pass.old) × (j.set ≡ false) × (j.saw ≡ false)) }
+        ensures stays { pass.new
+            ≡ with_journal pass.old (record pass.old.journal { saw = pass.new.journal.saw }) }
+        ensures pass { let j = pass.old.journal in MatchBool result
+            (pass.new ≡ with_journal pass.old (with_saw j))
+            ((pass.new ≡ pass.old) × (j.set ≡ false) × (j.saw ≡ false)) }
     {
         steps::halted(&self.table.shared, &mut pass.seat, self.cells.len())
     }
@@ -152,13 +177,15 @@ impl<V> Board<V> {
         requires node { n < length self.now.plan }
         ensures of { IsPassOf self.now pass.new }
         ensures value { IfSome result (λ v. knows pass.new n ≡ Some v.now) }
-        ensures begun { IfSome result (λ _. (0 < times n pass.new.journal.started) ⊎ (0 < times n pass.new.journal.seen)) }
+        ensures begun { let j = pass.new.journal in IfSome result (λ _. (0 < times n j.started)
+            ⊎ (0 < times n j.seen)) }
         ensures others { (k : ℕ) → k ≢ n → knows pass.new k ≡ knows pass.old k }
         ensures keeps { Keeps (knows pass.old) (knows pass.new) }
-        ensures stays { pass.new.journal ≡ record pass.old.journal { seen = pass.new.journal.seen } }
-        ensures pass { let j = pass.old.journal in MatchOption result
-            ((knows pass.old n ≡ None) × (((pass.new ≡ pass.old) × (times n j.started ≡ 0) × (times n j.seen ≡ 0)) ⊎ (pass.new ≡ with_journal pass.old (with_seen n j))))
-            (λ v. Agrees (knows pass.old n) v.now × ((pass.new ≡ with_known pass.old n v.now) ⊎ (pass.new ≡ with_known (with_journal pass.old (with_seen n j)) n v.now))) }
+        ensures stays { pass.new.journal
+            ≡ record pass.old.journal { seen = pass.new.journal.seen } }
+        ensures pass { MatchOption result
+            ((knows pass.old n ≡ None) × FoundNothing n pass.old pass.new)
+            (λ v. Agrees (knows pass.old n) v.now × FoundValue n v.now pass.old pass.new) }
     {
         if !pass.memory.has(n) && !steps::look(&self.table.shared, &mut pass.seat, n) {
             return None;

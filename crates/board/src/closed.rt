@@ -1,7 +1,7 @@
 //! A board at its end, which can only be asked.
 ghost use Rattle.std.specs.Prelude.{◌≡◌, ◌<◌, length, map, None, Some, MatchOption};
 ghost use Rattle.once_cell.specs.Once.{cell_name};
-ghost use Rattle.board.specs.Views.{told};
+ghost use Rattle.board.specs.Views.{told, IsLevel};
 
 use crate::memory::Memory;
 use once_cell::race::OnceBox;
@@ -18,15 +18,15 @@ pub struct Closed<V> {
 }
 
 impl<V> Model for Closed<V> {
-    ghost use Rattle.std.specs.Prelude.{◌≡◌, length, map};
+    ghost use Rattle.std.specs.Prelude.{◌≡◌, map};
     ghost use Rattle.once_cell.specs.Once.{cell_name};
-    ghost use Rattle.board.specs.Views.{ClosedView};
+    ghost use Rattle.board.specs.Views.{ClosedView, IsLevel};
 
     ghost Value = { ClosedView V };
 
     ghost view = { λ c. record { known = c.memory.known; left = c.left; halted = c.halted } };
 
-    ghost invariant = { λ c. (c.memory.cells ≡ map cell_name c.cells.items) × (length c.memory.cells ≡ length c.memory.known) };
+    ghost invariant = { λ c. (c.memory.cells ≡ map cell_name c.cells.items) × IsLevel c.memory };
 }
 
 impl<V> Closed<V> {
@@ -37,7 +37,7 @@ impl<V> Closed<V> {
         left: u64,
         halted: bool,
     ) -> Closed<V>
-        requires { (memory.cells ≡ map cell_name cells.items) × (length memory.cells ≡ length memory.known) }
+        requires { (memory.cells ≡ map cell_name cells.items) × IsLevel memory }
         ensures { (result.known ≡ memory.known) × (result.left ≡ left) × (result.halted ≡ halted) }
     {
         Closed {
@@ -51,7 +51,9 @@ impl<V> Closed<V> {
     /// The node's value, exactly where some pass knew it.
     pub fn get(&self, n: usize) -> Option<&V>
         requires node { n < length self.now.known }
-        ensures value { MatchOption result (told self.now n ≡ None) (λ v. told self.now n ≡ Some v.now) }
+        ensures value { MatchOption result
+            (told self.now n ≡ None)
+            (λ v. told self.now n ≡ Some v.now) }
     {
         if !self.memory.has(n) {
             return None;

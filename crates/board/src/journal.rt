@@ -2,11 +2,11 @@
 //!
 //! The table's state is the words and the views of all seats. A view is a list of journals: one for
 //! a pass at rest, none for a seat that was joined to another, several while passes meet or a board
-//! is closed. The rule, `IsBoardState`, speaks of all journals in a row, so it does not see how they
-//! are grouped in seats. All journals are there from the start: a seat that has as many as the
+//! is closed. The rule, `IsBoardState`, speaks of all journals in a row, so it does not see how
+//! they are grouped in seats. All journals are there from the start: a seat that has as many as the
 //! board has passes has them all.
+use crate::key::BoardKey;
 use atomic_table::TableRule;
-use std::alloc::Global;
 use std::collections::LinkedList;
 
 /// What one pass did and saw. It is spoken of by contracts alone: no value of it is made.
@@ -31,20 +31,13 @@ pub struct Journal {
     pub saw: bool,
 }
 
-/// What a new table is made about: the plan, and the number of passes.
-#[derive(Drop)]
-pub struct BoardKey {
-    pub deps: Vec<Vec<usize>>,
-    pub passes: usize,
-}
-
 /// The rule of a board's table.
 pub struct Law;
 
 impl TableRule<(), LinkedList<Journal>, BoardKey> for Law {
-    ghost use Rattle.board.specs.Rule.{IsBoardState, plan_of, blanks};
+    ghost use Rattle.board.specs.Rule.{IsBoardState, blanks};
 
-    ghost holds = { λ key s. IsBoardState (plan_of key) key.passes s.words s.views };
+    ghost holds = { λ key s. IsBoardState key.plan key.passes s.words s.views };
 
-    ghost first = { λ key. blanks (plan_of key) key.passes };
+    ghost first = { λ key. blanks key.plan key.passes };
 }

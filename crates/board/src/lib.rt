@@ -16,6 +16,7 @@ mod closed;
 mod closing;
 mod copying;
 mod journal;
+mod key;
 mod laws;
 mod memory;
 mod opening;
@@ -24,12 +25,10 @@ mod plays;
 mod seats;
 mod steps;
 mod table;
-#[cfg(test)]
-mod tests;
 
 pub use answers::{NoMemory, NotReady, Readiness};
 pub use board::Board;
 pub use closed::Closed;
 pub use journal::Journal;
-pub use laws::counts_are_differences;
+pub use laws::{counts_are_differences, first_state_is_lawful};
 pub use pass::{Pass, Published};

@@ -2,9 +2,11 @@
 //!
 //! A note knows for contracts alone: it has no bytes and cannot be asked. So a flag for each cell
 //! says at run time whether its note knows. The model's invariant is that flags and notes agree.
-ghost use Rattle.std.specs.Prelude.{◌≢◌, IfSome, ◌≡◌, ◌<◌, ℕ, length, slice_index, Option, None, Some, MatchOption, IfOk, map, true};
+ghost use Rattle.std.specs.Prelude.{◌≡◌, ◌≢◌, ◌<◌, ℕ, length, slice_index, map, true};
+ghost use Rattle.std.specs.Prelude.{None, Some, MatchOption, IfSome, IfOk};
 ghost use Rattle.once_cell.specs.Once.{cell_name, Agrees};
-ghost use Rattle.board.specs.Views.{Union, Same, Keeps, Agree, known_at, learned, is_known, cells_of, knowns_of, AgreeBelow};
+ghost use Rattle.board.specs.Views.{known_at, learned, is_known, cells_of, knowns_of};
+ghost use Rattle.board.specs.Views.{Union, Same, Keeps, Agree, AgreeBelow, SameCells};
 
 use crate::copying::copy_note;
 use once_cell::race::{Note, OnceBox};
@@ -20,11 +22,14 @@ pub struct Memory<V> {
 
 impl<V> Model for Memory<V> {
     ghost use Rattle.std.specs.Prelude.{◌≡◌, map};
-    ghost use Rattle.board.specs.Views.{MemoryView, is_known};
+    ghost use Rattle.board.specs.Views.{MemoryView, cells_of, knowns_of, is_known};
 
     ghost Value = { MemoryView V };
 
-    ghost view = { λ m. record { cells = map (λ n. n.cell) m.notes.items; known = map (λ n. n.known) m.notes.items } };
+    ghost view = { λ m. record {
+      cells = cells_of m.notes.items;
+      known = knowns_of m.notes.items;
+    } };
 
     ghost invariant = { λ m. m.flags.items ≡ map (λ n. is_known n.known) m.notes.items };
 }
@@ -42,7 +47,9 @@ impl<V> Memory<V> {
     pub fn get<'a>(&mut self, cell: &'a OnceBox<V>, n: usize) -> Option<&'a V>
         requires node { n < length self.old.known }
         requires cell { slice_index self.old.cells n ≡ cell_name cell.now }
-        ensures value { MatchOption result ((known_at self.old n ≡ None) × (self.new ≡ self.old)) (λ v. Agrees (known_at self.old n) v.now × (self.new ≡ learned self.old n v.now)) }
+        ensures value { MatchOption result
+            ((known_at self.old n ≡ None) × (self.new ≡ self.old))
+            (λ v. Agrees (known_at self.old n) v.now × (self.new ≡ learned self.old n v.now)) }
         ensures now { IfSome result (λ v. known_at self.new n ≡ Some v.now) }
         ensures others { (k : ℕ) → k ≢ n → known_at self.new k ≡ known_at self.old k }
         ensures keeps { Keeps (known_at self.old) (known_at self.new) }
@@ -60,7 +67,8 @@ impl<V> Memory<V> {
     pub fn learn(&mut self, n: usize, note: Note<V>)
         requires node { n < length self.old.known }
         requires note { (slice_index self.old.cells n ≡ note.cell) × (is_known note.known ≡ true) }
-        ensures value { (v : V) → note.known ≡ Some v → (self.new ≡ learned self.old n v) × (known_at self.new n ≡ Some v) }
+        ensures value { (v : V) → note.known ≡ Some v
+            → (self.new ≡ learned self.old n v) × (known_at self.new n ≡ Some v) }
         ensures others { (k : ℕ) → k ≢ n → known_at self.new k ≡ known_at self.old k }
     {
         self.notes[n] = note;
@@ -72,7 +80,8 @@ impl<V> Memory<V> {
 fn compare_all<V>(ours: &mut Vec<Note<V>>, theirs: &mut Vec<Note<V>>)
     requires { cells_of theirs.old.items ≡ cells_of ours.old.items }
     ensures same { (ours.new.items ≡ ours.old.items) × (theirs.new.items ≡ theirs.old.items) }
-    ensures agree { AgreeBelow (length ours.old.items) (knowns_of ours.old.items) (knowns_of theirs.old.items) }
+    ensures agree { let a = ours.old.items in let b = theirs.old.items in
+        AgreeBelow (length a) (knowns_of a) (knowns_of b) }
 {
     for i in 0..ours.len() {
         let copy = theirs[i].again();
@@ -84,7 +93,8 @@ impl<V> Memory<V> {
     /// What is known of the cell goes to `note`.
     pub fn tell(&self, n: usize, note: &mut Note<V>)
         requires { n < length self.now.known }
-        ensures { (note.new.cell ≡ slice_index self.now.cells n) × (note.new.known ≡ known_at self.now n) }
+        ensures { (note.new.cell ≡ slice_index self.now.cells n)
+            × (note.new.known ≡ known_at self.now n) }
     {
         copy_note(&self.notes[n], note);
     }
@@ -109,7 +119,7 @@ impl<V> Memory<V> {
     fn add(&mut self, other: &Memory<V>, n: usize)
         requires node { (n < length self.old.known) × (n < length other.now.known) }
         requires cells { other.now.cells ≡ self.old.cells }
-        ensures cells { (self.new.cells ≡ self.old.cells) × (length self.new.known ≡ length self.old.known) }
+        ensures cells { SameCells self.old self.new }
         ensures here { Union (known_at self.old n) (known_at other.now n) (known_at self.new n) }
         ensures others { (k : ℕ) → k ≢ n → known_at self.new k ≡ known_at self.old k }
     {
@@ -126,9 +136,10 @@ impl<V> Memory<V> {
 
     /// What either knew.
     pub fn merge(&mut self, other: &Memory<V>)
-        requires { (other.now.cells ≡ self.old.cells) × (length other.now.known ≡ length self.old.known) }
-        ensures cells { (self.new.cells ≡ self.old.cells) × (length self.new.known ≡ length self.old.known) }
-        ensures known { (n : ℕ) → Union (known_at self.old n) (known_at other.now n) (known_at self.new n) }
+        requires { SameCells self.old other.now }
+        ensures cells { SameCells self.old self.new }
+        ensures known { (n : ℕ)
+            → Union (known_at self.old n) (known_at other.now n) (known_at self.new n) }
     {
         for n in 0..self.flags.len() {
             self.add(other, n);
@@ -147,7 +158,8 @@ impl<V> Memory<V> {
 
 /// A note that knows nothing for each cell.
 pub fn fresh<V>(alloc: Global, cells: &[OnceBox<V>]) -> Result<Memory<V>, AllocError>
-    ensures { IfOk result (λ m. (m.cells ≡ map cell_name cells.now) × (m.known ≡ map (λ _. None) cells.now)) }
+    ensures { IfOk result (λ m. (m.cells ≡ map cell_name cells.now)
+        × (m.known ≡ map (λ _. None) cells.now)) }
 {
     let mut notes = Vec::new(alloc);
     let mut flags = Vec::new(alloc);

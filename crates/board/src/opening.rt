@@ -1,8 +1,10 @@
 //! A new board and its passes. All memory that steps will need is taken here.
-ghost use Rattle.std.specs.Prelude.{◌≡◌, ℕ, ◌<◌, ◌≤◌, [], ◌∷◌, length, map, IfOk};
+ghost use Rattle.std.specs.Prelude.{◌≡◌, ℕ, ◌<◌, ◌≤◌, [], ◌∷◌, ◌++◌, length};
+ghost use Rattle.std.specs.Prelude.{MatchOption, IfSome, IfOk};
 ghost use Rattle.std.specs.List.{All};
 ghost use Rattle.board.specs.Journal.{times, deps};
-ghost use Rattle.board.specs.Rule.{blank, blanks};
+ghost use Rattle.board.specs.Rule.{blank, blanks, plan_in};
+ghost use Rattle.board.specs.Seats.{HasJournals};
 ghost use Rattle.board.specs.Views.{IsNew, IsPassOf};
 
 use crate::answers::NoMemory;
@@ -37,11 +39,13 @@ impl<V: Drop> Board<V> {
         plan: &[Vec<usize>],
         passes: usize,
     ) -> Result<(Board<V>, Vec<Pass<V>>), NoMemory>
-        requires distinct { (n d : ℕ) → times d (deps (map (λ x. x.items) plan.now) n) ≤ 1 }
-        requires inside { (n d : ℕ) → 0 < times d (deps (map (λ x. x.items) plan.now) n) → d < length plan.now }
+        requires distinct { (n d : ℕ) → times d (deps (plan_in plan.now) n) ≤ 1 }
+        requires inside { (n d : ℕ) → 0 < times d (deps (plan_in plan.now) n)
+            → d < length plan.now }
         requires some { 0 < passes }
-        ensures board { IfOk result (λ t. (t.0.plan ≡ map (λ x. x.items) plan.now) × (t.0.passes ≡ passes)) }
-        ensures passes { IfOk result (λ t. (length t.1.items ≡ passes) × All (IsNew t.0) t.1.items) }
+        ensures board { IfOk result (λ t. (t.0.plan ≡ plan_in plan.now) × (t.0.passes ≡ passes)) }
+        ensures passes { IfOk result (λ t. (length t.1.items ≡ passes)
+            × All (IsNew t.0) t.1.items) }
         ensures of { IfOk result (λ t. All (IsPassOf t.0) t.1.items) }
     {
         let Ok((board, seat)) = Board::without_passes(alloc, plan, passes) else {
@@ -59,11 +63,12 @@ impl<V: Drop> Board<V> {
         plan: &[Vec<usize>],
         passes: usize,
     ) -> Result<(Board<V>, BoardSeat), AllocError>
-        requires distinct { (n d : ℕ) → times d (deps (map (λ x. x.items) plan.now) n) ≤ 1 }
-        requires inside { (n d : ℕ) → 0 < times d (deps (map (λ x. x.items) plan.now) n) → d < length plan.now }
+        requires distinct { (n d : ℕ) → times d (deps (plan_in plan.now) n) ≤ 1 }
+        requires inside { (n d : ℕ) → 0 < times d (deps (plan_in plan.now) n)
+            → d < length plan.now }
         requires some { 0 < passes }
-        ensures board { IfOk result (λ t. (t.0.plan ≡ map (λ x. x.items) plan.now) × (t.0.passes ≡ passes)) }
-        ensures seat { IfOk result (λ t. (t.1.table_id ≡ t.0.table) × (t.1.me.0 ≡ blanks t.0.plan passes) × (t.1.me.1 ≡ [])) }
+        ensures board { IfOk result (λ t. (t.0.plan ≡ plan_in plan.now) × (t.0.passes ≡ passes)) }
+        ensures seat { IfOk result (λ t. HasJournals t.0.table (blanks t.0.plan passes) t.1) }
     {
         let (table, seat) = open_table(alloc, plan, passes)?;
         let cells = cells_for(alloc, plan.len())?;
@@ -82,7 +87,8 @@ impl<V: Drop> Board<V> {
         requires place { (seat.old.table_id ≡ self.now.table) × (seat.old.me.1 ≡ []) }
         requires more { (k : ℕ) × (seat.old.me.0 ≡ blank self.now.plan ∷ blanks self.now.plan k) }
         ensures seat { (seat.new.table_id ≡ seat.old.table_id) × (seat.new.me.1 ≡ []) }
-        ensures ok { IfOk result (λ p. IsNew self.now p × (seat.old.me.0 ≡ blank self.now.plan ∷ seat.new.me.0)) }
+        ensures ok { IfOk result (λ p. IsNew self.now p
+            × (seat.old.me.0 ≡ blank self.now.plan ∷ seat.new.me.0)) }
     {
         let memory = fresh(self.alloc, self.cells.as_slice())?;
         let seat = split_first(&self.table.shared, seat);
@@ -91,7 +97,7 @@ impl<V: Drop> Board<V> {
 
     /// A pass for each journal of the seat.
     fn deal_all(&self, mut seat: BoardSeat, passes: usize) -> Result<Vec<Pass<V>>, AllocError>
-        requires { (seat.table_id ≡ self.now.table) × (seat.me.0 ≡ blanks self.now.plan passes) × (seat.me.1 ≡ []) }
+        requires { HasJournals self.now.table (blanks self.now.plan passes) seat }
         ensures { IfOk result (λ v. (length v.items ≡ passes) × All (IsNew self.now) v.items) }
     {
         let mut all = Vec::new(self.alloc);
@@ -99,5 +105,22 @@ impl<V: Drop> Board<V> {
             all.push(self.deal(&mut seat)?)?;
         }
         Ok(all)
+    }
+}
+
+impl<V> Board<V> {
+    /// Takes the last of the passes, as to give it to a thread. `None` where none is left.
+    ///
+    /// What is taken, and what stays, are passes of this board.
+    pub fn take_pass(&self, passes: &mut Vec<Pass<V>>) -> Option<Pass<V>>
+        requires { All (IsPassOf self.now) passes.old.items }
+        ensures last { MatchOption result
+            ((passes.old.items ≡ []) × (passes.new.items ≡ []))
+            (λ p. passes.old.items ≡ passes.new.items ++ p ∷ []) }
+        ensures of { IfSome result (IsPassOf self.now) }
+        ensures rest { All (IsPassOf self.now) passes.new.items }
+    {
+        let _board = self;
+        passes.pop()
     }
 }

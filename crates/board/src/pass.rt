@@ -18,15 +18,21 @@ pub struct Pass<V> {
 }
 
 impl<V> Model for Pass<V> {
-    ghost use Rattle.std.specs.Prelude.{◌≡◌, [], length};
-    ghost use Rattle.board.specs.Steps.{first_journal, IsOne};
-    ghost use Rattle.board.specs.Views.{PassView, IsBacked};
+    ghost use Rattle.std.specs.Prelude.{◌≡◌, []};
+    ghost use Rattle.board.specs.Steps.{IsOne};
+    ghost use Rattle.board.specs.Seats.{journal_of_seat};
+    ghost use Rattle.board.specs.Views.{PassView, IsBacked, IsLevel};
 
     ghost Value = { PassView V };
 
-    ghost view = { λ p. record { table = p.seat.table_id; journal = first_journal p.seat.me.0; memory = p.memory } };
+    ghost view = { λ p. record {
+      table = p.seat.table_id;
+      journal = journal_of_seat p.seat;
+      memory = p.memory;
+    } };
 
-    ghost invariant = { λ p. IsOne p.seat.me.0 × (p.seat.me.1 ≡ []) × (length p.memory.cells ≡ length p.memory.known) × IsBacked (first_journal p.seat.me.0) p.memory };
+    ghost invariant = { λ p. IsOne p.seat.me.0 × (p.seat.me.1 ≡ []) × IsLevel p.memory
+        × IsBacked (journal_of_seat p.seat) p.memory };
 }
 
 /// A node whose value is published: what `publish` gives, `deliver` uses and `finish` takes.

@@ -4,7 +4,8 @@
 //! is neither, so it stands in a type: a brand, whose ghost member is the node.
 ghost use Rattle.std.specs.Prelude.{ℕ};
 
-use crate::journal::{BoardKey, Journal, Law};
+use crate::journal::{Journal, Law};
+use crate::key::BoardKey;
 use atomic_table::{Play, Seat, Shared};
 use std::collections::LinkedList;
 use std::marker::{Brand, PhantomData};

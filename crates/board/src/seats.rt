@@ -2,6 +2,7 @@
 //! of the first word, and changes no word and no journal.
 ghost use Rattle.std.specs.Prelude.{◌≡◌, ◌<◌, [], ◌++◌};
 ghost use Rattle.board.specs.Steps.{head_of, tail_of};
+ghost use Rattle.board.specs.Seats.{HasJournals, LeftWith};
 
 use crate::plays::{BoardSeat, View, Words};
 use atomic_table::{Join, Play, Split};
@@ -43,8 +44,8 @@ impl Play<(), View> for Empty {
 /// A seat with the first journal, which leaves this one.
 pub fn split_first(words: &Words, seat: &mut BoardSeat) -> BoardSeat
     requires place { (seat.old.table_id ≡ words.now.table_id) × (0 < words.now.table_id.words) }
-    ensures seat { (seat.new.table_id ≡ seat.old.table_id) × (seat.new.me.0 ≡ tail_of seat.old.me.0) × (seat.new.me.1 ≡ seat.old.me.1) }
-    ensures first { (result.table_id ≡ words.now.table_id) × (result.me.0 ≡ head_of seat.old.me.0) × (result.me.1 ≡ []) }
+    ensures seat { LeftWith (tail_of seat.old.me.0) seat.old seat.new }
+    ensures first { HasJournals words.now.table_id (head_of seat.old.me.0) result }
 {
     words.split_seat::<First>(seat)
 }
@@ -53,7 +54,7 @@ pub fn split_first(words: &Words, seat: &mut BoardSeat) -> BoardSeat
 pub fn split_nothing(words: &Words, seat: &mut BoardSeat) -> BoardSeat
     requires place { (seat.old.table_id ≡ words.now.table_id) × (0 < words.now.table_id.words) }
     ensures seat { (seat.new.table_id ≡ seat.old.table_id) × (seat.new.me ≡ seat.old.me) }
-    ensures nothing { (result.table_id ≡ words.now.table_id) × (result.me.0 ≡ []) × (result.me.1 ≡ []) }
+    ensures nothing { HasJournals words.now.table_id [] result }
 {
     words.split_seat::<Nothing>(seat)
 }
@@ -62,7 +63,7 @@ pub fn split_nothing(words: &Words, seat: &mut BoardSeat) -> BoardSeat
 pub fn gather(words: &Words, seat: &mut BoardSeat, other: BoardSeat)
     requires place { (seat.old.table_id ≡ words.now.table_id) × (0 < words.now.table_id.words) }
     requires other { (other.table_id ≡ words.now.table_id) × (other.me.1 ≡ []) }
-    ensures { (seat.new.table_id ≡ seat.old.table_id) × (seat.new.me.0 ≡ seat.old.me.0 ++ other.me.0) × (seat.new.me.1 ≡ seat.old.me.1) }
+    ensures { LeftWith (seat.old.me.0 ++ other.me.0) seat.old seat.new }
 {
     words.join_seat::<Together>(seat, other);
 }
@@ -70,7 +71,7 @@ pub fn gather(words: &Words, seat: &mut BoardSeat, other: BoardSeat)
 /// A new seat with no journal.
 pub fn empty_seat(words: &Words) -> BoardSeat
     requires { 0 < words.now.table_id.words }
-    ensures { (result.table_id ≡ words.now.table_id) × (result.me.0 ≡ []) × (result.me.1 ≡ []) }
+    ensures { HasJournals words.now.table_id [] result }
 {
     let (_, seat) = words.load_new_seat::<Empty>(0);
     seat

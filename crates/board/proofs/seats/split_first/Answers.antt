@@ -1,6 +1,5 @@
-use Rattle.board.specs.Rule.{plan_of}
 use Rattle.board.proofs.RuleSteps.{allows_first_split}
 use Rattle.board.proofs.seats.split_first.Goals as goal
 
 pub split_seat-requires : goal.split_seat-requires
-split_seat-requires c = (c.requires.place.0, c.requires.place.1, allows_first_split (plan_of c.args.words.now.key) c.args.words.now.key.passes c.args.seat.now.id c.args.seat.now.me.0)
+split_seat-requires c = (c.requires.place.0, c.requires.place.1, allows_first_split c.args.words.now.key.plan c.args.words.now.key.passes c.args.seat.now.id c.args.seat.now.me.0)

@@ -1,5 +1,4 @@
 use Rattle.std.proofs.Common.{arith}
-use Rattle.board.specs.Rule.{plan_of}
 use Rattle.board.proofs.RuleSteps.{allows_halt}
 use Rattle.board.proofs.steps.halt.Goals as goal
 
@@ -7,5 +6,5 @@ pub store-requires : goal.store-requires
 store-requires c = (
   c.requires.place.0,
   omega arith,
-  rw c.requires.count.0 (allows_halt (plan_of c.args.words.now.key) c.args.words.now.key.passes c.args.words.now.table_id.slots c.args.seat.now.id c.args.seat.now.me c.requires.place.1),
+  rw c.requires.count.0 (allows_halt c.args.words.now.key.plan c.args.words.now.key.passes c.args.words.now.table_id.slots c.args.seat.now.id c.args.seat.now.me c.requires.place.1),
 )

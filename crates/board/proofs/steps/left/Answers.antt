@@ -1,5 +1,4 @@
 use Rattle.std.proofs.Common.{arith}
-use Rattle.board.specs.Rule.{plan_of}
 use Rattle.board.proofs.RuleSteps.{allows_left}
 use Rattle.board.proofs.steps.left.Goals as goal
 
@@ -7,5 +6,5 @@ pub load-requires : goal.load-requires
 load-requires c = (
   c.requires.place.0,
   omega arith,
-  rw c.requires.count.0 (allows_left (plan_of c.args.words.now.key) c.args.words.now.key.passes c.args.words.now.table_id.slots c.args.seat.now.id c.args.seat.now.me c.requires.place.1),
+  rw c.requires.count.0 (allows_left c.args.words.now.key.plan c.args.words.now.key.passes c.args.words.now.table_id.slots c.args.seat.now.id c.args.seat.now.me c.requires.place.1),
 )

@@ -1,5 +1,4 @@
 use Rattle.std.proofs.Common.{arith}
-use Rattle.board.specs.Rule.{plan_of}
 use Rattle.board.proofs.RuleSteps.{allows_start}
 use Rattle.board.proofs.steps.start.Goals as goal
 
@@ -7,5 +6,5 @@ pub compare_exchange-found-requires : goal.compare_exchange-found-requires
 compare_exchange-found-requires c = (
   c.requires.place.0,
   omega arith,
-  allows_start (plan_of c.args.words.now.key) c.args.words.now.key.passes c.args.words.now.table_id.slots c.args.seat.now.id c.args.seat.now.me c.requires.place.1 c.args.n c.requires.node.0,
+  allows_start c.args.words.now.key.plan c.args.words.now.key.passes c.args.words.now.table_id.slots c.args.seat.now.id c.args.seat.now.me c.requires.place.1 c.args.n c.requires.node,
 )

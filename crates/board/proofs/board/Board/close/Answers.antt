@@ -3,7 +3,6 @@ use Rattle.std.specs.Prelude.{Some}
 use Rattle.std.proofs.lemmas.List.{length-map}
 use Rattle.std.proofs.lemmas.List.Elements.{All-pop}
 use Rattle.once_cell.specs.Once.{cell_name}
-use Rattle.board.specs.Rule.{plan_of}
 use Rattle.board.specs.Views.{BoardView, PassView, IsPassOf, journal_of}
 use Rattle.board.proofs.Gathered.{gathered_all, journals_split, ends_so}
 use Rattle.board.proofs.board.Board.close.Goals as goal
@@ -28,7 +27,7 @@ returns-clause-end g c =
     let journals : c.gather.new.seat.me.0 ≡ map journal_of c.args.passes.items = c.gather.ensures.1 ∙ (λ i. c.gather_all-seat.ensures.seat.1 i ++ c.last.invariant.0 i)
     ∙ journals_split c.pop.new.self.items c.args.passes.items c.in-Some.last _ c.in-Some.ensures.items (ap (λ (p : PassView V). p.journal) c.last.view_is) in (
       s.0,
-      ends_so (plan_of c.self.inside.table.shared.key) c.args.self.plan _ c.len.result _ _ s.0 c.gather.new.seat.me.0 (map journal_of c.args.passes.items) c.of.result.left c.of.result.halted s.1
+      ends_so c.self.inside.table.shared.key.plan c.args.self.plan _ c.len.result _ _ s.0 c.gather.new.seat.me.0 (map journal_of c.args.passes.items) c.of.result.left c.of.result.halted s.1
           (ap (λ (b : BoardView). b.plan) c.self.view_is) journals (search rules) s.2 s.3 c.of.ensures.1 (search rules),
     )
 

@@ -1,5 +1,0 @@
-use Rattle.board.specs.Views.{IsPassOf}
-use Rattle.board_bench.proofs.worker.turn.Given as goal
-
-abbrev pub invariant-loop-n : goal.invariant-loop-n
-invariant-loop-n l = IsPassOf l.board l.pass

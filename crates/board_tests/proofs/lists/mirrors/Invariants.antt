@@ -1,0 +1,6 @@
+use Rattle.std.proofs.Common.{ℕ, ◌<◌, map}
+use Rattle.board.specs.Journal.{times, deps}
+use Rattle.board_tests.proofs.lists.mirrors.Given as goal
+
+abbrev pub invariant-loop-n : goal.invariant-loop-n
+invariant-loop-n l = (k x : ℕ) → k < l.n → 0 < times x (deps (map (λ v. v.items) l.lists) k) → 0 < times k (deps (map (λ v. v.items) l.others) x)
