@@ -1,0 +1,16 @@
+pub mod Names
+pub mod Operations
+pub mod Outcome
+pub mod Entry
+pub mod Functions
+pub mod Expressions
+pub mod Statements
+pub mod Calls
+pub mod Instructions
+pub mod Machine
+pub mod Performing
+pub mod ExpressionCode
+pub mod StatementCode
+pub mod Correct
+pub mod EndsIn
+pub mod Linked
