@@ -10,3 +10,4 @@ pub mod Turns
 pub mod Ends
 pub mod Orders
 pub mod Renumbering
+pub mod Worked
