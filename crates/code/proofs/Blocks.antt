@@ -16,7 +16,8 @@ use Rattle.code.specs.StatementCode.{import_code, imports_code, back_code, stmt_
 use Rattle.code.proofs.Leads.{Gives, stays, same, stepped, gives_then, gives_all, gives_as}
 use Rattle.code.proofs.OneStep.{Site, config, onto, taken, Calls, here_at, frame, now, At, cut, one, op, arrived, read_runs, set_runs, assign_runs}
 use Rattle.code.proofs.Forms.{either_runs, length_of}
-use Rattle.code.proofs.Terms.{expr_runs, exprs_run, items_counted}
+use Rattle.code.proofs.Terms.{expr_runs, exprs_run}
+use Rattle.code.proofs.Counts.{items_counted}
 use Rattle.code.proofs.Loops.{ending, to_next, to_left, skips_ending, loops_run, step_ends}
 
 module _ {S V K : Type 0} (site : Site S V K) (invoke : Invoke S V K) (calls : Calls site.ops site.codes site.active invoke) (files : Files) (names : (f : FunctionId) → code_name site.codes f ≡ function_name files f) where

@@ -1,4 +1,4 @@
--- One end of a run, and the theorem.
+-- A run has one end, and it is the one that is meant.
 use Rattle.std.proofs.Common.{◌≡◌, ℕ, zero, suc, ◌≤◌, [], ◌∷◌, Option, Some, None, refl, sym, ap, ◌∙◌, subst, ⊎_elim, arith}
 use Rattle.std.specs.Prelude.{Ok, Err, option_map}
 use Rattle.std.proofs.lemmas.Bool.{cases_lt}

@@ -1,10 +1,12 @@
 pub mod Leads
 pub mod OneStep
 pub mod Forms
+pub mod Counts
 pub mod Terms
 pub mod Loops
 pub mod Blocks
 pub mod Calls
+pub mod TermLines
 pub mod Lines
 pub mod Ends
 pub mod Terminates

@@ -1,42 +1,19 @@
 -- The code of an expression gives what it means.
-use Rattle.std.proofs.Common.{◌≡◌, ℕ, suc, ◌+◌, List, [], ◌∷◌, ◌++◌, length, refl, sym, subst, arith, length-append}
+use Rattle.std.proofs.Common.{◌≡◌, ℕ, suc, ◌+◌, List, [], ◌∷◌, ◌++◌, length, refl, sym, subst, arith}
 use Rattle.syntax.specs.Resolved as tree
 use Rattle.code.specs.Instructions as instr
 use Rattle.syntax.specs.Resolved.{Term, named, numeral, quoted, tuple, listing, dict, choice, operates, turned, selects, subscript, invokes, each, each_pair, Terms, no_terms, more_terms, Pairs, no_pairs, more_pairs, Keywords, no_keywords, more_keywords, Rounds, for_each, only_if}
 use Rattle.code.specs.Names.{Binding, slot, global, builtin}
-use Rattle.code.specs.Operations.{Callee, plain, Operations}
+use Rattle.code.specs.Operations.{Callee, plain}
 use Rattle.code.specs.Outcome.{Slots, Outcome, done, Effect, ◌>>=◌, pure, act, Here}
 use Rattle.code.specs.Expressions.{Invoke, way, names_of, bound_in, calling, forget, assigned, turns, eval, evals, values, entries, rounds}
 use Rattle.code.specs.Instructions.{Instruction, Codes}
 use Rattle.code.specs.Machine.{Walk, Next}
 use Rattle.code.specs.ExpressionCode.{Lines, source_of, turn_code, count, forget_code, call_code, expr_code, exprs_code, values_code, entries_code, rounds_code}
-use Rattle.code.proofs.Leads.{Leads, Gives, Always, always_then, always_as, stays, gives_then, gives_all, gives_if}
+use Rattle.code.proofs.Leads.{Leads, Gives, stays, gives_then, gives_all, gives_if}
 use Rattle.code.proofs.OneStep.{Site, onto, onto_last, taken, Calls, here_at, now, At, cut, one, op, arrived, read_runs, forget_runs, call_runs}
 use Rattle.code.proofs.Forms.{Runs, IsFrom, joined_runs, either_runs, skips_value, turns_run, length_of}
-
--- as many values as there are expressions
-module _ {S V K : Type 0} (ops : Operations S V K) (invoke : Invoke S V K) (here : Here) where
-  pub evals_long : (es : Terms) (vs : List V) (l : Slots V) (s : S) →
-      Always (λ ws. length ws ≡ length vs + count es) (evals ops invoke es here vs l s)
-  unfolding eval
-  evals_long no_terms vs l s = omega arith
-  evals_long (more_terms e es) vs l s = always_then _ (eval ops invoke e here l s) _ (λ v l s.
-      always_as (λ ws. length ws ≡ length (vs ++ v ∷ []) + count es) (λ ws. length ws ≡ length vs + suc (count es)) (evals ops invoke es here (vs ++ v ∷ []) l s) (λ ws e. omega (arith, e, length-append vs (v ∷ []))) (evals_long es (vs ++ v ∷ []) l s))
-
-  pub values_long : (ks : Keywords) (vs : List V) (l : Slots V) (s : S) →
-      Always (λ ws. length ws ≡ length vs + length (names_of ks)) (values ops invoke ks here vs l s)
-  unfolding eval
-  values_long no_keywords vs l s = omega arith
-  values_long (more_keywords x e ks) vs l s = always_then _ (eval ops invoke e here l s) _ (λ v l s.
-      always_as (λ ws. length ws ≡ length (vs ++ v ∷ []) + length (names_of ks)) (λ ws. length ws ≡ length vs + suc (length (names_of ks))) (values ops invoke ks here (vs ++ v ∷ []) l s) (λ ws e. omega (arith, e, length-append vs (v ∷ []))) (values_long ks (vs ++ v ∷ []) l s))
-
-  pub items_counted : (es : Terms) (l : Slots V) (s : S) →
-      Always (λ ws. length ws ≡ count es) (evals ops invoke es here [] l s)
-  items_counted es l s = always_as (λ ws. length ws ≡ 0 + count es) (λ ws. length ws ≡ count es) (evals ops invoke es here [] l s) (λ ws e. omega (arith, e)) (evals_long es [] l s)
-
-  pub named_counted : (ks : Keywords) (l : Slots V) (s : S) →
-      Always (λ ws. length ws ≡ length (names_of ks)) (values ops invoke ks here [] l s)
-  named_counted ks l s = always_as (λ ws. length ws ≡ 0 + length (names_of ks)) (λ ws. length ws ≡ length (names_of ks)) (values ops invoke ks here [] l s) (λ ws e. omega (arith, e)) (values_long ks [] l s)
+use Rattle.code.proofs.Counts.{items_counted, named_counted}
 
 module _ {S V K : Type 0} (site : Site S V K) (invoke : Invoke S V K) (calls : Calls site.ops site.codes site.active invoke) (at : ℕ) where
   abbrev here : Here
