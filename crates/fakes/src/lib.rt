@@ -4,3 +4,4 @@
 pub mod gates;
 pub mod graphs;
 pub mod shelves;
+pub mod tapes;
