@@ -1,0 +1,4 @@
+pub mod CommandLine
+pub mod Asked
+pub mod Input
+pub mod InputTokens
