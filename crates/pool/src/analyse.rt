@@ -17,7 +17,7 @@ pub trait Analyse<V>: Sync {
 
     ghost fits: { Self → ℕ → List V → Type 0 };
 
-    /// The outcome of the node, where `values` are the outcomes of its dependencies, in their order.
+    /// The outcome of the node, where `values` are the outcomes of its dependencies, in order.
     ///
     /// `NoMemory` comes where the allocator refuses memory.
     fn analyse_one(&self, alloc: Global, n: NodeId, values: &[&V]) -> Result<V, NoMemory>

@@ -21,9 +21,13 @@ impl Model for Graph {
 
     ghost Value = { GraphView };
 
-    ghost view = { λ g. record { plan = map (λ l. l.items) g.plan.items; users = map (λ l. l.items) g.users.items } };
+    ghost view = { λ g. record {
+      plan = map (λ l. l.items) g.plan.items;
+      users = map (λ l. l.items) g.users.items;
+    } };
 
-    ghost invariant = { λ g. IsGraph (map (λ l. l.items) g.plan.items) (map (λ l. l.items) g.users.items) };
+    ghost invariant = { λ g.
+        IsGraph (map (λ l. l.items) g.plan.items) (map (λ l. l.items) g.users.items) };
 }
 
 impl Graph {
@@ -81,7 +85,8 @@ impl Graph {
 fn users_of(alloc: Global, plan: &[Vec<usize>]) -> Result<Vec<Vec<usize>>, AllocError>
     requires inside { AllInside (map (λ l. l.items) plan.now) }
     ensures size { IfOk result (λ v. length v.items ≡ length plan.now) }
-    ensures converse { IfOk result (λ v. IsConverse (map (λ l. l.items) plan.now) (map (λ l. l.items) v.items)) }
+    ensures converse { IfOk result
+        (λ v. IsConverse (map (λ l. l.items) plan.now) (map (λ l. l.items) v.items)) }
 {
     let mut users = no_users(alloc, plan.len())?;
     for n in 0..plan.len() {
@@ -93,7 +98,8 @@ fn users_of(alloc: Global, plan: &[Vec<usize>]) -> Result<Vec<Vec<usize>>, Alloc
 /// So many empty lists.
 fn no_users(alloc: Global, nodes: usize) -> Result<Vec<Vec<usize>>, AllocError>
     ensures size { IfOk result (λ v. length v.items ≡ nodes) }
-    ensures none { IfOk result (λ v. (d m : ℕ) → times m (deps (map (λ l. l.items) v.items) d) ≡ 0) }
+    ensures none { IfOk result
+        (λ v. (d m : ℕ) → times m (deps (map (λ l. l.items) v.items) d) ≡ 0) }
 {
     let mut users = Vec::new(alloc);
     for _ in 0..nodes {
@@ -106,7 +112,10 @@ fn no_users(alloc: Global, nodes: usize) -> Result<Vec<Vec<usize>>, AllocError>
 fn note_user(users: &mut Vec<Vec<usize>>, list: &[usize], n: usize) -> Result<(), AllocError>
     requires inside { (d : ℕ) → 0 < times d list.now → d < length users.old.items }
     ensures size { length users.new.items ≡ length users.old.items }
-    ensures noted { OnOk result ((d m : ℕ) → times m (deps (map (λ l. l.items) users.new.items) d) ≡ times m (deps (map (λ l. l.items) users.old.items) d) + cond (eqb m n) (times d list.now) 0) }
+    ensures noted { OnOk result ((d m : ℕ) →
+        times m (deps (map (λ l. l.items) users.new.items) d)
+        ≡ times m (deps (map (λ l. l.items) users.old.items) d)
+        + cond (eqb m n) (times d list.now) 0) }
 {
     for d in list {
         push_at(users, *d, n)?;
@@ -118,7 +127,8 @@ fn note_user(users: &mut Vec<Vec<usize>>, list: &[usize], n: usize) -> Result<()
 fn push_at(lists: &mut Vec<Vec<usize>>, d: usize, n: usize) -> Result<(), AllocError>
     requires place { d < length lists.old.items }
     ensures size { length lists.new.items ≡ length lists.old.items }
-    ensures pushed { OnOk result (map (λ l. l.items) lists.new.items ≡ slice_set (map (λ l. l.items) lists.old.items) d (deps (map (λ l. l.items) lists.old.items) d ++ n ∷ [])) }
+    ensures pushed { let old = map (λ l. l.items) lists.old.items in OnOk result
+        (map (λ l. l.items) lists.new.items ≡ slice_set old d (deps old d ++ n ∷ [])) }
 {
     lists[d].push(n)?;
     Ok(())
