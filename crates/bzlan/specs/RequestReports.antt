@@ -1,12 +1,13 @@
 -- The report on what words ask for and an input spells.
-use Rattle.std.specs.Prelude.{ℕ, List}
-use Rattle.bzlan.specs.Answer.{Meaning}
+use Rattle.std.specs.Prelude.{◌≡◌, ◌⊎◌, ℕ, List}
 use Rattle.bzlan.specs.Asked.{Asked}
 use Rattle.bzlan.specs.Input.{Spells}
-use Rattle.bzlan.specs.Reports.{Reports}
-use Rattle.bzlan.specs.Served.{Serves}
+use Rattle.forms.specs.Reports.{Reports}
+use Rattle.forms.specs.Served.{IsLater}
 use Rattle.workspace.specs.Workspaces.{Pair}
-use Rattle.bzlan.specs.declared.engine.Report.{Report}
+use Rattle.report.specs.declared.made.Report.{Report}
+use Rattle.bzlan.specs.declared.stops.ServeStop.{ServeStop}
+use Rattle.bzlan.specs.declared.stops.ServeStop.TheVariants as stop
 
 -- the input spells a workspace, and this is the report on it
 abbrev pub ReportsInput : Asked → List ℕ → Report → Type 0
@@ -15,4 +16,8 @@ ReportsInput a input r = (workspace : List Pair) × Spells input workspace × Re
 -- the input spells a workspace, and no form of a request is served that has it
 abbrev pub UnservedInput : Asked → List ℕ → Type 0
 UnservedInput a input =
-    (workspace : List Pair) × Spells input workspace × ((m : Meaning) → Serves workspace a.labels a.steps m → ⊥)
+    (workspace : List Pair) × Spells input workspace × IsLater workspace a.labels a.steps
+
+-- the refusals that come from an input and its analysis
+abbrev pub IsOfReport : ServeStop → Type 0
+IsOfReport e = (e ≡ stop.Input) ⊎ ((e ≡ stop.Later) ⊎ ((e ≡ stop.NoMemory) ⊎ (e ≡ stop.NoThread)))

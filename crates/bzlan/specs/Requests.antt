@@ -2,11 +2,11 @@
 -- (docs/REPORT.md; this project's own choice).
 use Rattle.std.specs.Prelude.{◌≡◌, ◌<◌, ◌⊎◌, ℕ, Bool, List, Option, Some, length}
 use Rattle.std.specs.Io.KnownBytes.{Appends, Consumes, IsAtEnd}
-use Rattle.bzlan.specs.Answer.{Answer, Meaning, answer_text, is_loud}
+use Rattle.report.specs.Answer.{Answer, answer_text, is_loud}
 use Rattle.bzlan.specs.Asked.{Asked, asked}
 use Rattle.bzlan.specs.Devices.{WritesBeginning}
 use Rattle.bzlan.specs.Input.{Spells, input_limit}
-use Rattle.bzlan.specs.Served.{Answers, Serves}
+use Rattle.forms.specs.Served.{Answers, IsLater}
 use Rattle.workspace.specs.Workspaces.{Pair}
 
 -- the words ask for this
@@ -41,7 +41,7 @@ pub record IsUnserved (words : List (List ℕ)) (input : List ℕ) : Type 0 wher
   pub workspace : List Pair
   pub words_part : AsksFor words asked
   pub input_part : Spells input workspace
-  pub unserved : (m : Meaning) → Serves workspace asked.labels asked.steps m → ⊥
+  pub unserved : IsLater workspace asked.labels asked.steps
 
 abbrev pub SpellsNothing : List ℕ → Type 0
 SpellsNothing input = (workspace : List Pair) → Spells input workspace → ⊥

@@ -1,19 +1,11 @@
 //! `bzlan`, the analysis phase of a Bazel build: words and a workspace in, a report and a status out.
 #![tactic(auto)]
 
-mod answer;
-mod blocks;
 mod devices;
 mod engine;
-mod first;
 mod input;
-mod laws;
-mod nodes;
-mod plan;
-mod second;
 mod serve;
 mod stops;
-mod values;
 mod words;
 
 pub use devices::{
@@ -21,7 +13,6 @@ pub use devices::{
 };
 pub use engine::analyse;
 pub use input::{InputRefused, read_workspace};
-pub use laws::{outcomes_are_by_edges, served_has_one_answer};
 pub use pool::{Gate, NoGate, NodeId};
 use serve::serve;
 use std::process::ExitCode;

@@ -2,24 +2,25 @@
 
 ghost use Rattle.std.specs.Prelude.{◌≡◌, ◌≢◌, ◌⊎◌, ◌≤◌, IfErr, IfOk, IfSome, OnOk, Err, None, map};
 ghost use Rattle.std.specs.Io.KnownBytes.{IsAtEnd};
-ghost use Rattle.bzlan.specs.Asked.{Asked, asked, asked_by};
 ghost use Rattle.bzlan.specs.Devices.{Failed};
+ghost use Rattle.bzlan.specs.Asked.{Asked, asked, asked_by};
 ghost use Rattle.bzlan.specs.Requests.{AsksFor, BeginsAnswer, IsUnserved, OfWholeInput, RefusesInput, SpellsNothing, WritesAnswer};
-ghost use Rattle.bzlan.specs.RequestReports.{ReportsInput, UnservedInput};
+ghost use Rattle.bzlan.specs.RequestReports.{IsOfReport, ReportsInput, UnservedInput};
 
 use crate::devices::{InputStop, Sink, Source, WriteFailed, read_input, write_all};
-use crate::engine::{Report, analysed};
 use crate::input::{InputRefused, read_workspace};
-use crate::stops::{AnalyseStop, ServeStop};
+use crate::stops::ServeStop;
 use crate::words::{Request, WordsStop, read_words};
+use forms::{NoReport, report_on};
 use pool::Gate;
+use report::Report;
 use std::alloc::Global;
 use std::convert::AsStr;
 use std::sync::Wait;
 use std::thread::Threads;
 
 /// The report on an input.
-fn report<R: Threads + Wait + Sync, G: Gate>(
+fn report_of<R: Threads + Wait + Sync, G: Gate>(
     rt: &R,
     alloc: Global,
     request: &Request,
@@ -29,15 +30,16 @@ fn report<R: Threads + Wait + Sync, G: Gate>(
     requires workers { (1 ≤ request.now.workers) × (request.now.workers ≤ 64) }
     ensures ok { IfOk result (ReportsInput (asked_by request.now) input.now) }
     ensures input_only { result ≡ Err ServeStop.Input → SpellsNothing input.now }
-    ensures later_only { result ≡ Err ServeStop.Later → UnservedInput (asked_by request.now) input.now }
-    ensures kinds { IfErr result (λ e. (e ≡ ServeStop.Input) ⊎ ((e ≡ ServeStop.Later) ⊎ ((e ≡ ServeStop.NoMemory) ⊎ (e ≡ ServeStop.NoThread)))) }
+    ensures later_only { result ≡ Err ServeStop.Later
+        → UnservedInput (asked_by request.now) input.now }
+    ensures kinds { IfErr result IsOfReport }
 {
     let workspace = match read_workspace(alloc, input) {
         Ok(workspace) => workspace,
         Err(InputRefused::Illegal) => return Err(ServeStop::Input),
         Err(InputRefused::NoMemory) => return Err(ServeStop::NoMemory),
     };
-    match analysed(
+    match report_on(
         rt,
         alloc,
         &workspace,
@@ -47,10 +49,9 @@ fn report<R: Threads + Wait + Sync, G: Gate>(
         gate,
     ) {
         Ok(report) => Ok(report),
-        Err(AnalyseStop::Later) => Err(ServeStop::Later),
-        Err(AnalyseStop::NoMemory) => Err(ServeStop::NoMemory),
-        Err(AnalyseStop::NoThread) => Err(ServeStop::NoThread),
-        Err(AnalyseStop::Workers | AnalyseStop::TooMany) => unreachable!(),
+        Err(NoReport::Later) => Err(ServeStop::Later),
+        Err(NoReport::NoMemory) => Err(ServeStop::NoMemory),
+        Err(NoReport::NoThread) => Err(ServeStop::NoThread),
     }
 }
 
@@ -63,8 +64,8 @@ fn report<R: Threads + Wait + Sync, G: Gate>(
 /// # Errors
 ///
 /// Found in this order: `Words` before a byte is read; `Read`; `Input`; `Later`; `Write`. The input is read to its end
-/// or to the first byte past [`INPUT_LIMIT`](crate::devices::INPUT_LIMIT). `NoMemory` and
-/// `NoThread` may stand in place of any of these that isn't found yet. After `Write` a beginning of the report was written, after any other refusal nothing.
+/// or to the first byte past [`INPUT_LIMIT`](crate::devices::INPUT_LIMIT). `NoMemory` and `NoThread` may stand in place of any of these that isn't
+/// found yet. After `Write` a beginning of the report was written, after any other refusal nothing.
 pub fn serve<R, S, K, W, G>(
     rt: &R,
     alloc: Global,
@@ -80,32 +81,41 @@ where
     W: AsStr,
     G: Gate,
     // The answer: for a reader that tells its bytes, of just these; else of some bytes that were read.
-    ensures ok { IfOk result (λ loud. IfSome (S.remaining reader.old) (λ input.
-        WritesAnswer (map W.text words.now) input (K.contents writer.old) (K.contents writer.new) loud)) }
-    ensures whole { IfOk result (λ loud. OfWholeInput (S.remaining reader.old) (S.remaining reader.new) (λ input.
-        WritesAnswer (map W.text words.now) input (K.contents writer.old) (K.contents writer.new) loud)) }
+    ensures ok { IfOk result (λ loud. IfSome (S.remaining reader.old) (λ input. WritesAnswer
+        (map W.text words.now) input (K.contents writer.old) (K.contents writer.new) loud)) }
+    ensures whole { IfOk result (λ loud.
+        OfWholeInput (S.remaining reader.old) (S.remaining reader.new) (λ input. WritesAnswer
+        (map W.text words.now) input (K.contents writer.old) (K.contents writer.new) loud)) }
 
     // Each refusal has its cause.
     ensures words_only { result ≡ Err ServeStop.Words → asked (map W.text words.now) ≡ None }
     ensures unread { result ≡ Err ServeStop.Words → reader.new ≡ reader.old }
-    ensures read_only { result ≡ Err ServeStop.Read → Failed (S.failures reader.old) (S.failures reader.new) }
-    ensures input_only { result ≡ Err ServeStop.Input → IfSome (S.remaining reader.old) SpellsNothing }
-    ensures input_refused { result ≡ Err ServeStop.Input → RefusesInput (S.remaining reader.old) (S.remaining reader.new) }
-    ensures later_only { result ≡ Err ServeStop.Later → OfWholeInput (S.remaining reader.old) (S.remaining reader.new)
+    ensures read_only { result ≡ Err ServeStop.Read
+        → Failed (S.failures reader.old) (S.failures reader.new) }
+    ensures input_only { result ≡ Err ServeStop.Input
+        → IfSome (S.remaining reader.old) SpellsNothing }
+    ensures input_refused { result ≡ Err ServeStop.Input
+        → RefusesInput (S.remaining reader.old) (S.remaining reader.new) }
+    ensures later_only { result ≡ Err ServeStop.Later
+        → OfWholeInput (S.remaining reader.old) (S.remaining reader.new)
         (IsUnserved (map W.text words.now)) }
-    ensures write_only { result ≡ Err ServeStop.Write → Failed (K.failures writer.old) (K.failures writer.new) }
+    ensures write_only { result ≡ Err ServeStop.Write
+        → Failed (K.failures writer.old) (K.failures writer.new) }
     ensures none_else { IfErr result (λ e. e ≢ ServeStop.TooMany) }
 
     // Their order: whatever comes after the words has words that ask for something, and whatever comes after the
     // reads has no failed read.
     ensures words_first { IfErr result (λ e. (e ≡ ServeStop.Words) ⊎ ((e ≡ ServeStop.NoMemory)
         ⊎ ((a : Asked) × AsksFor (map W.text words.now) a))) }
-    ensures reads_first { result ≢ Err ServeStop.Read → S.failures reader.new ≡ S.failures reader.old }
-    ensures writes_last { result ≢ Err ServeStop.Write → K.failures writer.new ≡ K.failures writer.old }
+    ensures reads_first { result ≢ Err ServeStop.Read
+        → S.failures reader.new ≡ S.failures reader.old }
+    ensures writes_last { result ≢ Err ServeStop.Write
+        → K.failures writer.new ≡ K.failures writer.old }
 
     // What was written.
-    ensures beginning { result ≡ Err ServeStop.Write → OfWholeInput (S.remaining reader.old) (S.remaining reader.new) (λ input.
-        BeginsAnswer (map W.text words.now) input (K.contents writer.old) (K.contents writer.new)) }
+    ensures beginning { result ≡ Err ServeStop.Write
+        → OfWholeInput (S.remaining reader.old) (S.remaining reader.new) (λ input. BeginsAnswer
+        (map W.text words.now) input (K.contents writer.old) (K.contents writer.new)) }
     ensures nothing { IfErr result (λ e. e ≢ ServeStop.Write → writer.new ≡ writer.old) }
 {
     let request = match read_words(alloc, words) {
@@ -119,7 +129,7 @@ where
         Err(InputStop::TooLong) => return Err(ServeStop::Input),
         Err(InputStop::NoMemory) => return Err(ServeStop::NoMemory),
     };
-    let report = match report(rt, alloc, &request, input.as_slice(), gate) {
+    let report = match report_of(rt, alloc, &request, input.as_slice(), gate) {
         Ok(report) => report,
         Err(stop) => return Err(stop),
     };

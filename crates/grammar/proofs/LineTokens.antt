@@ -2,7 +2,7 @@
 use Rattle.std.proofs.Common.{◌≡◌, ℕ, List, [], ◌∷◌, map, refl, ap}
 use Rattle.lexer.specs.declared.token.Token as found
 use Rattle.grammar.specs.Ahead.{tokens_seen}
-use Rattle.lexer.specs.Form.{line_tokens}
+use Rattle.lexer.specs.Tokens.{line_tokens}
 use Rattle.lexer.specs.Seen.{seen, token_seen}
 
 pub without_places : (text : List ℕ) (ts : List found.Token) → line_tokens (map (seen text) ts) ≡ tokens_seen text ts

@@ -1,7 +1,7 @@
 -- Where the forms of a logical line may stand.
 use Rattle.std.specs.Prelude.{Bool, true, false}
-use Rattle.lexer.specs.declared.forms.FileKind.{FileKind}
-use Rattle.lexer.specs.declared.forms.FileKind.TheVariants.{Module, Build}
+use Rattle.lexer.specs.declared.file_kind.FileKind.{FileKind}
+use Rattle.lexer.specs.declared.file_kind.FileKind.TheVariants.{Module, Build}
 use Rattle.grammar.specs.Tree.{text}
 use Rattle.grammar.specs.Statements.{Simple, evaluates, breaks, continues, returns, returns_list, Body, block, inline, Form, loads, simple, defines, if_head, elif_head, else_head, for_head}
 

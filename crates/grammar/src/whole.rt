@@ -4,9 +4,8 @@ ghost use Rattle.std.specs.Prelude.{◌≡◌, ◌<◌, length, List, slice_get,
 ghost use Rattle.std.specs.Option.{option_map};
 ghost use Rattle.grammar.specs.Ahead.{tokens_seen};
 ghost use Rattle.grammar.specs.Descent.{reads_all};
-ghost use Rattle.lexer.specs.Form.{line_tokens};
+ghost use Rattle.lexer.specs.Tokens.{line_tokens, Placed};
 ghost use Rattle.grammar.specs.LineExpression.{IsExpression};
-ghost use Rattle.lexer.specs.Tokens.{Placed};
 ghost use Rattle.grammar.specs.TreeView.{tree_of};
 
 use crate::ahead::{Ahead, Stop};

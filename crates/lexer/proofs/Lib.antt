@@ -4,8 +4,6 @@ pub mod BracketLaws
 pub mod ConsistLaws
 pub mod CutLaws
 pub mod FitsLaws
-pub mod FormLemmas
-pub mod SecondLemmas
 pub mod LaidOutLaws
 pub mod LayoutBackLaws
 pub mod LayoutLaws

@@ -15,7 +15,3 @@ pub mod Fits
 pub mod Names
 pub mod Parts
 pub mod LaidOut
-pub mod Form
-pub mod Targets
-pub mod SecondForm
-pub mod FileForms

@@ -1,5 +1,5 @@
 -- The tokens of a file, as what they mean: a name or a string is its bytes, wherever they stand.
-use Rattle.std.specs.Prelude.{ℕ, List}
+use Rattle.std.specs.Prelude.{ℕ, List, map}
 use Rattle.lexer.specs.declared.token.Word.{Word}
 use Rattle.lexer.specs.declared.token.Mark.{Mark}
 
@@ -16,3 +16,7 @@ pub record Placed : Type 0 where
   pub token : Token
   pub line : ℕ
   pub column : ℕ
+
+-- the tokens of a line, without their places
+abbrev pub line_tokens : List Placed → List Token
+line_tokens line = map (λ p. p.token) line

@@ -36,6 +36,16 @@ pub enum ParseStop {
     NoMemory,
 }
 
+/// Memory was refused.
+#[derive(Clone, Copy, PartialEq, Eq, Debug)]
+pub struct NoMemory;
+
+impl From<AllocError> for NoMemory {
+    fn from(_: AllocError) -> Self {
+        NoMemory
+    }
+}
+
 impl fmt::Display for FaultKind {
     ghost use Rattle.std.specs.Prelude.{Some};
     ghost use Rattle.lexer.specs.FaultText.{kind_text};

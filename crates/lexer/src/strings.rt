@@ -132,8 +132,8 @@ fn passed(bytes: &[u8], place: usize, escaped: bool, b: u8) -> Option<usize>
     }
 }
 
-/// Whether a body stands for these bytes.
-pub(crate) fn stands_for(body: &[u8], bytes: &[u8]) -> bool
+/// Whether the body of a string literal stands for these bytes, its escapes read.
+pub fn stands_for(body: &[u8], bytes: &[u8]) -> bool
     ensures { result ≡ bytes_eq (unescaped body.now) bytes.now }
 {
     let mut escaped = false;

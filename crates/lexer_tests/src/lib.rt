@@ -2,8 +2,4 @@
 #![tactic(auto)]
 
 #[cfg(test)]
-mod forms;
-#[cfg(test)]
-mod second_forms;
-#[cfg(test)]
 mod texts;

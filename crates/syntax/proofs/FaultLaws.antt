@@ -3,7 +3,7 @@ use Rattle.std.proofs.Common.{◌≡◌, ℕ, List, map, refl, sym, ap, ◌∙�
 use Rattle.lexer.specs.declared.fault.FaultKind.{FaultKind}
 use Rattle.lexer.specs.declared.fault.FaultKind.TheVariants as pass
 use Rattle.lexer.specs.declared.fault.SyntaxFault.{SyntaxFault}
-use Rattle.lexer.specs.declared.forms.FileKind.{FileKind}
+use Rattle.lexer.specs.declared.file_kind.FileKind.{FileKind}
 use Rattle.lexer.specs.Tokens.{Placed}
 use Rattle.lexer.specs.Lines.{fault, reading}
 use Rattle.grammar.specs.Blocks.{Block, laid}

@@ -1,7 +1,7 @@
 -- A text has the tree that is read of it, at most one, and a fault exactly where it has none.
 use Rattle.std.proofs.Common.{◌≡◌, ℕ, List, map, refl, sym, ap, ◌∙◌, Option, Some, None, Result, Ok, Err}
 use Rattle.lexer.specs.declared.fault.SyntaxFault.{SyntaxFault}
-use Rattle.lexer.specs.declared.forms.FileKind.{FileKind}
+use Rattle.lexer.specs.declared.file_kind.FileKind.{FileKind}
 use Rattle.lexer.specs.Tokens.{Placed}
 use Rattle.lexer.specs.Lines.{reading}
 use Rattle.grammar.specs.Blocks.{Block, laid}

@@ -3,7 +3,7 @@ use Rattle.std.specs.Prelude.{◌≡◌, ℕ, List, [], ◌∷◌, ◌++◌, rep
 use Rattle.lexer.specs.declared.fault.FaultKind.{FaultKind}
 use Rattle.lexer.specs.declared.fault.FaultKind.TheVariants.{Token, Indent, Statement, Scope}
 use Rattle.lexer.specs.declared.fault.SyntaxFault.{SyntaxFault}
-use Rattle.lexer.specs.declared.forms.FileKind.TheVariants.{Module, Build}
+use Rattle.lexer.specs.declared.file_kind.FileKind.TheVariants.{Module, Build}
 use Rattle.lexer.specs.Begins.{begins}
 use Rattle.lexer.specs.Scan.{tokens_of, scan}
 use Rattle.lexer.specs.Layout.{line_starts, turn}

@@ -2,7 +2,7 @@
 use Rattle.std.specs.Prelude.{◌≡◌, ℕ, List, map, Some, Err}
 use Rattle.lexer.specs.declared.fault.FaultKind.TheVariants as pass
 use Rattle.lexer.specs.declared.fault.SyntaxFault.{SyntaxFault}
-use Rattle.lexer.specs.declared.forms.FileKind.{FileKind}
+use Rattle.lexer.specs.declared.file_kind.FileKind.{FileKind}
 use Rattle.lexer.specs.Tokens.{Placed}
 use Rattle.lexer.specs.Lines.{reading}
 use Rattle.lexer.specs.LaidOut.{IsReading}

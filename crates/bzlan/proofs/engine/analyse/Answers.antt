@@ -1,8 +1,5 @@
-use Rattle.std.proofs.Common.{◌≡◌, ap, Err}
-use Rattle.bzlan.specs.declared.stops.AnalyseStop.TheVariants.{Later}
+use Rattle.std.proofs.Common.{ap, Err}
 use Rattle.bzlan.proofs.engine.analyse.Goals as goal
 
-pub returns-in-Err-clause-later : goal.returns-in-Err-clause-later
-returns-in-Err-clause-later g c e =
-    let same : c.in-Err.stop ≡ Later = cc in
-    c.in-Err.ensures.later (ap (λ s. Err s) same)
+pub returns-in-Err-Later-clause-later : goal.returns-in-Err-Later-clause-later
+returns-in-Err-Later-clause-later g c e = c.in-Err-Later.ensures.later (ap (λ s. Err s) c.in-Err-Later.field-0-is)

@@ -24,17 +24,17 @@ returns-in-Err-clause-input_refused g c e = record {
 pub returns-in-Ok-write_all-clause-ok : goal.returns-in-Ok-write_all-clause-ok
 returns-in-Ok-write_all-clause-ok g c =
     Consumes-whole _ _ c.in-Ok-read_input.input.items
-    (λ (input : List ℕ). WritesAnswer (map g.W.AsStr.text c.args.words.now) input (g.K.Sink.contents c.args.writer.now) (g.K.Sink.contents c.write_all.new.sink) c.in-Ok-report.report.loud)
+    (λ (input : List ℕ). WritesAnswer (map g.W.AsStr.text c.args.words.now) input (g.K.Sink.contents c.args.writer.now) (g.K.Sink.contents c.write_all.new.sink) c.in-Ok-report_of.report.loud)
     c.in-Ok-read_input.ensures.whole c.in-Ok-read_input.ensures.end
     (record {
-      answer = c.in-Ok-report.ensures.ok.2.answer;
+      answer = c.in-Ok-report_of.ensures.ok.2.answer;
       answered = record {
         asked = asked_by c.in-Ok.request;
-        workspace = c.in-Ok-report.ensures.ok.0;
+        workspace = c.in-Ok-report_of.ensures.ok.0;
         words_part = c.in-Ok.ensures.ok;
-        input_part = rw c.as_slice.ensures.value at c.in-Ok-report.ensures.ok.1;
-        answers = c.in-Ok-report.ensures.ok.2.answers;
+        input_part = rw c.as_slice.ensures.value at c.in-Ok-report_of.ensures.ok.1;
+        answers = c.in-Ok-report_of.ensures.ok.2.answers;
       };
-      written = rw (c.as_slice-2.ensures.value, c.in-Ok-report.ensures.ok.2.told) at c.in-Ok-write_all.ensures.ok;
-      is_loud = c.in-Ok-report.ensures.ok.2.loud;
+      written = rw (c.as_slice-2.ensures.value, c.in-Ok-report_of.ensures.ok.2.told) at c.in-Ok-write_all.ensures.ok;
+      is_loud = c.in-Ok-report_of.ensures.ok.2.loud;
     })

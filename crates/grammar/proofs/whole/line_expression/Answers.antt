@@ -2,7 +2,7 @@ use Rattle.std.proofs.Common.{sym, ap, ◌∙◌, subst}
 use Rattle.std.proofs.lemmas.Result.{IfOk-weaker}
 use Rattle.std.specs.Option.{option_map}
 use Rattle.grammar.specs.Ahead.{tokens_seen}
-use Rattle.lexer.specs.Form.{line_tokens}
+use Rattle.lexer.specs.Tokens.{line_tokens}
 use Rattle.grammar.specs.LineExpression.{IsExpression}
 use Rattle.grammar.specs.TreeView.{tree_of}
 use Rattle.grammar.proofs.LineTokens.{without_places}

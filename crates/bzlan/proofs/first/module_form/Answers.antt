@@ -1,6 +1,0 @@
-use Rattle.std.proofs.Common.{refl}
-use Rattle.lexer.specs.declared.forms.FileForm.TheVariants as found
-use Rattle.bzlan.proofs.first.module_form.Goals as goal
-
-pub returns-clause-none : goal.returns-clause-none
-returns-clause-none c _ f has = (rw c.in-None.is at c.in_ok-rules.ensures.none) refl (found.Module f) has

@@ -1,0 +1,12 @@
+pub mod ReportLemmas
+pub mod FirstLemmas
+pub mod AnswerLemmas
+pub mod AnswerLaws
+pub mod SecondLaws
+pub mod SecondLemmas
+pub mod OrderLemmas
+pub mod SecondAnswers
+pub mod NodeLemmas
+pub mod PlanLemmas
+pub mod BlockLemmas
+pub mod OneLemmas

@@ -1,0 +1,13 @@
+pub mod Instances
+pub mod FirstForm
+pub mod SecondForm
+pub mod NodeValues
+pub mod NodePlan
+pub mod Served
+pub mod Reports
+pub mod Seen
+pub mod FirstAnswer
+pub mod SecondAnswer
+pub mod NodeBlocks
+pub mod ServedForms
+pub mod OneTarget

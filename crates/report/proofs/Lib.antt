@@ -1,0 +1,3 @@
+pub mod TruthLemmas
+pub mod AnswerLaws
+mod ReportRows

@@ -1,0 +1,2 @@
+pub mod FirstTextLemmas
+pub mod SecondTextLemmas

@@ -1,0 +1,4 @@
+pub mod Targets
+pub mod FirstText
+pub mod SecondText
+pub mod FileForms
