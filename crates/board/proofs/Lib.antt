@@ -5,6 +5,7 @@ pub mod LawSteps
 pub mod RuleSteps
 pub mod FirstState
 pub mod Differences
+pub mod FlagLists
 pub mod NoteLists
 pub mod Backed
 pub mod SharedNotes

@@ -1,5 +1,5 @@
 -- Lists of notes.
-use Rattle.std.proofs.Common.{◌-◌, ◌≤◌, true≢false, get_or-set_other, ◌≢◌, ◌≡◌, ℕ, zero, suc, ◌+◌, ◌<◌, Bool, true, List, [], ◌∷◌, length, map, set, get_or, sym, refl, ap, ◌∙◌, subst, arith}
+use Rattle.std.proofs.Common.{◌-◌, ◌/◌, ◌%◌, ◌≤◌, inl, false, true≢false, get_or-set_other, ◌≢◌, ◌≡◌, ℕ, zero, suc, ◌+◌, ◌*◌, ◌<◌, true, List, [], ◌∷◌, length, map, set, get_or, sym, refl, ap, ◌∙◌, subst, arith}
 use Rattle.std.specs.Prelude.{Option, None, Some}
 use Rattle.std.proofs.lemmas.List.{map-set, length-map, set-get_or}
 use Rattle.std.proofs.lemmas.Grind.{get_or-set_at}
@@ -7,19 +7,17 @@ use mathlib.Core.Logic.{dite}
 use native.Mathlib.Decide.{ℕ_discrete}
 use Rattle.once_cell.specs.Once.{Agrees}
 use Rattle.once_cell.specs.declared.race.note.Note.{Note}
-use Rattle.board.specs.Views.{Keeps, is_known, MemoryView, known_at, learned, cells_of, knowns_of, Same, Agree, AgreeBelow}
+use Rattle.board.specs.Flags.{is_up, Tracks}
+use Rattle.board.proofs.FlagLists.{tracks_more}
+use Rattle.board.specs.Views.{Union, Keeps, is_known, MemoryView, known_at, learned, cells_of, knowns_of, Same, Agree, AgreeBelow}
 
 same_mem : {V : Type 0} {a b : List ℕ} {k l : List (Option V)} → a ≡ b → k ≡ l → (let x : MemoryView V = record { cells = a; known = k } in let y : MemoryView V = record { cells = b; known = l } in x ≡ y)
 same_mem e f = λ i. record { cells = e i; known = f i }
 
 module _ {V : Type 0} where
-  abbrev pub flags_of : List (Note V) → List Bool
-  flags_of ns = map (λ n. is_known n.known) ns
-
-  pub flag_at : (ns : List (Note V)) (n : ℕ) (b : Bool) → n < length ns → b ≡ get_or (flags_of ns) n b → b ≡ is_known (get_or (knowns_of ns) n None)
-  flag_at [] n b lt e = absurd (omega arith)
-  flag_at (x ∷ xs) zero b lt e = e
-  flag_at (x ∷ xs) (suc n) b lt e = flag_at xs n b (omega arith) e
+  pub some_is : (o : Option V) → is_known o ≡ true → (v : V) × (o ≡ Some v)
+  some_is None e = absurd (true≢false (sym e))
+  some_is (Some v) e = (v, refl)
 
   pub known_is : (ns : List (Note V)) (n : ℕ) (old : Note V) → n < length ns → old ≡ get_or ns n old → get_or (knowns_of ns) n None ≡ old.known
   known_is [] n old lt e = absurd (omega arith)
@@ -42,16 +40,8 @@ module _ {V : Type 0} where
   knowns_stay (x ∷ xs) zero new lt e = λ i. sym e i ∷ knowns_of xs
   knowns_stay (x ∷ xs) (suc n) new lt e = λ i. x.known ∷ knowns_stay xs n new (omega arith) e i
 
-  pub flags_stay : (ns : List (Note V)) (n : ℕ) (new : Note V) → n < length ns → get_or (knowns_of ns) n None ≡ new.known → flags_of (set ns n new) ≡ flags_of ns
-  flags_stay [] n new lt e = absurd (omega arith)
-  flags_stay (x ∷ xs) zero new lt e = λ i. is_known (sym e i) ∷ flags_of xs
-  flags_stay (x ∷ xs) (suc n) new lt e = λ i. is_known x.known ∷ flags_stay xs n new (omega arith) e i
-
   pub knowns_set : (ns : List (Note V)) (n : ℕ) (new : Note V) (v : V) → new.known ≡ Some v → knowns_of (set ns n new) ≡ set (knowns_of ns) n (Some v)
   knowns_set ns n new v e = map-set (λ (y : Note V). y.known) ns n new ∙ ap (set (knowns_of ns) n) e
-
-  pub flags_set : (ns : List (Note V)) (n : ℕ) (new : Note V) (v : V) → new.known ≡ Some v → flags_of (set ns n new) ≡ set (flags_of ns) n true
-  flags_set ns n new v e = map-set (λ (y : Note V). is_known y.known) ns n new ∙ ap (λ o. set (flags_of ns) n (is_known o)) e
 
   abbrev pub mem : List (Note V) → MemoryView V
   mem ns = record { cells = cells_of ns; known = knowns_of ns }
@@ -59,34 +49,38 @@ module _ {V : Type 0} where
   inside : (ns : List (Note V)) (m : MemoryView V) (n : ℕ) → mem ns ≡ m → n < length m.known → n < length ns
   inside ns m n e lt = let a : length m.known ≡ length (knowns_of ns) = ap (λ (z : MemoryView V). length z.known) (sym e) in let b : length (knowns_of ns) ≡ length ns = simp length-map in omega arith
 
-  pub has_ : (ns : List (Note V)) (flags : List Bool) (m : MemoryView V) (n : ℕ) (b : Bool) → mem ns ≡ m → flags ≡ flags_of ns → n < length m.known → b ≡ get_or flags n b → b ≡ is_known (known_at m n)
-  has_ ns flags m n b e f lt g =
-      flag_at ns n b (inside ns m n e lt) (g ∙ ap (λ l. get_or l n b) f) ∙ ap (λ (z : MemoryView V). is_known (known_at z n)) e
+  -- the flags of these notes
+  pub tracked : (ns : List (Note V)) (flags : List ℕ) (m : MemoryView V) → mem ns ≡ m → Tracks flags (knowns_of ns) → Tracks flags m.known
+  tracked ns flags m e f = subst (Tracks flags) (ap (λ (z : MemoryView V). z.known) e) f
 
-  pub got_none : (ns : List (Note V)) (flags : List Bool) (m : MemoryView V) (n : ℕ) (old new : Note V) → mem ns ≡ m → flags ≡ flags_of ns → n < length m.known → old ≡ get_or ns n old → new.cell ≡ old.cell
-      → old.known ≡ None → new.known ≡ None → (flags ≡ flags_of (set ns n new)) × (known_at m n ≡ None) × (mem (set ns n new) ≡ m)
+  pub has_room : (ns : List (Note V)) (flags : List ℕ) (m : MemoryView V) (n : ℕ) → mem ns ≡ m → Tracks flags (knowns_of ns) → n < length m.known → n < 64 * length flags
+  has_room ns flags m n e f lt = let r = (tracked ns flags m e f).room in omega arith
+
+  pub got_none : (ns : List (Note V)) (flags : List ℕ) (m : MemoryView V) (n : ℕ) (old new : Note V) → mem ns ≡ m → Tracks flags (knowns_of ns) → n < length m.known → old ≡ get_or ns n old → new.cell ≡ old.cell
+      → old.known ≡ None → new.known ≡ None → Tracks flags (knowns_of (set ns n new)) × (known_at m n ≡ None) × (mem (set ns n new) ≡ m)
   got_none ns flags m n old new e f lt at cell was is =
       let i = inside ns m n e lt in let k : get_or (knowns_of ns) n None ≡ new.known = known_is ns n old i at ∙ was ∙ sym is in (
-        f ∙ sym (flags_stay ns n new i k),
+        subst (Tracks flags) (sym (knowns_stay ns n new i k)) f,
         ap (λ (z : MemoryView V). known_at z n) (sym e) ∙ known_is ns n old i at ∙ was,
         same_mem (cells_stay ns n new i (cell_is ns n old i at ∙ sym cell)) (knowns_stay ns n new i k) ∙ e,
       )
 
-  pub learns : (ns : List (Note V)) (flags : List Bool) (m : MemoryView V) (n : ℕ) (new : Note V) (v : V) → mem ns ≡ m → flags ≡ flags_of ns → n < length m.known → get_or m.cells n 0 ≡ new.cell → new.known ≡ Some v
-      → (set flags n true ≡ flags_of (set ns n new)) × (mem (set ns n new) ≡ learned m n v)
-  learns ns flags m n new v e f lt cell is = let i = inside ns m n e lt in (
-    ap (λ l. set l n true) f ∙ sym (flags_set ns n new v is),
-    same_mem (cells_stay ns n new i (ap (λ (z : MemoryView V). get_or z.cells n 0) e ∙ cell)) (knowns_set ns n new v is) ∙ ap (λ (z : MemoryView V). learned z n v) e,
-  )
+  pub learns : (ns : List (Note V)) (m : MemoryView V) (n : ℕ) (new : Note V) (v : V) → mem ns ≡ m → n < length m.known → get_or m.cells n 0 ≡ new.cell → new.known ≡ Some v → mem (set ns n new) ≡ learned m n v
+  learns ns m n new v e lt cell is = let i = inside ns m n e lt in
+      same_mem (cells_stay ns n new i (ap (λ (z : MemoryView V). get_or z.cells n 0) e ∙ cell)) (knowns_set ns n new v is) ∙ ap (λ (z : MemoryView V). learned z n v) e
 
-  pub got_some : (ns : List (Note V)) (flags : List Bool) (m : MemoryView V) (n : ℕ) (old new : Note V) (v : V) → mem ns ≡ m → flags ≡ flags_of ns → n < length m.known → old ≡ get_or ns n old → new.cell ≡ old.cell
-      → new.known ≡ Some v → Agrees old.known v → (set flags n true ≡ flags_of (set ns n new)) × Agrees (known_at m n) v × (mem (set ns n new) ≡ learned m n v)
-  got_some ns flags m n old new v e f lt at cell is agrees = let i = inside ns m n e lt in
-      let l = learns ns flags m n new v e f lt (ap (λ (z : MemoryView V). get_or z.cells n 0) (sym e) ∙ cell_is ns n old i at ∙ sym cell) is in
-      (l.0, subst (λ o. Agrees o v) (sym (ap (λ (z : MemoryView V). known_at z n) (sym e) ∙ known_is ns n old i at)) agrees, l.1)
+  pub got_some : (ns : List (Note V)) (m : MemoryView V) (n : ℕ) (old new : Note V) (v : V) → mem ns ≡ m → n < length m.known → old ≡ get_or ns n old → new.cell ≡ old.cell
+      → new.known ≡ Some v → Agrees old.known v → Agrees (known_at m n) v × (mem (set ns n new) ≡ learned m n v)
+  got_some ns m n old new v e lt at cell is agrees = let i = inside ns m n e lt in
+      let l = learns ns m n new v e lt (ap (λ (z : MemoryView V). get_or z.cells n 0) (sym e) ∙ cell_is ns n old i at ∙ sym cell) is in
+      (subst (λ o. Agrees o v) (sym (ap (λ (z : MemoryView V). known_at z n) (sym e) ∙ known_is ns n old i at)) agrees, l)
 
-  pub flagged : (ns : List (Note V)) (flags : List Bool) (n : ℕ) (new : Note V) → flags ≡ flags_of ns → is_known new.known ≡ true → set flags n true ≡ flags_of (set ns n new)
-  flagged ns flags n new f is = ap (λ l. set l n true) f ∙ ap (set (flags_of ns) n) (sym is) ∙ sym (map-set (λ (y : Note V). is_known y.known) ns n new)
+  -- a note that knows is put at n, and the flag of n is raised
+  pub flagged : (ns : List (Note V)) (flags flags' : List ℕ) (n : ℕ) (new : Note V) (m : MemoryView V) → mem ns ≡ m → Tracks flags (knowns_of ns) → n < length m.known → is_known new.known ≡ true → length flags' ≡ length flags → is_up flags' n ≡ true
+      → ((k : ℕ) → k ≢ n → is_up flags' k ≡ is_up flags k) → Tracks flags' (knowns_of (set ns n new))
+  flagged ns flags flags' n new m e f lt is size up others =
+      let s = some_is new.known is in
+      subst (Tracks flags') (sym (knowns_set ns n new s.0 s.1)) (tracks_more flags flags' (knowns_of ns) n s.0 f (subst (λ (z : MemoryView V). n < length z.known) (sym e) lt) size up others)
 
   pub set_back : (l : List (Note V)) (i : ℕ) (a b : Note V) → a ≡ get_or l i a → b ≡ a → set l i b ≡ l
   set_back l i a b at e = ap (set l i) (e ∙ at) ∙ set-get_or l i a
@@ -123,10 +117,6 @@ module _ {V : Type 0} where
       (λ same. ap (known_at m') same ∙ ap (λ z. known_at z n) e ∙ learned_now m n v lt ∙ ap Some (agreed (known_at m n) v w a (ap (known_at m) (sym same) ∙ is)))
       (λ ne. learned_else m m' n k v e ne ∙ is)
 
-  pub some_is : (o : Option V) → is_known o ≡ true → (v : V) × (o ≡ Some v)
-  some_is None e = absurd (true≢false (sym e))
-  some_is (Some v) e = (v, refl)
-
   past_end : (l : List (Option V)) (n : ℕ) → length l ≤ n → get_or l n None ≡ None
   past_end [] n le = refl
   past_end (x ∷ xs) zero le = absurd (omega arith)
@@ -143,3 +133,30 @@ module _ {V : Type 0} where
     where
       none_some : (x : V) → (let o : Option V = None in o ≡ Some x) → ⊥
       none_some x q = true≢false (sym (ap is_known q))
+
+  -- a node whose flag is down is not known
+  pub not_up : (ns : List (Note V)) (flags : List ℕ) (m : MemoryView V) (k : ℕ) → mem ns ≡ m → Tracks flags (knowns_of ns) → is_up flags k ≡ false → is_known (known_at m k) ≡ false
+  not_up ns flags m k e f down = let t = tracked ns flags m e f in dite (ℕ_discrete (length m.known - k) 0)
+      (λ z. ap is_known (past_end m.known k (omega arith)))
+      (λ nz. sym (t.same k (omega arith)) ∙ down)
+
+  union_none : (a b : Option V) → is_known b ≡ false → Union a b a
+  union_none None None e = (tt, tt, λ k. inl k)
+  union_none (Some x) None e = (refl, tt, λ k. inl k)
+  union_none a (Some y) e = absurd (true≢false e)
+
+  -- the 64 nodes from n on, of which the other knows none, are merged by passing over them
+  pub skipped : (start other now : MemoryView V) (n n' : ℕ) → n % 64 ≡ 0 → n' ≤ n + 64 → ((k : ℕ) → k / 64 ≡ n / 64 → is_known (known_at other k) ≡ false)
+      → ((k : ℕ) → k < n → Union (known_at start k) (known_at other k) (known_at now k)) → ((k : ℕ) → n ≤ k → known_at now k ≡ known_at start k)
+      → (k : ℕ) → k < n' → Union (known_at start k) (known_at other k) (known_at now k)
+  skipped start other now n n' even le none below above k lt = dite (ℕ_discrete (n - k) 0)
+      (λ z. subst (Union (known_at start k) (known_at other k)) (sym (above k (omega arith))) (union_none (known_at start k) (known_at other k) (none k (omega arith))))
+      (λ nz. below k (omega arith))
+
+  -- node n is merged, after those before it
+  pub merged_one : (start other was now : MemoryView V) (n : ℕ) → Union (known_at was n) (known_at other n) (known_at now n) → ((k : ℕ) → k ≢ n → known_at now k ≡ known_at was k)
+      → ((k : ℕ) → k < n → Union (known_at start k) (known_at other k) (known_at was k)) → ((k : ℕ) → n ≤ k → known_at was k ≡ known_at start k)
+      → (k : ℕ) → k < n + 1 → Union (known_at start k) (known_at other k) (known_at now k)
+  merged_one start other was now n here others below above k lt = dite (ℕ_discrete k n)
+      (λ e. subst (λ (i : ℕ). Union (known_at start i) (known_at other i) (known_at now i)) (sym e) (subst (λ o. Union o (known_at other n) (known_at now n)) (above n (omega arith)) here))
+      (λ ne. subst (Union (known_at start k) (known_at other k)) (sym (others k ne)) (below k (omega arith)))

@@ -5,3 +5,4 @@ pub mod Steps
 pub mod Seats
 pub mod Answers
 pub mod Views
+pub mod Flags

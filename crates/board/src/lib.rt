@@ -15,6 +15,7 @@ mod board;
 mod closed;
 mod closing;
 mod copying;
+mod flags;
 mod journal;
 mod key;
 mod laws;

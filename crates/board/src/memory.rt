@@ -9,6 +9,7 @@ ghost use Rattle.board.specs.Views.{known_at, learned, is_known, cells_of, known
 ghost use Rattle.board.specs.Views.{Union, Same, Keeps, Agree, AgreeBelow, SameCells};
 
 use crate::copying::copy_note;
+use crate::flags::Flags;
 use once_cell::race::{Note, OnceBox};
 use std::alloc::{AllocError, Global};
 use std::marker::Model;
@@ -17,12 +18,12 @@ use std::marker::Model;
 #[derive(Drop)]
 pub struct Memory<V> {
     notes: Vec<Note<V>>,
-    flags: Vec<bool>,
+    flags: Flags,
 }
 
 impl<V> Model for Memory<V> {
-    ghost use Rattle.std.specs.Prelude.{◌≡◌, map};
-    ghost use Rattle.board.specs.Views.{MemoryView, cells_of, knowns_of, is_known};
+    ghost use Rattle.board.specs.Flags.{Tracks};
+    ghost use Rattle.board.specs.Views.{MemoryView, cells_of, knowns_of};
 
     ghost Value = { MemoryView V };
 
@@ -31,7 +32,7 @@ impl<V> Model for Memory<V> {
       known = knowns_of m.notes.items;
     } };
 
-    ghost invariant = { λ m. m.flags.items ≡ map (λ n. is_known n.known) m.notes.items };
+    ghost invariant = { λ m. Tracks m.flags (knowns_of m.notes.items) };
 }
 
 impl<V> Memory<V> {
@@ -40,7 +41,7 @@ impl<V> Memory<V> {
         requires { n < length self.now.known }
         ensures { result ≡ is_known (known_at self.now n) }
     {
-        self.flags[n]
+        self.flags.is_up(n)
     }
 
     /// The value in node `n`'s cell, which is known from then on. A known value is always there.
@@ -57,7 +58,7 @@ impl<V> Memory<V> {
         match cell.get_as(&mut self.notes[n]) {
             None => None,
             Some(value) => {
-                self.flags[n] = true;
+                self.flags.raise(n);
                 Some(value)
             }
         }
@@ -72,7 +73,7 @@ impl<V> Memory<V> {
         ensures others { (k : ℕ) → k ≢ n → known_at self.new k ≡ known_at self.old k }
     {
         self.notes[n] = note;
-        self.flags[n] = true;
+        self.flags.raise(n);
     }
 }
 
@@ -141,8 +142,15 @@ impl<V> Memory<V> {
         ensures known { (n : ℕ)
             → Union (known_at self.old n) (known_at other.now n) (known_at self.new n) }
     {
-        for n in 0..self.flags.len() {
-            self.add(other, n);
+        let nodes = self.notes.len();
+        let mut n = 0;
+        while n < nodes {
+            if n % 64 == 0 && other.flags.is_blank(n / 64) {
+                n = n.saturating_add(64).min(nodes);
+            } else {
+                self.add(other, n);
+                n += 1;
+            }
         }
     }
 
@@ -162,10 +170,9 @@ pub fn fresh<V>(alloc: Global, cells: &[OnceBox<V>]) -> Result<Memory<V>, AllocE
         × (m.known ≡ map (λ _. None) cells.now)) }
 {
     let mut notes = Vec::new(alloc);
-    let mut flags = Vec::new(alloc);
     for cell in cells {
         notes.push(cell.note())?;
-        flags.push(false)?;
     }
+    let flags = Flags::new(alloc, cells.len())?;
     Ok(Memory { notes, flags })
 }
