@@ -1,18 +1,18 @@
 -- The code of a statement ends as it means.
 use Rattle.std.proofs.Common.{◌≡◌, ℕ, suc, ◌+◌, List, [], ◌∷◌, ◌++◌, length, Option, Some, None, refl, ap, ◌∙◌, arith}
 use Rattle.code.specs.Instructions as instr
-use Rattle.syntax.specs.Resolved.{Term, Statement, load, assign, assign_item, add_to, add_to_item, evaluate, pass, break_loop, continue_loop, give_back, branch, loop, define, Steps, no_steps, step}
+use Rattle.syntax.specs.Resolved.{Term, Statement, load, assign, assign_item, add_to, add_to_item, evaluate, pass, break_loop, continue_loop, give_back, branch, loop, define, Branches, no_branches, a_branch, Steps, no_steps, step}
 use Rattle.code.specs.Names.{Binding, slot, global, builtin, Loaded}
 use Rattle.code.specs.Operations.{FunctionId}
 use Rattle.code.specs.Outcome.{Slots, Outcome, done, ◌>>=◌, act, put, Here}
 use Rattle.code.specs.Functions.{defines, Files, function_name}
 use Rattle.code.specs.Expressions.{Invoke, set, read, assigned, eval, evals}
-use Rattle.code.specs.Statements.{End, after_step, loop_turns, set_import, imports, given_back, exec, block}
+use Rattle.code.specs.Statements.{Doing, End, after_step, loop_turns, set_import, imports, given_back, exec, branches, block}
 use Rattle.code.specs.Instructions.{Instruction, Codes, code_name}
 use Rattle.code.specs.Machine.{Walk, Next, doing, returning, outer, all_ended}
 use Rattle.code.specs.Performing.{performs}
 use Rattle.code.specs.ExpressionCode.{Lines, turn_code, count, set_code, expr_code, exprs_code}
-use Rattle.code.specs.StatementCode.{import_code, imports_code, back_code, stmt_code, block_code}
+use Rattle.code.specs.StatementCode.{import_code, imports_code, back_code, stmt_code, branches_code, block_code}
 use Rattle.code.proofs.Leads.{Gives, stays, same, stepped, gives_then, gives_all, gives_as}
 use Rattle.code.proofs.OneStep.{Site, config, onto, taken, Calls, here_at, frame, now, At, cut, one, op, arrived, read_runs, set_runs, assign_runs}
 use Rattle.code.proofs.Forms.{either_runs, length_of}
@@ -129,11 +129,9 @@ module _ {S V K : Type 0} (site : Site S V K) (invoke : Invoke S V K) (calls : C
     stmt_runs continue_loop at k pc pc' l ws s h = record { by = to_next site at pc l ws s h.0 }
     stmt_runs (give_back o) at k pc pc' l ws s h =
         gives_then (given_back site.ops invoke o (here at) l s) (back_runs at o pc pc' l ws s h) (λ v l s. record { by = stays })
-    stmt_runs (branch e a b) at k pc pc' l ws s h =
-        let p = split pc pc' (expr_code at e) _ h in
-        gives_then (eval site.ops invoke e (here at) l s) (value_runs at e pc p.0 l [] ws s p.1) (λ x l s.
-        either_runs site at (λ pc. done_at pc ws) [] [] ws (skips_ending site at ws) (block_code k a) (block_code k b) (block site.ops invoke files a k (here at)) (block site.ops invoke files b k (here at))
-        (λ pc pc' l s h. block_runs a at k pc pc' l ws s h) (λ pc pc' l s h. block_runs b at k pc pc' l ws s h) x p.0 pc' l s p.2)
+    stmt_runs (branch bs other) at k pc pc' l ws s h =
+        branches_run bs (block_code k other) (block site.ops invoke files other k (here at)) at k ws
+        (λ pc pc' l s h. block_runs other at k pc pc' l ws s h) pc pc' l s h
     stmt_runs (loop bs e a) at k pc pc' l ws s h =
         let body = turn_code at bs ++ block_code k a in
         let n = length body + 1 in
@@ -153,6 +151,18 @@ module _ {S V K : Type 0} (site : Site S V K) (invoke : Invoke S V K) (calls : C
         gives_all _ (evals site.ops invoke ds (here at) [] l s) (items_counted site.ops invoke (here at) ds l s) (exprs_run site invoke calls at ds [] pc p.0 l [] [] ws s p.1) (λ vs l s d.
         gives_then (act (here at) (site.ops.define (record { file = site.fn.file; number = k }) (function_name files (record { file = site.fn.file; number = k })) vs) l s) (acts at (instr.define k (count ds)) p.0 (suc p.0) l (onto vs []) ws s (λ v. v ∷ []) (act (here at) (site.ops.define (record { file = site.fn.file; number = k }) (function_name files (record { file = site.fn.file; number = k })) vs) l s) (p.2.0, refl) (taken vs [] (count ds) _ d ∙ ap (λ x. doing (act (here at) (site.ops.define (record { file = site.fn.file; number = k }) x vs) l s) (λ v l s. at_now (suc p.0) l (v ∷ []) ws s)) (names (record { file = site.fn.file; number = k })))) (λ v l s.
         gives_then (set site.ops (here at) x v l s) (sets at x v (suc p.0) pc' l ws s p.2.1) (λ _ l s. record { by = stays })))
+
+    branches_run : (bs : Branches) (c : Lines) (other : Doing S V K) (at k : ℕ) (ws : List (Walk V)) →
+        ((pc pc' : ℕ) (l : Slots V) (s : S) → Stood pc c pc' → Goes (at_now pc l [] ws s) (other l s) (done_at pc' ws)) →
+        (pc pc' : ℕ) (l : Slots V) (s : S) → Stood pc (branches_code k bs c) pc' →
+        Goes (at_now pc l [] ws s) (branches site.ops invoke files bs other k (here at) l s) (done_at pc' ws)
+    branches_run no_branches c other at k ws run pc pc' l s h = run pc pc' l s h
+    branches_run (a_branch n e a bs) c other at k ws run pc pc' l s h =
+        let p = split pc pc' (expr_code n e) _ h in
+        gives_then (eval site.ops invoke e (here n) l s) (value_runs n e pc p.0 l [] ws s p.1) (λ x l s.
+        either_runs site n (λ pc. done_at pc ws) [] [] ws (skips_ending site n ws) (block_code k a) (branches_code k bs c)
+        (block site.ops invoke files a k (here at)) (branches site.ops invoke files bs other k (here at))
+        (λ pc pc' l s h. block_runs a at k pc pc' l ws s h) (branches_run bs c other at k ws run) x p.0 pc' l s p.2)
 
     pub block_runs : (b : Steps) (at k pc pc' : ℕ) (l : Slots V) (ws : List (Walk V)) (s : S) →
         Stood pc (block_code k b) pc' →

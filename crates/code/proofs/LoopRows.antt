@@ -3,7 +3,7 @@ use Rattle.std.proofs.Common.{◌≡◌, ℕ, List, [], ◌∷◌, ◌++◌, Som
 use Rattle.std.specs.Prelude.{Ok, codes}
 use Rattle.grammar.specs.Tree.{equal, not_equal}
 use Rattle.syntax.specs.Resolved as tree
-use Rattle.syntax.specs.Resolved.{Term, numeral, operates, each, only_if, Steps, no_steps, step, Statement, add_to, evaluate, pass, break_loop, give_back, branch, loop, Program}
+use Rattle.syntax.specs.Resolved.{Term, numeral, operates, each, only_if, Steps, no_steps, step, Statement, add_to, evaluate, pass, break_loop, give_back, branch, loop, no_branches, a_branch, Program}
 use Rattle.code.specs.Names.{slot}
 use Rattle.code.specs.Operations.{arity}
 use Rattle.code.specs.Outcome.{Final, put, slot_value}
@@ -23,8 +23,9 @@ small_numbers = number 1 ∷ number 2 ∷ number 3 ∷ []
 abbrev is : ℕ → ℕ → Term
 is n k = operates equal (local n) (numeral k)
 
-abbrev when : Term → Steps → Statement
-when e body = branch e body no_steps
+-- if E: and statements, at a line
+abbrev when : ℕ → Term → Steps → Statement
+when n e body = branch (a_branch n e body no_branches) no_steps
 
 -- a function without parameters, and x = f()
 abbrev calling : ℕ → Steps → ℕ → Program
@@ -98,7 +99,7 @@ abbrev returning : Program
 returning = file (codes "f" ∷ codes "g" ∷ codes "z" ∷ []) (
     step 1 (def 0 (codes "l" ∷ []) 2 (
     step 2 (loop (slot 1 ∷ []) (local 0) (lines 3 (
-    when (is 1 2) (lines 4 (give_back (Some (len_of (local 0))) ∷ [])) ∷ []))) (
+    when 3 (is 1 2) (lines 4 (give_back (Some (len_of (local 0))) ∷ [])) ∷ []))) (
     lines 5 (give_back (Some (numeral 0)) ∷ [])))) (
     step 6 (def 1 [] 1 (lines 7 (
     sets 0 (list numbers) ∷ evaluate (append (local 0) (calls 0 (local 0 ∷ []))) ∷ give_back (Some (local 0)) ∷ []))) (
@@ -132,8 +133,8 @@ abbrev nested : Program
 nested = file (codes "f" ∷ codes "w" ∷ []) (
     step 1 (def 0 (codes "l" ∷ []) 3 (
     step 2 (loop (slot 1 ∷ []) (local 0) (
-    step 3 (loop (slot 2 ∷ []) (local 0) (lines 4 (when (is 2 2) (lines 5 (break_loop ∷ [])) ∷ []))) (
-    lines 6 (when (is 1 2) (lines 7 (
+    step 3 (loop (slot 2 ∷ []) (local 0) (lines 4 (when 4 (is 2 2) (lines 5 (break_loop ∷ [])) ∷ []))) (
+    lines 6 (when 6 (is 1 2) (lines 7 (
     give_back (Some (each (local 3) (each_in 3 (local 0) (only_if (operates not_equal (local 3) (local 1)) tree.done)))) ∷ [])) ∷ [])))) (
     lines 8 (give_back (Some (local 0)) ∷ [])))) (
     lines 9 (sets_global 1 (calls 0 (list numbers ∷ [])) ∷ [])))
@@ -160,7 +161,7 @@ nested_ticks = (refl, refl)
 --         pass
 abbrev conditions : Program
 conditions = calling 0 (lines 2 (
-    branch (numeral 0) (lines 3 (pass ∷ [])) (step 4 (branch fails (lines 5 (pass ∷ [])) no_steps) no_steps) ∷ [])) 6
+    branch (a_branch 2 (numeral 0) (lines 3 (pass ∷ [])) (a_branch 4 fails (lines 5 (pass ∷ [])) no_branches)) no_steps ∷ [])) 6
 
 -- def f():
 --     for x, y in [[1, 2], [3]]:

@@ -1,7 +1,7 @@
 -- The functions of files, and the lines of their `def`s.
 use Rattle.std.specs.Prelude.{ℕ, ◌+◌, nat_eq, if◌then◌else◌, List, [], ◌∷◌, map, Option, Some, None, slice_get, unwrap_or}
 use Rattle.syntax.specs.Names.{Name, or_else}
-use Rattle.syntax.specs.Resolved.{Statement, branch, loop, define, Steps, no_steps, step, Program}
+use Rattle.syntax.specs.Resolved.{Statement, branch, loop, define, Branches, no_branches, a_branch, Steps, no_steps, step, Program}
 use Rattle.code.specs.Names.{Binding, slot, global, builtin}
 use Rattle.code.specs.Operations.{FunctionId}
 use Rattle.code.specs.Entry.{in_file}
@@ -65,10 +65,14 @@ function_name files f = its_name (function_at files f)
 -- the line of the `def` of function number m, in statements of which the first function has number k
 abbrev mutual
   pub statement_line : ℕ → ℕ → ℕ → Statement → Option ℕ
-  statement_line m k n (branch e a b) = or_else (steps_line m k a) (steps_line m k b)
+  statement_line m k n (branch bs other) = branches_line m k bs (steps_line m k other)
   statement_line m k n (loop bs e a) = steps_line m k a
   statement_line m k n (define x ps ds slots body) = if nat_eq m k then Some n else None
   statement_line m k n _ = None
+
+  pub branches_line : ℕ → ℕ → Branches → Option ℕ → Option ℕ
+  branches_line m k no_branches o = o
+  branches_line m k (a_branch n e a bs) o = or_else (steps_line m k a) (branches_line m k bs o)
 
   pub steps_line : ℕ → ℕ → Steps → Option ℕ
   steps_line m k no_steps = None

@@ -1,6 +1,6 @@
 -- What a statement does (Starlark specification, "Statements"): what it changes, and how it ends.
 use Rattle.std.specs.Prelude.{ℕ, ◌+◌, if◌then◌else◌, List, [], ◌∷◌, Option, Some, None}
-use Rattle.syntax.specs.Resolved.{Term, Statement, load, assign, assign_item, add_to, add_to_item, evaluate, pass, break_loop, continue_loop, give_back, branch, loop, define, Steps, no_steps, step}
+use Rattle.syntax.specs.Resolved.{Term, Statement, load, assign, assign_item, add_to, add_to_item, evaluate, pass, break_loop, continue_loop, give_back, branch, loop, define, Branches, no_branches, a_branch, Steps, no_steps, step}
 use Rattle.code.specs.Names.{Binding, slot, global, builtin, Loaded}
 use Rattle.code.specs.Operations.{Operations}
 use Rattle.code.specs.Outcome.{Effect, ◌>>=◌, pure, act, change, set_slot, Here}
@@ -88,8 +88,7 @@ module _ {S V K : Type 0} (ops : Operations S V K) where
         exec break_loop k here = pure breaks
         exec continue_loop k here = pure continues
         exec (give_back o) k here = given_back o here >>= λ v. pure (returns v)
-        exec (branch e a b) k here =
-            value e here >>= λ x. truth ops x >>= λ t. if t then block a k here else block b k here
+        exec (branch bs other) k here = branches bs (block other k here) k here
         -- the walk ends with its loop, however that ends
         exec (loop bs e a) k here =
             value e here >>= λ v.
@@ -98,6 +97,14 @@ module _ {S V K : Type 0} (ops : Operations S V K) where
         exec (define x ps ds n body) k here =
             evals ops invoke ds here [] >>= λ vs. makes_function here k vs >>= λ v.
             set ops here x v >>= λ _. pure next
+
+        -- the tests of a condition, each at its own line, up to the first that holds; the statements of that branch, or those
+        -- of the `else`
+        pub branches : Branches → Doing S V K → ℕ → Here → Doing S V K
+        branches no_branches other k here = other
+        branches (a_branch n e a bs) other k here =
+            value e (record here { at = n }) >>= λ x. truth ops x >>= λ t.
+            if t then block a k here else branches bs other k here
 
         -- statements, each at its own line; k is the number of the first function that they make
         pub block : Steps → ℕ → Here → Doing S V K

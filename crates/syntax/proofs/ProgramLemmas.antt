@@ -2,14 +2,14 @@
 use Rattle.std.proofs.Common.{◌≡◌, ◌<◌, ◌+◌, ℕ, suc, List, [], ◌∷◌, ◌++◌, ◌∙◌, drop, length, map, take, Option, Some, None, refl, ap, sym, arith}
 use Rattle.std.proofs.Math.ListN.{get_or}
 use Rattle.std.proofs.Math.Seq.{drop-cons}
-use Rattle.std.specs.Prelude.{option_map}
+use Rattle.std.specs.Prelude.{option_map, IfOk, Result, Ok, Err}
 use Rattle.grammar.specs.Bare.{Tree, Rest, done, for_each, only_if}
 use Rattle.syntax.specs.ProgramView.{onto}
 use Rattle.syntax.specs.Resolves.{first_tree}
 use Rattle.grammar.specs.BareLines.{Form, Lines, a_line, no_lines}
 use Rattle.grammar.specs.LineView.{lines_of}
-use Rattle.syntax.specs.Names.{Scope, scope_of}
-use Rattle.syntax.specs.Resolved.{Role, Statement, Steps, before, other_branch, other_steps, role_of, statement, steps_of}
+use Rattle.syntax.specs.Names.{Scope, scope_of, width}
+use Rattle.syntax.specs.Resolved.{Head, Made, Steps, head, made, steps_of, with_line}
 
 -- a list from a place on
 pub drop_at : {A : Type 0} (xs : List A) (i : ℕ) (x : A) → i < length xs → x ≡ get_or xs i x → drop i xs ≡ x ∷ drop (i + 1) xs
@@ -37,18 +37,16 @@ no_clause f g None (only_if a r) n e = absurd cc
 no_clause f g (Some b) r n e = absurd cc
 
 -- a line before those behind it, by what was made of them, of its block, and of itself
-pub line_made : (s : Scope) (n : ℕ) (f : Form) (ls whole rest : Lines) (r : Role) (p : ℕ × Statement) (after other : Steps) → whole ≡ a_line n f ls rest → r ≡ role_of f
-    → p ≡ (n, statement s f (scope_of s f ls) (steps_of (scope_of s f ls) ls) other) → steps_of s rest ≡ after → other_steps s rest ≡ other
-    → (steps_of s whole ≡ before r p.0 p.1 after) × (other_steps s whole ≡ other_branch r p.0 p.1 (steps_of (scope_of s f ls) ls))
-line_made s n f ls whole rest r p after other ew er ep ea eo =
-    let t = scope_of s f ls in (
-      ap (steps_of s) ew
-          ∙ ap (λ o. before (role_of f) n (statement s f t (steps_of t ls) o) (steps_of s rest)) eo
-          ∙ ap (before (role_of f) n (statement s f t (steps_of t ls) other)) ea
-          ∙ ap (λ q. before (role_of f) q.0 q.1 after) (sym ep)
-          ∙ ap (λ k. before k p.0 p.1 after) (sym er),
-      ap (other_steps s) ew
-          ∙ ap (λ o. other_branch (role_of f) n (statement s f t (steps_of t ls) o) (steps_of t ls)) eo
-          ∙ ap (λ q. other_branch (role_of f) q.0 q.1 (steps_of t ls)) (sym ep)
-          ∙ ap (λ k. other_branch k p.0 p.1 (steps_of t ls)) (sym er),
-    )
+pub line_made : (s : Scope) (n k : ℕ) (f : Form) (ls whole rest : Lines) (h : Head) (inner : Steps) (m : Made) → whole ≡ a_line n f ls rest
+    → h ≡ head s f → inner ≡ steps_of (scope_of s f ls) ls → k ≡ width (scope_of s f ls).levels → made s rest ≡ m → made s whole ≡ with_line h n k inner m
+line_made s n k f ls whole rest h inner m ew eh ei ek em =
+    ap (made s) ew
+    ∙ ap (λ x. with_line x n (width (scope_of s f ls).levels) (steps_of (scope_of s f ls) ls) (made s rest)) (sym eh)
+    ∙ ap (λ x. with_line h n x (steps_of (scope_of s f ls) ls) (made s rest)) (sym ek)
+    ∙ ap (λ x. with_line h n k x (made s rest)) (sym ei)
+    ∙ ap (with_line h n k inner) em
+
+-- what follows from an answer
+pub if_ok_then : {A E : Type 0} (r : Result A E) (P Q : A → Type 0) → ((x : A) → P x → Q x) → IfOk r P → IfOk r Q
+if_ok_then (Ok x) P Q f h = f x h
+if_ok_then (Err e) P Q f h = tt

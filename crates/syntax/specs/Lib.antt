@@ -3,6 +3,7 @@ pub mod Scopes
 pub mod Files
 pub mod FirstFault
 pub mod Resolved
+pub mod ProgramDepth
 pub mod ScopeView
 pub mod ProgramView
 pub mod Resolves

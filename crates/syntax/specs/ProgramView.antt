@@ -2,14 +2,15 @@
 use Rattle.std.specs.Prelude.{ℕ, List, [], ◌∷◌, map, option_map}
 use Rattle.grammar.specs.TreeView.{operator_seen, sign_seen}
 use Rattle.syntax.specs.Resolved as resolved
-use Rattle.syntax.specs.Resolved.{Terms, no_terms, more_terms, Pairs, no_pairs, more_pairs, Keywords, no_keywords, more_keywords, Rounds, done, for_each, only_if, Steps, no_steps, step}
+use Rattle.syntax.specs.Resolved.{Terms, no_terms, more_terms, Pairs, no_pairs, more_pairs, Keywords, no_keywords, more_keywords, Rounds, done, for_each, only_if, Branches, no_branches, a_branch, Steps, no_steps, step}
 use Rattle.syntax.specs.declared.program.Term.{Term, fold-Term}
 use Rattle.syntax.specs.declared.program.Round.TheOpen.{Term-F, Pair-F, Argument-F, Round-F}
 use Rattle.syntax.specs.declared.program.Pair.{Pair, fold-Pair}
 use Rattle.syntax.specs.declared.program.Argument.{Argument, fold-Argument}
 use Rattle.syntax.specs.declared.program.Round.{Round, fold-Round}
 use Rattle.syntax.specs.declared.program.Statement.{Statement, fold-Statement}
-use Rattle.syntax.specs.declared.program.Statement.TheOpen.{Statement-F, Function-F, Step-F}
+use Rattle.syntax.specs.declared.program.Branch.{Branch, fold-Branch}
+use Rattle.syntax.specs.declared.program.Statement.TheOpen.{Statement-F, Branch-F, Function-F, Step-F}
 use Rattle.syntax.specs.declared.program.Step.{Step, fold-Step}
 
 -- things one after the other, before others
@@ -83,11 +84,14 @@ keywords ks = keywords_onto (map argument ks) no_keywords
 abbrev pub rounds : List Round → Rounds
 rounds rs = rounds_onto (map round rs) done
 
+abbrev pub branches_onto : List (Branches → Branches) → Branches → Branches
+branches_onto = onto (λ f r. f r)
+
 -- a statement, whose blocks are seen already
-abbrev pub statement_step : Statement-F resolved.Statement resolved.Statement (ℕ × resolved.Statement) → resolved.Statement
+abbrev pub statement_step : Statement-F resolved.Statement (Branches → Branches) resolved.Statement (ℕ × resolved.Statement) → resolved.Statement
 statement_step (Statement-F.Load p items) = resolved.load p items.items
 statement_step (Statement-F.Define f) = f
-statement_step (Statement-F.If a inner other) = resolved.branch (term a) (steps_onto inner.items no_steps) (steps_onto other.items no_steps)
+statement_step (Statement-F.If bs other) = resolved.branch (branches_onto bs.items no_branches) (steps_onto other.items no_steps)
 statement_step (Statement-F.For bs a inner) = resolved.loop bs.items (term a) (steps_onto inner.items no_steps)
 statement_step (Statement-F.Assign bs a) = resolved.assign bs.items (term a)
 statement_step (Statement-F.AssignAt f a b) = resolved.assign_item (term f.value) (term a.value) (term b)
@@ -99,17 +103,26 @@ statement_step Statement-F.Break = resolved.break_loop
 statement_step Statement-F.Continue = resolved.continue_loop
 statement_step (Statement-F.Return a) = resolved.give_back (option_map term a)
 
-abbrev pub function_step : Function-F resolved.Statement resolved.Statement (ℕ × resolved.Statement) → resolved.Statement
+abbrev pub branch_step : Branch-F resolved.Statement (Branches → Branches) resolved.Statement (ℕ × resolved.Statement) → Branches → Branches
+branch_step b = a_branch b.line (term b.test) (steps_onto b.steps.items no_steps)
+
+abbrev pub function_step : Function-F resolved.Statement (Branches → Branches) resolved.Statement (ℕ × resolved.Statement) → resolved.Statement
 function_step f = resolved.define f.binds f.params.items (terms f.defaults.items) f.slots (steps_onto f.steps.items no_steps)
 
-abbrev pub step_step : Step-F resolved.Statement resolved.Statement (ℕ × resolved.Statement) → ℕ × resolved.Statement
+abbrev pub step_step : Step-F resolved.Statement (Branches → Branches) resolved.Statement (ℕ × resolved.Statement) → ℕ × resolved.Statement
 step_step s = (s.line, s.statement)
 
 abbrev pub statement : Statement → resolved.Statement
-statement = fold-Statement resolved.Statement resolved.Statement (ℕ × resolved.Statement) statement_step function_step step_step
+statement = fold-Statement resolved.Statement (Branches → Branches) resolved.Statement (ℕ × resolved.Statement) statement_step branch_step function_step step_step
 
 abbrev pub line_and_statement : Step → ℕ × resolved.Statement
-line_and_statement = fold-Step resolved.Statement resolved.Statement (ℕ × resolved.Statement) statement_step function_step step_step
+line_and_statement = fold-Step resolved.Statement (Branches → Branches) resolved.Statement (ℕ × resolved.Statement) statement_step branch_step function_step step_step
+
+abbrev pub branch : Branch → Branches → Branches
+branch = fold-Branch resolved.Statement (Branches → Branches) resolved.Statement (ℕ × resolved.Statement) statement_step branch_step function_step step_step
+
+abbrev pub branches : List Branch → Branches
+branches bs = branches_onto (map branch bs) no_branches
 
 abbrev pub steps : List Step → Steps
 steps ss = steps_onto (map line_and_statement ss) no_steps

@@ -4,8 +4,6 @@
 -- use around it. A name of the top level has its number, by the order of the bindings there.
 use Rattle.std.specs.Prelude.{ℕ, List, [], ◌∷◌, map, Option, option_map, unwrap_or}
 pub use Rattle.syntax.specs.declared.program.Loaded.{Loaded}
-pub use Rattle.syntax.specs.declared.steps.Role.{Role}
-pub use Rattle.syntax.specs.declared.steps.Role.TheVariants.{Begins as begins, TestsAgain as tests_again, IsLeft as is_left}
 use Rattle.grammar.specs.Tree.{Operator, Sign}
 use Rattle.grammar.specs.Bare as bare
 use Rattle.grammar.specs.BareLines.{Param, required, optional, Form, loads, defines, if_head, elif_head, else_head, for_head, assigns, assigns_at, increases, increases_at, evaluates, passes, breaks, continues, returns, Lines, no_lines, a_line}
@@ -49,7 +47,7 @@ mutual
 
 mutual
   -- a statement (Starlark specification, "Statements"). One name is assigned to, or several, into which a sequence is
-  -- unpacked. An `elif` is an `if` in the other branch
+  -- unpacked. A condition has its branches, and the statements of its `else`
   pub data Statement : Type 0 where
     load : List ℕ → List Loaded → Statement
     assign : List Binding → Term → Statement
@@ -59,11 +57,17 @@ mutual
     evaluate : Term → Statement
     pass break_loop continue_loop : Statement
     give_back : Option Term → Statement
-    branch : Term → Steps → Steps → Statement
+    branch : Branches → Steps → Statement
     loop : List Binding → Term → Steps → Statement
     -- the name of a function, those of its parameters, the defaults of the last of them, how many slots it has, and its
     -- statements
     define : Binding → List Name → Terms → ℕ → Steps → Statement
+
+  -- the branches of a condition, that of its `if` and those of its `elif`s: each with the first line of its logical line,
+  -- its test, and the statements that run where it is the first that holds
+  pub data Branches : Type 0 where
+    no_branches : Branches
+    a_branch : ℕ → Term → Steps → Branches → Branches
 
   -- statements one after the other, each with the first line of its logical line
   pub data Steps : Type 0 where
@@ -123,55 +127,58 @@ abbrev pub defaults : Scope → List Param → Terms
 defaults s [] = no_terms
 defaults s (p ∷ ps) = with_default s p (defaults s ps)
 
--- a line begins a statement, but for `elif` and `else`, which are the other branch of the one before them
-abbrev pub role_of : Form → Role
-role_of (elif_head a) = tests_again
-role_of else_head = is_left
-role_of f = begins
+-- a line without its block: a whole statement, or the head of one
+pub data Head : Type 0 where
+  simple : Statement → Head
+  tests tests_again : Term → Head
+  otherwise : Head
+  repeats : List Binding → Term → Head
+  makes : Binding → List Name → Terms → Head
 
--- the statement of a line: with the scope and the statements of its block, and with the other branch of an `if`, which
--- stands in the lines behind it. An `else` has none of its own
-abbrev pub statement : Scope → Form → Scope → Steps → Steps → Statement
-statement s (loads p items) t inner other = load p (map (λ i. record { asked = i.asked; binds = binding_of s i.binds }) items)
-statement s (defines x ps) t inner other = define (binding_of s x) (map param_name ps) (defaults s ps) (width t.levels) inner
-statement s (if_head a) t inner other = branch (term s a) inner other
-statement s (elif_head a) t inner other = branch (term s a) inner other
-statement s else_head t inner other = pass
-statement s (for_head x xs a) t inner other = loop (map (binding_of s) (x ∷ xs)) (term s a) inner
-statement s (assigns x xs a) t inner other = assign (map (binding_of s) (x ∷ xs)) (term s a)
-statement s (assigns_at f a b) t inner other = assign_item (term s f) (term s a) (term s b)
-statement s (increases x a) t inner other = add_to (binding_of s x) (term s a)
-statement s (increases_at f a b) t inner other = add_to_item (term s f) (term s a) (term s b)
-statement s (evaluates a) t inner other = evaluate (term s a)
-statement s passes t inner other = pass
-statement s breaks t inner other = break_loop
-statement s continues t inner other = continue_loop
-statement s (returns a) t inner other = give_back (option_map (term s) a)
+abbrev pub head : Scope → Form → Head
+head s (loads p items) = simple (load p (map (λ i. record { asked = i.asked; binds = binding_of s i.binds }) items))
+head s (defines x ps) = makes (binding_of s x) (map param_name ps) (defaults s ps)
+head s (if_head a) = tests (term s a)
+head s (elif_head a) = tests_again (term s a)
+head s else_head = otherwise
+head s (for_head x xs a) = repeats (map (binding_of s) (x ∷ xs)) (term s a)
+head s (assigns x xs a) = simple (assign (map (binding_of s) (x ∷ xs)) (term s a))
+head s (assigns_at f a b) = simple (assign_item (term s f) (term s a) (term s b))
+head s (increases x a) = simple (add_to (binding_of s x) (term s a))
+head s (increases_at f a b) = simple (add_to_item (term s f) (term s a) (term s b))
+head s (evaluates a) = simple (evaluate (term s a))
+head s passes = simple pass
+head s breaks = simple break_loop
+head s continues = simple continue_loop
+head s (returns a) = simple (give_back (option_map (term s) a))
 
--- a statement before those behind it, if the line begins one
-abbrev pub before : Role → ℕ → Statement → Steps → Steps
-before begins n st rest = step n st rest
-before tests_again n st rest = rest
-before is_left n st rest = rest
+-- what lines are to the line before them: the branches and the statements of the `else` that they have for an `if` there,
+-- and their own statements
+pub record Made : Type 0 where
+  pub branches : Branches
+  pub other : Steps
+  pub steps : Steps
 
--- what a line has of the other branch of an `if` or `elif` before it
-abbrev pub other_branch : Role → ℕ → Statement → Steps → Steps
-other_branch begins n st inner = no_steps
-other_branch tests_again n st inner = step n st no_steps
-other_branch is_left n st inner = inner
+abbrev pub begun : Steps → Made
+begun ss = record { branches = no_branches; other = no_steps; steps = ss }
 
-abbrev mutual
-  -- the statements of lines
-  pub steps_of : Scope → Lines → Steps
-  steps_of s no_lines = no_steps
-  steps_of s (a_line n f inner ls) =
-      before (role_of f) n (statement s f (scope_of s f inner) (steps_of (scope_of s f inner) inner) (other_steps s ls)) (steps_of s ls)
+-- a line before others: its number, how many slots are in use in its block, and the statements of that
+abbrev pub with_line : Head → ℕ → ℕ → Steps → Made → Made
+with_line (simple st) n slots inner m = begun (step n st m.steps)
+with_line (tests a) n slots inner m = begun (step n (branch (a_branch n a inner m.branches) m.other) m.steps)
+with_line (tests_again a) n slots inner m = record { branches = a_branch n a inner m.branches; other = m.other; steps = m.steps }
+with_line otherwise n slots inner m = record { branches = no_branches; other = inner; steps = m.steps }
+with_line (repeats bs a) n slots inner m = begun (step n (loop bs a inner) m.steps)
+with_line (makes b ps ds) n slots inner m = begun (step n (define b ps ds slots inner) m.steps)
 
-  -- the other branch of an `if` or `elif` that these lines follow
-  pub other_steps : Scope → Lines → Steps
-  other_steps s no_lines = no_steps
-  other_steps s (a_line n f inner ls) =
-      other_branch (role_of f) n (statement s f (scope_of s f inner) (steps_of (scope_of s f inner) inner) (other_steps s ls)) (steps_of (scope_of s f inner) inner)
+abbrev pub made : Scope → Lines → Made
+made s no_lines = begun no_steps
+made s (a_line n f inner ls) =
+    with_line (head s f) n (width (scope_of s f inner).levels) (made (scope_of s f inner) inner).steps (made s ls)
+
+-- the statements of lines
+abbrev pub steps_of : Scope → Lines → Steps
+steps_of s ls = (made s ls).steps
 
 -- a file with what its names stand for
 abbrev pub resolved : Lines → Program

@@ -23,7 +23,7 @@ use Rattle.grammar.specs.TreeView.{tree_of}
 use Rattle.syntax.specs.Names.{Name, Scope, apart, clause_names, distinct, form_binds, or_else, scope_of, width}
 use Rattle.syntax.specs.ProgramView as view
 use Rattle.syntax.specs.Resolved as resolved
-use Rattle.syntax.specs.Resolved.{Statement, Steps, branch, loop, define, pass, other_steps, steps_of}
+use Rattle.syntax.specs.Resolved.{Made, Steps, steps_of}
 use Rattle.syntax.specs.Scopes.{adds_to_name, line_scoped, lines_fault, none_predeclared, rest_scoped, scoped, unless}
 use Rattle.syntax.specs.ScopeView.{entered}
 
@@ -78,21 +78,18 @@ pub record ResolvesInside (turns : ℕ) (pre : Global → MutBor Scope → Bor E
   pub gives : (alloc : Global) (old new : MutBor Scope) (e : Bor Expr) (r : Result Term Unresolved) → post alloc old e turns r new
       → GivesTerm (tree_of e.now) old.now r new.now
 
--- the statement that is made of a line, with the slots and the statements of its block, and the other branch of an `if`
-abbrev pub made_of : head.Head → ℕ → Steps → Steps → Statement
-made_of (h.Simple st) n inner other = view.statement st
-made_of (h.If a) n inner other = branch (view.term a) inner other
-made_of h.Else n inner other = pass
-made_of (h.For bs a) n inner other = loop bs.items (view.term a) inner
-made_of (h.Def b ps ds) n inner other = define b ps.items (view.terms ds.items) n inner
-
--- a line with its names resolved: whatever its block has, its statement is made of it
-abbrev pub IsHead : Scope → Form → head.Head → Type 0
-IsHead s f h = (t : Scope) (inner other : Steps) → made_of h (width t.levels) inner other ≡ resolved.statement s f t inner other
+-- a line without its block, as the program keeps it
+abbrev pub head_seen : head.Head → resolved.Head
+head_seen (h.Simple st) = resolved.simple (view.statement st)
+head_seen (h.If a) = resolved.tests (view.term a)
+head_seen (h.Elif a) = resolved.tests_again (view.term a)
+head_seen h.Else = resolved.otherwise
+head_seen (h.For bs a) = resolved.repeats bs.items (view.term a)
+head_seen (h.Def b ps ds) = resolved.makes b ps.items (view.terms ds.items)
 
 -- the same as `Gives`, of a line
 abbrev pub GivesHead : (Scope → Form → Bool) → Form → Scope → Result head.Head Unresolved → Scope → Type 0
-GivesHead kept f old (Ok h) new = (kept old f ≡ true) × IsHead old f h × (new ≡ old)
+GivesHead kept f old (Ok h) new = (kept old f ≡ true) × (head_seen h ≡ resolved.head old f) × (new ≡ old)
 GivesHead kept f old (Err stop.Breaks) new = (kept old f ≡ false) × (new ≡ old)
 GivesHead kept f old (Err stop.NoMemory) new = Unit {0}
 
@@ -127,19 +124,20 @@ abbrev pub IsOwn : Scope → Line → head.Head → Inner → Type 0
 IsOwn s l h i =
     let f = form_of (out-Line l).form in
     let ls = lines (out-Line l).block.items in
-    IsHead s f h × (view.steps i.steps.items ≡ steps_of (scope_of s f ls) ls) × (i.slots ≡ width (scope_of s f ls).levels)
+    (head_seen h ≡ resolved.head s f) × (view.steps i.steps.items ≡ steps_of (scope_of s f ls) ls) × (i.slots ≡ width (scope_of s f ls).levels)
+
+-- what was made of lines, which the program keeps from the last to the first
+abbrev pub behind_seen : Behind → Made
+behind_seen b =
+    record { branches = view.branches (reverse b.branches.items); other = view.steps b.other.items; steps = view.steps (reverse b.steps.items) }
 
 -- what is made of a line and those behind it, over what was made of those
 abbrev pub FollowsOn : Scope → Line → Behind → Behind → Type 0
-FollowsOn s l behind made =
-    (rest : Lines) → steps_of s rest ≡ view.steps (reverse behind.steps.items) → other_steps s rest ≡ view.steps behind.other.items
-    → (steps_of s (before_lines l rest) ≡ view.steps (reverse made.steps.items)) × (other_steps s (before_lines l rest) ≡ view.steps made.other.items)
+FollowsOn s l behind new = (rest : Lines) → resolved.made s rest ≡ behind_seen behind → resolved.made s (before_lines l rest) ≡ behind_seen new
 
 -- what is known of lines that were gone through
 abbrev pub IsLater : Scope → Lines → Later → Type 0
-IsLater s rest l =
-    (lines_fault s rest ≡ l.fault)
-    × (l.fault ≡ None → (steps_of s rest ≡ view.steps (reverse l.behind.steps.items)) × (other_steps s rest ≡ view.steps l.behind.other.items))
+IsLater s rest l = (lines_fault s rest ≡ l.fault) × (l.fault ≡ None → resolved.made s rest ≡ behind_seen l.behind)
 
 -- a line of the top level, which has bound these names before, binds none a second time, and adds to none
 abbrev pub binds_anew : List Name → Form → Bool

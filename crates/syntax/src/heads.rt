@@ -28,8 +28,8 @@ use std::alloc::{AllocError, Global};
 pub(crate) enum Head {
     /// A whole statement.
     Simple(Statement),
-    /// `if TEST:` or `elif TEST:`.
     If(Term),
+    Elif(Term),
     Else,
     For(Vec<Binding>, Term),
     /// `def`, with the names of its parameters, and the defaults of the last of them.
@@ -202,7 +202,8 @@ fn form_head(alloc: Global, scope: &mut Scope, form: &Form) -> Result<Head, Unre
             Ok(Head::Simple(made))
         }
         Form::Def(name, params) => def(alloc, scope, name, params.as_slice()),
-        Form::If(test) | Form::Elif(test) => Ok(Head::If(term(alloc, scope, test)?)),
+        Form::If(test) => Ok(Head::If(term(alloc, scope, test)?)),
+        Form::Elif(test) => Ok(Head::Elif(term(alloc, scope, test)?)),
         Form::Else => Ok(Head::Else),
         Form::For(first, others, operand) => {
             let names = bindings(alloc, scope, first, others.as_slice())?;

@@ -5,6 +5,7 @@ ghost use Rattle.grammar.specs.BareLines.{bare_lines};
 ghost use Rattle.grammar.specs.Blocks.{Block};
 ghost use Rattle.syntax.specs.Files.{syntax};
 ghost use Rattle.syntax.specs.ParsedView.{program_of};
+ghost use Rattle.syntax.specs.ProgramDepth.{IsShallow};
 ghost use Rattle.syntax.specs.Resolved.{resolved};
 
 use crate::program::Step;
@@ -25,14 +26,8 @@ pub struct Parsed {
     pub steps: Vec<Step>,
 }
 
-/// Reads a file: its characters, its tokens, its brackets and columns, its statements, and then its scopes. The grammar is
-/// that of the Starlark specification in this project's profile.
-///
-/// # Errors
-///
-/// [`ParseStop::Fault`] where the text has no tree of this kind: the first fault of the first of the five passes that
-/// finds one, with its line. [`ParseStop::NoMemory`] may come in place of any answer, where memory was refused.
-pub fn parse(alloc: Global, text: &str, kind: FileKind) -> Result<Parsed, ParseStop>
+/// The same as [`parse`].
+fn read(alloc: Global, text: &str, kind: FileKind) -> Result<Parsed, ParseStop>
     ensures tree { IfOk result (λ p. (tree : Block) × (syntax text.now kind ≡ Ok tree) × (program_of p ≡ resolved (bare_lines tree))) }
     ensures fault { (f : SyntaxFault) → result ≡ Err (ParseStop.Fault f) → syntax text.now kind ≡ Err f }
 {
@@ -58,4 +53,19 @@ pub fn parse(alloc: Global, text: &str, kind: FileKind) -> Result<Parsed, ParseS
         })),
         Err(Stopped::NoMemory) => Err(ParseStop::NoMemory),
     }
+}
+
+/// Reads a file: its characters, its tokens, its brackets and columns, its statements, and then its scopes. The grammar is
+/// that of the Starlark specification in this project's profile. What it gives is shallow, however long the text is.
+///
+/// # Errors
+///
+/// [`ParseStop::Fault`] where the text has no tree of this kind: the first fault of the first of the five passes that
+/// finds one, with its line. [`ParseStop::NoMemory`] may come in place of any answer, where memory was refused.
+pub fn parse(alloc: Global, text: &str, kind: FileKind) -> Result<Parsed, ParseStop>
+    ensures tree { IfOk result (λ p. (tree : Block) × (syntax text.now kind ≡ Ok tree) × (program_of p ≡ resolved (bare_lines tree))) }
+    ensures shallow { IfOk result (λ p. IsShallow (program_of p)) }
+    ensures fault { (f : SyntaxFault) → result ≡ Err (ParseStop.Fault f) → syntax text.now kind ≡ Err f }
+{
+    read(alloc, text, kind)
 }

@@ -69,13 +69,12 @@ pub struct Loaded {
 
 /// A statement. Where several names are bound, the items of a sequence go to them.
 #[cycle(steps)]
-#[derive(Drop)]
 pub enum Statement {
     /// `load(MODULE, ..)`.
     Load(Text, Vec<Loaded>),
     Define(Function),
-    /// A condition, and the statements of both branches. An `elif` is an `if` in the other branch.
-    If(Term, Vec<Step>, Vec<Step>),
+    /// The branches of an `if` and of its `elif`s, of which there is one at least, and the statements of its `else`.
+    If(Vec<Branch>, Vec<Step>),
     For(Vec<Binding>, Term, Vec<Step>),
     Assign(Vec<Binding>, Term),
     /// `BASE[INDEX] = VALUE`.
@@ -89,6 +88,38 @@ pub enum Statement {
     Break,
     Continue,
     Return(Option<Term>),
+}
+
+// By hand, so that letting one go is a call and isn't written out wherever one may be let go.
+impl Drop for Statement {
+    #[cycle(steps)]
+    fn drop(self) {
+        match self {
+            Statement::Load(_, _) => {}
+            Statement::Define(_) => {}
+            Statement::If(_, _) => {}
+            Statement::For(_, _, _) => {}
+            Statement::Assign(_, _) => {}
+            Statement::AssignAt(_, _, _) => {}
+            Statement::Add(_, _) => {}
+            Statement::AddAt(_, _, _) => {}
+            Statement::Evaluate(_) => {}
+            Statement::Pass => {}
+            Statement::Break => {}
+            Statement::Continue => {}
+            Statement::Return(_) => {}
+        }
+    }
+}
+
+/// A test of a condition, with the number of its first line in the file, and the statements that run where it is the first
+/// that holds.
+#[cycle(steps)]
+#[derive(Drop)]
+pub struct Branch {
+    pub line: usize,
+    pub test: Term,
+    pub steps: Vec<Step>,
 }
 
 /// A function.

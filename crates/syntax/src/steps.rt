@@ -1,5 +1,5 @@
-//! The statements of lines, with their names resolved: blocks in the place of lines, and `elif` as an `if` in the other
-//! branch. The lines of a block are gone through from the last to the first.
+//! The statements of lines, with their names resolved: blocks in the place of lines, and the lines of a condition as one
+//! statement. The lines of a block are gone through from the last to the first.
 
 ghost use Rattle.std.specs.Prelude.{◌≡◌, [], IfOk, OnOk, reverse};
 ghost use Rattle.grammar.specs.BareLines.{Lines};
@@ -9,18 +9,20 @@ ghost use Rattle.grammar.specs.declared.statements.Line.{out-Line};
 ghost use Rattle.syntax.specs.Names.{Scope as Around, scope_of};
 ghost use Rattle.syntax.specs.ProgramView as view;
 ghost use Rattle.syntax.specs.Resolved as resolved;
-ghost use Rattle.syntax.specs.Resolved.{no_steps, other_steps, role_of, steps_of};
-ghost use Rattle.syntax.specs.Resolves.{FollowsOn, IsHead, IsLater, IsOwn, Places, PlacesSteps, back, before_lines, made_of, own_fault};
+ghost use Rattle.syntax.specs.Resolved.{Branches, begun, head, no_steps, steps_of, with_line};
+ghost use Rattle.syntax.specs.Resolves.{FollowsOn, IsLater, IsOwn, Places, PlacesSteps, back, before_lines, behind_seen, head_seen, own_fault};
 ghost use Rattle.syntax.specs.Scopes.{line_scoped, lines_fault, top_fault, unless};
 
 use crate::bound::{add_lines, add_params, block_of};
 use crate::heads::{Head, line_head};
 use crate::levels::Levels;
-use crate::program::{Function, Statement, Step};
+use crate::names::Binding;
+use crate::program::{Branch, Function, Statement, Step, Term};
 use crate::resolver::Unresolved;
 use crate::scope::Scope;
 use crate::top::until_rebound;
 use grammar::{Form, Line};
+use plain::Text;
 use std::alloc::{AllocError, Global};
 
 /// Why the lines of a file aren't resolved.
@@ -43,39 +45,6 @@ impl From<AllocError> for Stopped {
     }
 }
 
-/// What a line is of a statement.
-#[derive(Clone, Copy, PartialEq, Eq, Debug)]
-pub enum Role {
-    /// Its first line.
-    Begins,
-    /// An `elif`, which is an `if` in the other branch.
-    TestsAgain,
-    /// An `else`.
-    IsLeft,
-}
-
-fn role_of(form: &Form) -> Role
-    ensures { result ≡ role_of (form_of form.now) }
-{
-    match form {
-        Form::Elif(_) => Role::TestsAgain,
-        Form::Else => Role::IsLeft,
-        Form::Load(_, _)
-        | Form::Def(_, _)
-        | Form::If(_)
-        | Form::For(_, _, _)
-        | Form::Assign(_, _, _)
-        | Form::AssignAt(_, _, _)
-        | Form::Add(_, _)
-        | Form::AddAt(_, _, _)
-        | Form::Evaluate(_)
-        | Form::Pass
-        | Form::Break
-        | Form::Continue
-        | Form::Return(_) => Role::Begins,
-    }
-}
-
 /// The statements of a block, and how many slots are in use there.
 #[derive(Drop)]
 pub(crate) struct Inner {
@@ -83,67 +52,115 @@ pub(crate) struct Inner {
     steps: Vec<Step>,
 }
 
-/// The statement of a line, with those of its block, and with the other branch of an `if`.
-fn statement(head: Head, inner: Inner, other: Vec<Step>) -> Statement
-    ensures { view.statement result ≡ made_of head inner.slots (view.steps inner.steps.items) (view.steps other.items) }
-{
-    match head {
-        Head::Simple(made) => made,
-        Head::If(test) => Statement::If(test, inner.steps, other),
-        Head::Else => Statement::Pass,
-        Head::For(names, operand) => Statement::For(names, operand, inner.steps),
-        Head::Def(binds, params, defaults) => Statement::Define(Function {
-            binds,
-            params,
-            defaults,
-            slots: inner.slots,
-            steps: inner.steps,
-        }),
-    }
-}
-
-/// What is made of the lines behind one.
+/// What lines are to the line before them.
 #[derive(Drop)]
 pub(crate) struct Behind {
-    /// What they have of the other branch of an `if` or `elif` before them.
+    /// The branches that they have for an `if` before them, the last one first.
+    branches: Vec<Branch>,
+    /// The statements of the `else` that they have for it.
     other: Vec<Step>,
-    /// Their statements, the last one first.
+    /// Their own statements, the last one first.
     steps: Vec<Step>,
 }
 
 impl Behind {
     /// Nothing stands behind the last line. There is room for this many statements.
     fn nothing(alloc: Global, room: usize) -> Result<Behind, AllocError>
-        ensures steps { IfOk result (λ b. view.steps (reverse b.steps.items) ≡ no_steps) }
-        ensures other { IfOk result (λ b. view.steps b.other.items ≡ no_steps) }
+        ensures { IfOk result (λ b. behind_seen b ≡ begun no_steps) }
     {
         Ok(Behind {
+            branches: Vec::new(alloc),
             other: Vec::new(alloc),
             steps: Vec::with_capacity(alloc, room)?,
         })
     }
 
-    /// With a statement before the others.
+    /// With a statement before the others, which ends what an `if` before it can have.
     fn with_step(alloc: Global, step: Step, mut steps: Vec<Step>) -> Result<Behind, AllocError>
         ensures steps { IfOk result (λ b. view.steps (reverse b.steps.items) ≡ resolved.step (view.line_and_statement step).0 (view.line_and_statement step).1 (view.steps (reverse steps.items))) }
         ensures other { IfOk result (λ b. view.steps b.other.items ≡ no_steps) }
+        ensures branches { IfOk result (λ b. b.branches.items ≡ []) }
     {
         steps.push(step)?;
         Ok(Behind {
+            branches: Vec::new(alloc),
             other: Vec::new(alloc),
             steps,
         })
     }
+}
 
-    /// With a statement that is the other branch of the `if` before it.
-    fn with_branch(alloc: Global, step: Step, steps: Vec<Step>) -> Result<Behind, AllocError>
-        ensures steps { IfOk result (λ b. b.steps.items ≡ steps.items) }
-        ensures other { IfOk result (λ b. view.steps b.other.items ≡ resolved.step (view.line_and_statement step).0 (view.line_and_statement step).1 no_steps) }
-    {
-        let mut other = Vec::with_capacity(alloc, 1)?;
-        other.push(step)?;
-        Ok(Behind { other, steps })
-    }
+/// A statement, with its number.
+fn numbered(line: usize, statement: Statement) -> Step
+    ensures { view.line_and_statement result ≡ (line, view.statement statement) }
+{
+    Step { line, statement }
+}
+
+/// With the statement of a line before the others.
+fn begin(
+    alloc: Global,
+    line: usize,
+    statement: Statement,
+    steps: Vec<Step>,
+) -> Result<Behind, AllocError>
+    ensures { IfOk result (λ b. behind_seen b ≡ begun (resolved.step line (view.statement statement) (view.steps (reverse steps.items)))) }
+{
+    let step = numbered(line, statement);
+    let behind = Behind::with_step(alloc, step, steps)?;
+    Ok(behind)
+}
+
+fn branch(line: usize, test: Term, steps: Vec<Step>) -> Branch
+    ensures { (r : Branches) → view.branch result r ≡ resolved.a_branch line (view.term test) (view.steps steps.items) r }
+{
+    Branch { line, test, steps }
+}
+
+fn condition(branches: Vec<Branch>, other: Vec<Step>) -> Statement
+    ensures { view.statement result ≡ resolved.branch (view.branches branches.items) (view.steps other.items) }
+{
+    Statement::If(branches, other)
+}
+
+fn repetition(names: Vec<Binding>, operand: Term, steps: Vec<Step>) -> Statement
+    ensures { view.statement result ≡ resolved.loop names.items (view.term operand) (view.steps steps.items) }
+{
+    Statement::For(names, operand, steps)
+}
+
+fn definition(binds: Binding, params: Vec<Text>, defaults: Vec<Term>, inner: Inner) -> Statement
+    ensures { view.statement result ≡ resolved.define binds params.items (view.terms defaults.items) inner.slots (view.steps inner.steps.items) }
+{
+    Statement::Define(Function {
+        binds,
+        params,
+        defaults,
+        slots: inner.slots,
+        steps: inner.steps,
+    })
+}
+
+/// The branches of a condition, of which those behind the first are known, the last one first.
+fn all_branches(first: Branch, mut others: Vec<Branch>) -> Result<Vec<Branch>, AllocError>
+    ensures { IfOk result (λ bs. view.branches bs.items ≡ view.branch first (view.branches (reverse others.items))) }
+{
+    others.push(first)?;
+    others.reverse();
+    Ok(others)
+}
+
+/// With a branch before the others.
+fn with_branch(branch: Branch, behind: Behind) -> Result<Behind, AllocError>
+    ensures { IfOk result (λ b. behind_seen b ≡ record (behind_seen behind) { branches = view.branch branch (behind_seen behind).branches }) }
+{
+    let mut branches = behind.branches;
+    branches.push(branch)?;
+    Ok(Behind {
+        branches,
+        other: behind.other,
+        steps: behind.steps,
+    })
 }
 
 /// Lines that were gone through.
@@ -155,19 +172,9 @@ pub(crate) struct Later {
     behind: Behind,
 }
 
-/// The statement of a line, with its number.
-fn numbered(number: usize, head: Head, inner: Inner, other: Vec<Step>) -> Step
-    ensures { view.line_and_statement result ≡ (number, made_of head inner.slots (view.steps inner.steps.items) (view.steps other.items)) }
-{
-    Step {
-        line: number,
-        statement: statement(head, inner, other),
-    }
-}
-
 /// A line with its names resolved, but for those of its block; or its number.
 fn head_of(alloc: Global, scope: &mut Scope, line: &Line) -> Result<Head, Stopped>
-    ensures { Places (λ s. unless (out-Line line.now).number (line_scoped s (form_of (out-Line line.now).form))) (λ h s. IsHead s (form_of (out-Line line.now).form) h) scope.old result scope.new }
+    ensures { Places (λ s. unless (out-Line line.now).number (line_scoped s (form_of (out-Line line.now).form))) (λ h s. head_seen h ≡ head s (form_of (out-Line line.now).form)) scope.old result scope.new }
 {
     match line_head(alloc, scope, &line.form) {
         Ok(head) => Ok(head),
@@ -222,6 +229,40 @@ fn line_and_block(alloc: Global, scope: &mut Scope, line: &Line) -> Result<(Head
     Ok((head, Inner { slots, steps }))
 }
 
+/// A line with its block, before those behind it.
+fn with_line(
+    alloc: Global,
+    line: usize,
+    own: (Head, Inner),
+    behind: Behind,
+) -> Result<Behind, AllocError>
+    ensures { IfOk result (λ b. behind_seen b ≡ with_line (head_seen own.0) line own.1.slots (view.steps own.1.steps.items) (behind_seen behind)) }
+{
+    let (head, inner) = own;
+    match head {
+        Head::Simple(made) => begin(alloc, line, made, behind.steps),
+        Head::If(test) => {
+            let first = branch(line, test, inner.steps);
+            let branches = all_branches(first, behind.branches)?;
+            begin(alloc, line, condition(branches, behind.other), behind.steps)
+        }
+        Head::Elif(test) => with_branch(branch(line, test, inner.steps), behind),
+        Head::Else => Ok(Behind {
+            branches: Vec::new(alloc),
+            other: inner.steps,
+            steps: behind.steps,
+        }),
+        Head::For(names, operand) => {
+            let made = repetition(names, operand, inner.steps);
+            begin(alloc, line, made, behind.steps)
+        }
+        Head::Def(binds, params, defaults) => {
+            let made = definition(binds, params, defaults, inner);
+            begin(alloc, line, made, behind.steps)
+        }
+    }
+}
+
 /// A line before those behind it.
 fn follows(
     alloc: Global,
@@ -231,21 +272,7 @@ fn follows(
 ) -> Result<Behind, AllocError>
     ensures { IfOk result (λ b. (s : Around) → IsOwn s line.now own.0 own.1 → FollowsOn s line.now behind b) }
 {
-    let (head, inner) = own;
-    match role_of(&line.form) {
-        Role::Begins => {
-            let step = numbered(line.number, head, inner, behind.other);
-            Behind::with_step(alloc, step, behind.steps)
-        }
-        Role::TestsAgain => {
-            let step = numbered(line.number, head, inner, behind.other);
-            Behind::with_branch(alloc, step, behind.steps)
-        }
-        Role::IsLeft => Ok(Behind {
-            other: inner.steps,
-            steps: behind.steps,
-        }),
-    }
+    with_line(alloc, line.number, own, behind)
 }
 
 /// A line before those that were gone through.

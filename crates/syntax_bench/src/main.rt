@@ -1,6 +1,7 @@
 //! Times the whole reading of texts of about 1,048,576 bytes, from their bytes to their trees: many small functions, one
-//! long list, deep displays, and nothing but signs. Without the word `time` it prints the verdicts alone, which never
-//! change.
+//! long list, deep displays, nothing but signs, one condition of many branches, many names that are loaded, names inside of
+//! 99 comprehensions, and many calls with keywords. The clock ends when the tree is there: giving it back isn't counted.
+//! Without the word `time` it prints the verdicts alone, which never change.
 #![tactic(auto)]
 
 use anyhow::Result;
@@ -76,6 +77,69 @@ fn signs(alloc: Global) -> Result<String> {
     Ok(text)
 }
 
+/// One condition, with as many branches as fit.
+fn branches(alloc: Global) -> Result<String> {
+    let mut text = String::new(alloc);
+    text.push_str("def f(x):\n if x:0\n")?;
+    for _ in 0..LENGTH {
+        if text.len() > LENGTH - LONGEST_PIECE {
+            break;
+        }
+        text.push_str(" elif 1:0\n")?;
+    }
+    Ok(text)
+}
+
+/// One `load` of many names.
+fn loaded_names(alloc: Global) -> Result<String> {
+    let mut text = String::new(alloc);
+    text.push_str("load(\":a.bzl\"")?;
+    for i in 0..LENGTH {
+        if text.len() > LENGTH - LONGEST_PIECE {
+            break;
+        }
+        write!(text, ", \"x{i}\"")?;
+    }
+    text.push_str(")\n")?;
+    Ok(text)
+}
+
+/// Names that each file finds bound, inside of 99 comprehensions.
+fn names_inside(alloc: Global) -> Result<String> {
+    let mut text = String::new(alloc);
+    text.push_str("x = ")?;
+    for _ in 0..99 {
+        text.push('[')?;
+    }
+    text.push('[')?;
+    for _ in 0..LENGTH {
+        if text.len() > LENGTH - 99 * 24 {
+            break;
+        }
+        text.push_str("len, ")?;
+    }
+    text.push(']')?;
+    for i in 0..99 {
+        write!(text, " for a{i} in []]")?;
+    }
+    Ok(text)
+}
+
+/// Calls with keywords, as in a `BUILD` file.
+fn calls(alloc: Global) -> Result<String> {
+    let mut text = String::new(alloc);
+    for i in 0..10_000 {
+        if text.len() > LENGTH - LONGEST_PIECE {
+            break;
+        }
+        write!(
+            text,
+            "len(name = \"n{i}\", deps = [\":n{i}\"], text = \"t\" + str({i}))\n"
+        )?;
+    }
+    Ok(text)
+}
+
 fn verdict(alloc: Global, text: &str) -> &'static str {
     match parse(alloc, text, FileKind::Module) {
         Ok(_) => "a tree",
@@ -126,5 +190,21 @@ fn main(rt: HostRuntime) -> Result<()> {
     report(&rt, alloc, "long list", long_list(alloc)?.as_str(), timed)?;
     report(&rt, alloc, "deep lists", deep_lists(alloc)?.as_str(), timed)?;
     report(&rt, alloc, "signs", signs(alloc)?.as_str(), timed)?;
+    report(&rt, alloc, "branches", branches(alloc)?.as_str(), timed)?;
+    report(
+        &rt,
+        alloc,
+        "loaded names",
+        loaded_names(alloc)?.as_str(),
+        timed,
+    )?;
+    report(
+        &rt,
+        alloc,
+        "names inside",
+        names_inside(alloc)?.as_str(),
+        timed,
+    )?;
+    report(&rt, alloc, "calls", calls(alloc)?.as_str(), timed)?;
     Ok(())
 }

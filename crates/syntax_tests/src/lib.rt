@@ -7,3 +7,5 @@ mod expressions;
 mod files;
 #[cfg(test)]
 mod names;
+#[cfg(test)]
+mod repeats;

@@ -9,9 +9,9 @@ pub returns-in_ok-made-in-Load : goal.returns-in_ok-made-in-Load
 returns-in_ok-made-in-Load c =
     let s = c.args.scope.now in (
       ap (λ f. form_scoped s (form_of f)) c.in-Load.is,
-      λ t inner other.
-          c.in_ok-made-in-Load.ensures
-          ∙ ap (λ is. resolved.load c.in-Load.path (map (λ i. record { asked = i.asked; binds = binding_of s i.binds }) (map item_of is))) c.as_slice.ensures.value
-          ∙ ap (λ f. resolved.statement s (form_of f) t inner other) (sym c.in-Load.is),
+      ap resolved.simple
+          (c.in_ok-made-in-Load.ensures
+          ∙ ap (λ is. resolved.load c.in-Load.path (map (λ i. record { asked = i.asked; binds = binding_of s i.binds }) (map item_of is))) c.as_slice.ensures.value)
+          ∙ ap (λ f. resolved.head s (form_of f)) (sym c.in-Load.is),
       refl,
     )

@@ -1,0 +1,19 @@
+use Rattle.std.proofs.Common.{◌≡◌, Ok}
+use Rattle.grammar.specs.Blocks.{Block}
+use Rattle.grammar.specs.BareLines.{bare_lines}
+use Rattle.syntax.specs.Files.{syntax}
+use Rattle.syntax.specs.ParsedView.{program_of}
+use Rattle.syntax.specs.ProgramDepth.{IsShallow}
+use Rattle.syntax.specs.Resolved.{resolved}
+use Rattle.syntax.proofs.FileDepths.{program_shallow}
+use Rattle.syntax.proofs.ProgramLemmas.{if_ok_then}
+use Rattle.syntax.proofs.parsing.parse.Goals as goal
+
+pub returns-clause-shallow : goal.returns-clause-shallow
+returns-clause-shallow c =
+    let text = c.args.text.now in
+    if_ok_then c.read.result
+    (λ p. (tree : Block) × (syntax text c.args.kind ≡ Ok tree) × (program_of p ≡ resolved (bare_lines tree)))
+    (λ p. IsShallow (program_of p))
+    (λ p t. program_shallow text c.args.kind t.0 (program_of p) t.1 t.2)
+    c.read.ensures.tree
