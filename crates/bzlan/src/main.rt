@@ -1,24 +1,11 @@
 //! `bzlan`, the analysis phase of a Bazel build: words and a workspace in, a report and a status out.
 #![tactic(auto)]
 
-mod devices;
-mod engine;
-mod input;
-mod serve;
-mod stops;
-mod words;
-
-pub use devices::{
-    Counted, INPUT_LIMIT, InputStop, Sink, Source, WriteFailed, read_input, write_all,
-};
-pub use engine::analyse;
-pub use input::{InputRefused, read_workspace};
-pub use pool::{Gate, NoGate, NodeId};
-use serve::serve;
+use devices::Counted;
+use pool::NoGate;
+use serve::{ServeStop, closing, serve};
 use std::process::ExitCode;
 use std::{env, io};
-pub use stops::{AnalyseStop, ServeStop, closing};
-pub use words::{Request, WordsStop, read_words};
 
 /// The words of the command line, the program's name first.
 ///
@@ -60,20 +47,3 @@ fn main(rt: HostRuntime) -> ExitCode {
     }
     ExitCode::from(status)
 }
-
-#[cfg(test)]
-mod asking;
-#[cfg(test)]
-mod device_tests;
-#[cfg(test)]
-mod engine_tests;
-#[cfg(test)]
-mod gate_tests;
-#[cfg(test)]
-mod memory;
-#[cfg(test)]
-mod second_tests;
-#[cfg(test)]
-mod serve_tests;
-#[cfg(test)]
-mod tests;

@@ -1,0 +1,14 @@
+//! A whole request: from the words of the command line and an input to the report that is written, and to the exit
+//! status.
+//!
+//! [`serve`] reads, analyses and writes, over any reader and writer; [`analyse`] is the analysis
+//! alone, of a workspace in memory; [`closing`] says how the program ends.
+#![tactic(auto)]
+
+mod analysis;
+mod serving;
+mod stops;
+
+pub use analysis::analyse;
+pub use serving::serve;
+pub use stops::{AnalyseStop, ServeStop, closing};
