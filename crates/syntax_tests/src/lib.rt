@@ -7,5 +7,3 @@ mod expressions;
 mod files;
 #[cfg(test)]
 mod names;
-#[cfg(test)]
-mod repeats;
