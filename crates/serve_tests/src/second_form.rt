@@ -112,23 +112,23 @@ fn names_of_the_second_form(rt: HostRuntime) -> Result<(), Fail> {
 
 #[test]
 fn targets_that_are_declared_otherwise(rt: HostRuntime) -> Result<(), Fail> {
-    for targets in [
+    for (first, second) in [
         // an empty list, a dependency on a later line, on itself, on nothing, one twice
-        [("a", ""), ("x", "[]")],
-        [("x", "[\":a\"]"), ("a", "")],
-        [("a", ""), ("x", "[\":x\"]")],
-        [("a", ""), ("x", "[\":b\"]")],
-        [("a", ""), ("x", "[\":a\", \":a\"]")],
+        (("a", ""), ("x", "[]")),
+        (("x", "[\":a\"]"), ("a", "")),
+        (("a", ""), ("x", "[\":x\"]")),
+        (("a", ""), ("x", "[\":b\"]")),
+        (("a", ""), ("x", "[\":a\", \":a\"]")),
         // a label in other words
-        [("a", ""), ("x", "[\"a\"]")],
-        [("a", ""), ("x", "[\"//a:a\"]")],
-        [("a", ""), ("x", "[\"\"]")],
+        (("a", ""), ("x", "[\"a\"]")),
+        (("a", ""), ("x", "[\"//a:a\"]")),
+        (("a", ""), ("x", "[\"\"]")),
         // a name twice, an illegal one
-        [("x", ""), ("x", "")],
-        [(":x", ""), ("x", "")],
-        [("", ""), ("x", "")],
+        (("x", ""), ("x", "")),
+        ((":x", ""), ("x", "")),
+        (("", ""), ("x", "")),
     ] {
-        let build = build_file(rt.alloc(), &targets)?;
+        let build = build_file(rt.alloc(), &[first, second])?;
         assert!(rt;
             is_told(&rt, build.as_str(), &["//a:x"], "later")?,
             "{build}"
