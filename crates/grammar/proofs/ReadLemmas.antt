@@ -1,6 +1,6 @@
 -- Lines that are read one after the other.
 use Rattle.std.proofs.Common.{◌≡◌, ◌+◌, ℕ, zero, suc, ◌≤◌, Bool, List, [], ◌∷◌, ◌++◌, length, map, drop, slice_get, Option, Some, refl, sym, ap, ◌∙◌, arith}
-use Rattle.std.specs.Prelude.{filter_map, option_map}
+use Rattle.std.specs.Prelude.{filter_map, option_map, Result, Ok, Err, IfOk}
 use Rattle.std.specs.List.{cons_option}
 use Rattle.std.proofs.lemmas.List.{drop_all}
 use Rattle.grammar.specs.declared.outline.Outline.{Outline}
@@ -10,6 +10,11 @@ use Rattle.grammar.specs.Blocks.{Laid, laid}
 use Rattle.grammar.specs.Built.{Made}
 use Rattle.grammar.specs.FormDescent.{Shaped, reads_form}
 use Rattle.grammar.specs.FormView.{formed_as, is_text, line_read, outline_read}
+
+-- what follows of a value that there may be
+pub if_ok_then : {A E : Type 0} (r : Result A E) (P Q : A → Type 0) → ((x : A) → P x → Q x) → IfOk r P → IfOk r Q
+if_ok_then (Ok x) P Q f h = f x h
+if_ok_then (Err e) P Q f h = tt
 
 drop_next : {A : Type 0} (xs : List A) (i : ℕ) (x : A) → slice_get xs i ≡ Some x → drop i xs ≡ x ∷ drop (suc i) xs
 drop_next [] i x e = absurd cc

@@ -12,11 +12,17 @@ use Rattle.grammar.specs.declared.parts.Arguments as arguments
 use Rattle.grammar.specs.declared.parts.Conditions as conditions
 use Rattle.grammar.specs.declared.ahead.Stop.{Stop}
 use Rattle.grammar.specs.Ahead.{Reads}
-use Rattle.grammar.specs.Descent.{Part, Several, Pairs, Arguments, Conditions, read}
+use Rattle.grammar.specs.declared.tree.Target as targets
+use Rattle.grammar.specs.declared.tree.Target.TheVariants as t
+use Rattle.grammar.specs.Descent.{Part, Several, Pairs, Arguments, Conditions, Target, target_name, target_at, read}
 use Rattle.grammar.specs.TreeView.{tree_of, entry_of, keyword_of, clause_of}
 
 abbrev pub part_seen : part.Part → Part
 part_seen p = record { tree = tree_of p.expr; depth = p.depth; is_target = p.is_target }
+
+abbrev pub target_of : targets.Target → Target
+target_of (t.Name x) = target_name x
+target_of (t.At f a) = target_at (tree_of f.value) (tree_of a.value)
 
 abbrev pub several_seen : several.Several → Several
 several_seen s = record { trees = map tree_of s.items.items; depth = s.depth }

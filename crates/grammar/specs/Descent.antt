@@ -84,6 +84,16 @@ list_each_part r a c = over r false (each a.tree (rests_of c.clauses)) (max a.de
 abbrev pub dict_each_part : ℕ → Part × Part → Conditions → Option Part
 dict_each_part r e c = over r false (each_entry e.0.tree e.1.tree (rests_of c.clauses)) (max (max e.0.depth e.1.depth) c.depth)
 
+-- what can be assigned to, and how a tree is that
+pub data Target : Type 0 where
+  target_name : List ℕ → Target
+  target_at : Tree → Tree → Target
+
+abbrev pub target_in : Tree → Option Target
+target_in (named x) = Some (target_name x)
+target_in (subscript f a) = Some (target_at f a)
+target_in _ = None
+
 -- what stands alone in brackets is no target
 abbrev pub bracketed : Part → Part
 bracketed a = record { tree = a.tree; depth = a.depth; is_target = false }

@@ -7,14 +7,14 @@ use Rattle.grammar.specs.declared.expressions.Row.TheVariants.{Whole}
 use Rattle.grammar.specs.declared.ahead.Opening.{Opening}
 use Rattle.grammar.specs.declared.ahead.Opening.TheVariants as o
 use Rattle.lexer.specs.Tokens.{Token, word, mark}
-use Rattle.grammar.specs.Bare.{Tree, named, subscript}
+use Rattle.grammar.specs.Bare.{Tree}
 use Rattle.grammar.specs.BareLines.{Param, required, optional, Item, Form, loads, defines, if_head, elif_head, else_head, for_head, assigns, assigns_at, increases, increases_at, evaluates, passes, breaks, continues, returns}
 use Rattle.grammar.specs.Built.{Belongs, nothing, block, statement}
 use Rattle.grammar.specs.Front.{name_at, names_in, behind_comma, behind_colon}
 use Rattle.grammar.specs.Reading.{Parse, then_read}
 use Rattle.grammar.specs.FormReading.{then_found, names_to}
 use Rattle.grammar.specs.Ahead.{is_done, named_at, string_at}
-use Rattle.grammar.specs.Descent.{Part, Several, no_items, with_item, tuple_part, given, gather, if_all, read}
+use Rattle.grammar.specs.Descent.{Part, Target, target_name, target_at, target_in, Several, no_items, with_item, tuple_part, given, gather, if_all, read}
 
 -- how a line begins: with a word that begins no expression, or with none
 unfoldable pub opening_at : List Token → Option (Opening × List Token)
@@ -49,19 +49,19 @@ behind_open _ = None
 
 -- what is assigned to
 abbrev pub assigned : Part → List (List ℕ) → Tree → Option Form
-assigned p xs t = assigned_to p.is_target p.tree xs t
+assigned p xs t = assigned_to p.is_target (target_in p.tree) xs t
   where
-    assigned_to : Bool → Tree → List (List ℕ) → Tree → Option Form
-    assigned_to true (named x) xs t = Some (assigns x xs t)
-    assigned_to true (subscript f a) [] t = Some (assigns_at f a t)
+    assigned_to : Bool → Option Target → List (List ℕ) → Tree → Option Form
+    assigned_to true (Some (target_name x)) xs t = Some (assigns x xs t)
+    assigned_to true (Some (target_at f a)) [] t = Some (assigns_at f a t)
     assigned_to _ _ _ _ = None
 
 abbrev pub increased : Part → Tree → Option Form
-increased p t = increased_to p.is_target p.tree t
+increased p t = increased_to p.is_target (target_in p.tree) t
   where
-    increased_to : Bool → Tree → Tree → Option Form
-    increased_to true (named x) t = Some (increases x t)
-    increased_to true (subscript f a) t = Some (increases_at f a t)
+    increased_to : Bool → Option Target → Tree → Option Form
+    increased_to true (Some (target_name x)) t = Some (increases x t)
+    increased_to true (Some (target_at f a)) t = Some (increases_at f a t)
     increased_to _ _ _ = None
 
 -- a line, and what belongs to it

@@ -2,6 +2,8 @@
 
 ghost use Rattle.std.specs.Prelude.{◌≡◌, ◌≤◌, ◌↔◌, ◌∷◌, ℕ, List, [], map, Ok, Err};
 ghost use Rattle.lexer.specs.Tokens.{Placed};
+ghost use Rattle.lexer.specs.LaidOut.{IsReading};
+ghost use Rattle.grammar.specs.StatementFault.{RefusedAtFirst};
 ghost use Rattle.grammar.specs.Places.{Place};
 ghost use Rattle.grammar.specs.Blocks.{Block, Laid, SpellsFile, laid};
 ghost use Rattle.grammar.specs.BlockReading.{file_reads};
@@ -23,6 +25,11 @@ pub fn files_are_read()
 /// The outlines of logical lines tell at which of them a file is refused.
 pub fn outlines_tell_the_fault()
     ensures { (p : Place) (lines : List Laid) (n : ℕ) → (file_reads p lines ≡ Err n) ↔ (pass (map outline_of lines) (top_level (place_of p) ∷ []) ≡ Err n) }
+{}
+
+/// The logical lines of a text are refused at the first line with which they no longer begin a file.
+pub fn faults_are_the_first()
+    ensures { (text : List ℕ) (lines : List (List Placed)) → IsReading text lines → (p : Place) → RefusedAtFirst p lines }
 {}
 
 /// Brackets alone and commas at the end add nothing to the depth of an expression, and in the lines of a file none is more

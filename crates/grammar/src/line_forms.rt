@@ -20,7 +20,7 @@ use crate::expressions::{Row, expression};
 use crate::parts;
 use crate::parts::{Part, Several};
 use crate::statements::{Form, Item, Param};
-use crate::tree::Expr;
+use crate::tree::{Expr, Target};
 use crate::whole::MAX_DEPTH;
 use lexer::{Bracket, Lines, NoMemory, Token, unescape};
 use plain::Text;
@@ -41,16 +41,16 @@ fn assigned(target: Part, names: Vec<Text>, value: Expr) -> Result<Form, Stop>
     if !target.is_target {
         return Err(Stop::NoForm);
     }
-    match target.expr {
-        Expr::Name(name) => Ok(Form::Assign(name, names, value)),
-        Expr::Index(base, at) => {
+    match target.expr.into_target() {
+        Some(Target::Name(name)) => Ok(Form::Assign(name, names, value)),
+        Some(Target::At(base, at)) => {
             if names.is_empty() {
                 Ok(Form::AssignAt(base, at, value))
             } else {
                 Err(Stop::NoForm)
             }
         }
-        _ => Err(Stop::NoForm),
+        None => Err(Stop::NoForm),
     }
 }
 
@@ -61,10 +61,10 @@ fn increased(target: Part, value: Expr) -> Result<Form, Stop>
     if !target.is_target {
         return Err(Stop::NoForm);
     }
-    match target.expr {
-        Expr::Name(name) => Ok(Form::Add(name, value)),
-        Expr::Index(base, at) => Ok(Form::AddAt(base, at, value)),
-        _ => Err(Stop::NoForm),
+    match target.expr.into_target() {
+        Some(Target::Name(name)) => Ok(Form::Add(name, value)),
+        Some(Target::At(base, at)) => Ok(Form::AddAt(base, at, value)),
+        None => Err(Stop::NoForm),
     }
 }
 

@@ -1,10 +1,11 @@
 //! The pass over the statements of a text: each logical line is read by itself, then all are seen to stand where they
 //! may, and are put into their blocks.
 
-ghost use Rattle.std.specs.Prelude.{◌≡◌, ◌++◌, ◌<◌, ℕ, List, [], ◌∷◌, length, map, filter_map, slice_get, Some, Ok, IfOk, OnOk};
+ghost use Rattle.std.specs.Prelude.{◌≡◌, ◌++◌, ◌<◌, ◌≤◌, ℕ, List, [], ◌∷◌, length, map, filter_map, slice_get, Some, Ok, IfOk, OnOk};
 ghost use Rattle.std.specs.List.{cons_option};
 ghost use Rattle.std.specs.Option.{option_map};
 ghost use Rattle.grammar.specs.Ahead.{tokens_seen};
+ghost use Rattle.grammar.specs.BareDepth.{lines_depth};
 ghost use Rattle.grammar.specs.BareLines.{bare_lines};
 ghost use Rattle.grammar.specs.BlockReading.{file_reads};
 ghost use Rattle.grammar.specs.Blocks.{Block, laid};
@@ -181,13 +182,8 @@ fn top_of(kind: FileKind) -> Place
     }
 }
 
-/// Reads the logical lines of a file and puts them into their blocks.
-///
-/// # Errors
-///
-/// A fault of the statements at the first line that has no form, or stands where it may not. Want of memory may be
-/// answered in its place.
-pub fn read_file(alloc: Global, lines: &Lines, kind: FileKind) -> Result<Vec<Line>, ParseStop>
+/// The same as [`read_file`].
+fn blocks_of(alloc: Global, lines: &Lines, kind: FileKind) -> Result<Vec<Line>, ParseStop>
     ensures tree { IfOk result (λ ls. (tree : Block) × (file_reads (top_of kind) (map laid lines.now.lines) ≡ Ok tree) × (view.lines ls.items ≡ bare_lines tree)) }
     ensures fault { FaultsAt FaultKind.Statement (file_reads (top_of kind) (map laid lines.now.lines)) result }
 {
@@ -200,4 +196,19 @@ pub fn read_file(alloc: Global, lines: &Lines, kind: FileKind) -> Result<Vec<Lin
         Err(stop) => return Err(stop),
     }
     Ok(file_lines(alloc, read.reads)?)
+}
+
+/// Reads the logical lines of a file and puts them into their blocks. No expression in them is more than
+/// [`MAX_DEPTH`](crate::MAX_DEPTH) deep.
+///
+/// # Errors
+///
+/// A fault of the statements at the first line that has no form, or stands where it may not. Want of memory may be
+/// answered in its place.
+pub fn read_file(alloc: Global, lines: &Lines, kind: FileKind) -> Result<Vec<Line>, ParseStop>
+    ensures tree { IfOk result (λ ls. (tree : Block) × (file_reads (top_of kind) (map laid lines.now.lines) ≡ Ok tree) × (view.lines ls.items ≡ bare_lines tree)) }
+    ensures shallow { IfOk result (λ ls. lines_depth (view.lines ls.items) ≤ 200) }
+    ensures fault { FaultsAt FaultKind.Statement (file_reads (top_of kind) (map laid lines.now.lines)) result }
+{
+    blocks_of(alloc, lines, kind)
 }

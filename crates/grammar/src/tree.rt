@@ -2,6 +2,9 @@
 //! the end, is gone.
 
 ghost use Rattle.std.specs.Prelude.{◌≡◌, IfOk};
+ghost use Rattle.std.specs.Option.{option_map};
+ghost use Rattle.grammar.specs.Descent.{target_in};
+ghost use Rattle.grammar.specs.Descended.{target_of};
 ghost use Rattle.grammar.specs.Bare as bare;
 ghost use Rattle.grammar.specs.TreeView.{operator_seen, sign_seen, tree_of, trees, entries, keywords, rests};
 
@@ -37,7 +40,6 @@ pub enum Sign {
 
 /// An expression. It is at most 200 deep in a text that was read.
 #[cycle(tree)]
-#[derive(Drop)]
 pub enum Expr {
     /// A name; `None`, `True` and `False` are names.
     Name(Text),
@@ -59,6 +61,61 @@ pub enum Expr {
     ListEach(Box<Expr>, Vec<Clause>),
     /// `{KEY: VALUE for ..}`.
     DictEach(Box<Expr>, Box<Expr>, Vec<Clause>),
+}
+
+// By hand, so that letting one go is a call and isn't written out wherever one may be let go.
+impl Drop for Expr {
+    #[cycle(tree)]
+    fn drop(self) {
+        match self {
+            Expr::Name(_) => {}
+            Expr::Number(_) => {}
+            Expr::Str(_) => {}
+            Expr::Tuple(_) => {}
+            Expr::ListOf(_) => {}
+            Expr::DictOf(_) => {}
+            Expr::Choice(_, _, _) => {}
+            Expr::Binary(_, _, _) => {}
+            Expr::Unary(_, _) => {}
+            Expr::Attribute(_, _) => {}
+            Expr::Index(_, _) => {}
+            Expr::Call(_, _, _) => {}
+            Expr::ListEach(_, _) => {}
+            Expr::DictEach(_, _, _) => {}
+        }
+    }
+}
+
+/// What can be assigned to.
+#[derive(Drop)]
+pub(crate) enum Target {
+    Name(Text),
+    /// `BASE[INDEX]`.
+    At(Box<Expr>, Box<Expr>),
+}
+
+impl Expr {
+    /// The expression as what is assigned to; None where it is neither a name nor an index.
+    pub(crate) fn into_target(self) -> Option<Target>
+        ensures { option_map target_of result ≡ target_in (tree_of self) }
+    {
+        match self {
+            Expr::Name(name) => Some(Target::Name(name)),
+            Expr::Index(base, at) => Some(Target::At(base, at)),
+            Expr::Number(_) => None,
+            Expr::Str(_) => None,
+            Expr::Tuple(_) => None,
+            Expr::ListOf(_) => None,
+            Expr::DictOf(_) => None,
+            Expr::Choice(_, _, _) => None,
+            Expr::Binary(_, _, _) => None,
+            Expr::Unary(_, _) => None,
+            Expr::Attribute(_, _) => None,
+            Expr::Call(_, _, _) => None,
+            Expr::ListEach(_, _) => None,
+            Expr::DictEach(_, _, _) => None,
+        }
+    }
 }
 
 /// An entry of a dict.
