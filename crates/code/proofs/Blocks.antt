@@ -2,17 +2,17 @@
 use Rattle.std.proofs.Common.{◌≡◌, ℕ, suc, ◌+◌, List, [], ◌∷◌, ◌++◌, length, Option, Some, None, refl, ap, ◌∙◌, arith}
 use Rattle.code.specs.Instructions as instr
 use Rattle.syntax.specs.Resolved.{Term, Statement, load, assign, assign_item, add_to, add_to_item, evaluate, pass, break_loop, continue_loop, give_back, branch, loop, define, Branches, no_branches, a_branch, Steps, no_steps, step}
-use Rattle.code.specs.Names.{Binding, slot, global, builtin, Loaded}
+use Rattle.code.specs.Names.{Binding, Loaded}
 use Rattle.code.specs.Operations.{FunctionId}
-use Rattle.code.specs.Outcome.{Slots, Outcome, done, ◌>>=◌, act, put, Here}
-use Rattle.code.specs.Functions.{defines, Files, function_name}
+use Rattle.code.specs.Outcome.{Slots, Outcome, ◌>>=◌, pure, act, change, Here}
+use Rattle.code.specs.Functions.{Files, function_name}
 use Rattle.code.specs.Expressions.{Invoke, set, read, assigned, eval, evals}
-use Rattle.code.specs.Statements.{Doing, End, after_step, loop_turns, set_import, imports, given_back, exec, branches, block}
+use Rattle.code.specs.Statements.{Doing, End, next, after_step, loop_turns, imports, given_back, exec, branches, block}
 use Rattle.code.specs.Instructions.{Instruction, Codes, code_name}
 use Rattle.code.specs.Machine.{Walk, Next, doing, returning, outer, all_ended}
 use Rattle.code.specs.Performing.{performs}
 use Rattle.code.specs.ExpressionCode.{Lines, turn_code, count, set_code, expr_code, exprs_code}
-use Rattle.code.specs.StatementCode.{import_code, imports_code, back_code, stmt_code, branches_code, block_code}
+use Rattle.code.specs.StatementCode.{imports_code, back_code, stmt_code, branches_code, block_code}
 use Rattle.code.proofs.Leads.{Gives, stays, same, stepped, gives_then, gives_all, gives_as}
 use Rattle.code.proofs.OneStep.{Site, config, onto, taken, Calls, here_at, frame, now, At, cut, one, op, arrived, read_runs, set_runs, assign_runs}
 use Rattle.code.proofs.Forms.{either_runs, length_of}
@@ -57,20 +57,13 @@ module _ {S V K : Type 0} (site : Site S V K) (invoke : Invoke S V K) (calls : C
       Goes (at_now pc l (v ∷ []) ws s) (set site.ops (here at) b v l s) (λ _ l s. at_now pc' l [] ws s)
   sets at b v pc pc' l ws s h = set_runs site at b v pc pc' l [] [] ws s h
 
-  binds : (at : ℕ) (b : Binding) (v : V) (pc pc' : ℕ) (l : Slots V) (ws : List (Walk V)) (s : S) →
-      Stood pc (import_code at b ∷ []) pc' →
-      Goes (at_now pc l (v ∷ []) ws s) (set_import site.ops (here at) b v l s) (λ _ l s. at_now pc' l [] ws s)
-  binds at (slot n) v pc pc' l ws s h = acts at (instr.store_slot n) pc pc' l (v ∷ []) ws s (λ _. []) (done tt (put n (Some v) l) s) h refl
-  binds at (global n) v pc pc' l ws s h = acts at (instr.store_loaded n) pc pc' l (v ∷ []) ws s (λ _. []) (done tt l (site.ops.set_loaded site.fn.file n v s)) h refl
-  binds at (builtin p) v pc pc' l ws s h = acts at instr.drop_top pc pc' l (v ∷ []) ws s (λ _. []) (done tt l s) h refl
-
   imports_run : (at : ℕ) (m : List ℕ) (is : List Loaded) (pc pc' : ℕ) (l : Slots V) (ws : List (Walk V)) (s : S) →
       Stood pc (imports_code at m is) pc' →
       Goes (at_now pc l [] ws s) (imports site.ops (here at) m is l s) (λ _ l s. at_now pc' l [] ws s)
   imports_run at m [] pc pc' l ws s h = record { by = arrived site pc pc' l [] [] ws s h }
   imports_run at m (i ∷ is) pc pc' l ws s h =
       gives_then (act (here at) (site.ops.loaded site.fn.file m i.asked) l s) (acts at (instr.import m i.asked) pc (suc pc) l [] ws s (λ v. v ∷ []) (act (here at) (site.ops.loaded site.fn.file m i.asked) l s) (h.0, refl) refl) (λ v l s.
-      gives_then (set_import site.ops (here at) i.binds v l s) (binds at i.binds v (suc pc) (suc (suc pc)) l ws s (h.1.0, refl)) (λ _ l s.
+      gives_then (change (site.ops.set_loaded site.fn.file i.binds v) l s) (acts at (instr.store_loaded i.binds) (suc pc) (suc (suc pc)) l (v ∷ []) ws s (λ _. []) (change (site.ops.set_loaded site.fn.file i.binds v) l s) (h.1.0, refl) refl) (λ _ l s.
       imports_run at m is (suc (suc pc)) pc' l ws s h.1.1))
 
   back_runs : (at : ℕ) (o : Option Term) (pc pc' : ℕ) (l : Slots V) (ws : List (Walk V)) (s : S) →
@@ -87,16 +80,16 @@ module _ {S V K : Type 0} (site : Site S V K) (invoke : Invoke S V K) (calls : C
   mutual
     unfolding exec
 
-    pub stmt_runs : (st : Statement) (at k pc pc' : ℕ) (l : Slots V) (ws : List (Walk V)) (s : S) →
-        Stood pc (stmt_code at k st) pc' →
-        Goes (at_now pc l [] ws s) (exec site.ops invoke files st k (here at) l s) (done_at pc' ws)
-    stmt_runs (load m is) at k pc pc' l ws s h =
+    pub stmt_runs : (st : Statement) (at pc pc' : ℕ) (l : Slots V) (ws : List (Walk V)) (s : S) →
+        Stood pc (stmt_code at st) pc' →
+        Goes (at_now pc l [] ws s) (exec site.ops invoke files st (here at) l s) (done_at pc' ws)
+    stmt_runs (load m is) at pc pc' l ws s h =
         gives_then (imports site.ops (here at) m is l s) (imports_run at m is pc pc' l ws s h) (λ _ l s. record { by = stays })
-    stmt_runs (assign bs e) at k pc pc' l ws s h =
+    stmt_runs (assign bs e) at pc pc' l ws s h =
         let p = split pc pc' (expr_code at e) _ h in
         gives_then (eval site.ops invoke e (here at) l s) (value_runs at e pc p.0 l [] ws s p.1) (λ v l s.
         gives_then (assigned site.ops (here at) bs v l s) (assign_runs site at bs v p.0 pc' l [] [] ws s p.2) (λ _ l s. record { by = stays }))
-    stmt_runs (assign_item f a e) at k pc pc' l ws s h =
+    stmt_runs (assign_item f a e) at pc pc' l ws s h =
         let p = split pc pc' (expr_code at e) _ h in
         let q = split p.0 pc' (expr_code at f) _ p.2 in
         let u = split q.0 pc' (expr_code at a) _ q.2 in
@@ -104,13 +97,13 @@ module _ {S V K : Type 0} (site : Site S V K) (invoke : Invoke S V K) (calls : C
         gives_then (eval site.ops invoke f (here at) l s) (value_runs at f p.0 q.0 l (v ∷ []) ws s q.1) (λ b l s.
         gives_then (eval site.ops invoke a (here at) l s) (value_runs at a q.0 u.0 l (b ∷ v ∷ []) ws s u.1) (λ i l s.
         gives_then (act (here at) (site.ops.set_item b i v) l s) (acts at instr.set_item u.0 pc' l (i ∷ b ∷ v ∷ []) ws s (λ _. []) (act (here at) (site.ops.set_item b i v) l s) u.2 refl) (λ _ l s. record { by = stays }))))
-    stmt_runs (add_to x e) at k pc pc' l ws s h =
+    stmt_runs (add_to x e) at pc pc' l ws s h =
         let p = split (suc pc) pc' (expr_code at e) _ h.1 in
         gives_then (read site.ops (here at) x l s) (read_runs site at x pc (suc pc) l [] [] ws s (h.0, refl)) (λ a l s.
         gives_then (eval site.ops invoke e (here at) l s) (value_runs at e (suc pc) p.0 l (a ∷ []) ws s p.1) (λ b l s.
         gives_then (act (here at) (site.ops.increase a b) l s) (acts at instr.increase p.0 (suc p.0) l (b ∷ a ∷ []) ws s (λ v. v ∷ []) (act (here at) (site.ops.increase a b) l s) (p.2.0, refl) refl) (λ v l s.
         gives_then (set site.ops (here at) x v l s) (sets at x v (suc p.0) pc' l ws s p.2.1) (λ _ l s. record { by = stays }))))
-    stmt_runs (add_to_item f a e) at k pc pc' l ws s h =
+    stmt_runs (add_to_item f a e) at pc pc' l ws s h =
         let p = split pc pc' (expr_code at f) _ h in
         let q = split p.0 pc' (expr_code at a) _ p.2 in
         let u = split (suc q.0) pc' (expr_code at e) _ q.2.1 in
@@ -120,20 +113,20 @@ module _ {S V K : Type 0} (site : Site S V K) (invoke : Invoke S V K) (calls : C
         gives_then (eval site.ops invoke e (here at) l s) (value_runs at e (suc q.0) u.0 l (x ∷ i ∷ b ∷ []) ws s u.1) (λ y l s.
         gives_then (act (here at) (site.ops.increase x y) l s) (acts at instr.increase u.0 (suc u.0) l (y ∷ x ∷ i ∷ b ∷ []) ws s (λ v. v ∷ i ∷ b ∷ []) (act (here at) (site.ops.increase x y) l s) (u.2.0, refl) refl) (λ v l s.
         gives_then (act (here at) (site.ops.set_item b i v) l s) (acts at instr.set_added (suc u.0) pc' l (v ∷ i ∷ b ∷ []) ws s (λ _. []) (act (here at) (site.ops.set_item b i v) l s) u.2.1 refl) (λ _ l s. record { by = stays }))))))
-    stmt_runs (evaluate e) at k pc pc' l ws s h =
+    stmt_runs (evaluate e) at pc pc' l ws s h =
         let p = split pc pc' (expr_code at e) _ h in
         gives_then (eval site.ops invoke e (here at) l s) (value_runs at e pc p.0 l [] ws s p.1) (λ v l s.
         one site at instr.drop_top p.0 l (v ∷ []) [] ws s p.2.0 refl (record { by = arrived site (suc p.0) pc' l [] [] ws s p.2.1 }))
-    stmt_runs pass at k pc pc' l ws s h = record { by = arrived site pc pc' l [] [] ws s h }
-    stmt_runs break_loop at k pc pc' l ws s h = record { by = to_left site at pc l ws s h.0 }
-    stmt_runs continue_loop at k pc pc' l ws s h = record { by = to_next site at pc l ws s h.0 }
-    stmt_runs (give_back o) at k pc pc' l ws s h =
+    stmt_runs pass at pc pc' l ws s h = record { by = arrived site pc pc' l [] [] ws s h }
+    stmt_runs break_loop at pc pc' l ws s h = record { by = to_left site at pc l ws s h.0 }
+    stmt_runs continue_loop at pc pc' l ws s h = record { by = to_next site at pc l ws s h.0 }
+    stmt_runs (give_back o) at pc pc' l ws s h =
         gives_then (given_back site.ops invoke o (here at) l s) (back_runs at o pc pc' l ws s h) (λ v l s. record { by = stays })
-    stmt_runs (branch bs other) at k pc pc' l ws s h =
-        branches_run bs (block_code k other) (block site.ops invoke files other k (here at)) at k ws
-        (λ pc pc' l s h. block_runs other at k pc pc' l ws s h) pc pc' l s h
-    stmt_runs (loop bs e a) at k pc pc' l ws s h =
-        let body = turn_code at bs ++ block_code k a in
+    stmt_runs (branch bs other) at pc pc' l ws s h =
+        branches_run bs (block_code other) (block site.ops invoke files other (here at)) at ws
+        (λ pc pc' l s h. block_runs other at pc pc' l ws s h) pc pc' l s h
+    stmt_runs (loop bs e a) at pc pc' l ws s h =
+        let body = turn_code at bs ++ block_code a in
         let n = length body + 1 in
         let p = split pc pc' (expr_code at e) _ h in
         let q = split (suc p.0) pc' body _ p.2.1 in
@@ -143,32 +136,32 @@ module _ {S V K : Type 0} (site : Site S V K) (invoke : Invoke S V K) (calls : C
         gives_then (eval site.ops invoke e (here at) l s) (value_runs at e pc p.0 l [] ws s p.1) (λ v l s.
         one site at (instr.begin_walk n) p.0 l (v ∷ []) [] ws s p.2.0 refl (
         gives_then {k = λ vs l s. at_now (suc p.0) l [] (record { of = v; items = vs; head = suc p.0; end = suc p.0 + n } ∷ ws) s} (act (here at) (site.ops.begin v) l s) (record { by = stays }) (λ vs l s.
-        gives_then (loop_turns site.ops (here at) (λ x. assigned site.ops (here at) bs x >>= λ _. block site.ops invoke files a k (here at)) vs l s) (loops_run site at bs (block site.ops invoke files a k (here at)) v (suc p.0) u.0 q.0 (suc p.0 + n) ws u.1 q.2.0 (λ l ws s.
-        block_runs a at k u.0 q.0 l ws s u.2) vs l s) (λ e l s.
+        gives_then (loop_turns site.ops (here at) (λ x. assigned site.ops (here at) bs x >>= λ _. block site.ops invoke files a (here at)) vs l s) (loops_run site at bs (block site.ops invoke files a (here at)) v (suc p.0) u.0 q.0 (suc p.0 + n) ws u.1 q.2.0 (λ l ws s.
+        block_runs a at u.0 q.0 l ws s u.2) vs l s) (λ e l s.
         record { by = same (ap (λ p. done_at p ws e l (site.ops.end v s)) e1) }))))
-    stmt_runs (define x ps ds n body) at k pc pc' l ws s h =
+    stmt_runs (define k x ps ds n body) at pc pc' l ws s h =
         let p = split pc pc' (exprs_code at ds) _ h in
         gives_all _ (evals site.ops invoke ds (here at) [] l s) (items_counted site.ops invoke (here at) ds l s) (exprs_run site invoke calls at ds [] pc p.0 l [] [] ws s p.1) (λ vs l s d.
         gives_then (act (here at) (site.ops.define (record { file = site.fn.file; number = k }) (function_name files (record { file = site.fn.file; number = k })) vs) l s) (acts at (instr.define k (count ds)) p.0 (suc p.0) l (onto vs []) ws s (λ v. v ∷ []) (act (here at) (site.ops.define (record { file = site.fn.file; number = k }) (function_name files (record { file = site.fn.file; number = k })) vs) l s) (p.2.0, refl) (taken vs [] (count ds) _ d ∙ ap (λ x. doing (act (here at) (site.ops.define (record { file = site.fn.file; number = k }) x vs) l s) (λ v l s. at_now (suc p.0) l (v ∷ []) ws s)) (names (record { file = site.fn.file; number = k })))) (λ v l s.
-        gives_then (set site.ops (here at) x v l s) (sets at x v (suc p.0) pc' l ws s p.2.1) (λ _ l s. record { by = stays })))
+        gives_then {f = λ _. pure next} (change (site.ops.set_global site.fn.file x v) l s) (acts at (instr.store_global x) (suc p.0) pc' l (v ∷ []) ws s (λ _. []) (change (site.ops.set_global site.fn.file x v) l s) p.2.1 refl) (λ _ l s. record { by = stays })))
 
-    branches_run : (bs : Branches) (c : Lines) (other : Doing S V K) (at k : ℕ) (ws : List (Walk V)) →
+    branches_run : (bs : Branches) (c : Lines) (other : Doing S V K) (at : ℕ) (ws : List (Walk V)) →
         ((pc pc' : ℕ) (l : Slots V) (s : S) → Stood pc c pc' → Goes (at_now pc l [] ws s) (other l s) (done_at pc' ws)) →
-        (pc pc' : ℕ) (l : Slots V) (s : S) → Stood pc (branches_code k bs c) pc' →
-        Goes (at_now pc l [] ws s) (branches site.ops invoke files bs other k (here at) l s) (done_at pc' ws)
-    branches_run no_branches c other at k ws run pc pc' l s h = run pc pc' l s h
-    branches_run (a_branch n e a bs) c other at k ws run pc pc' l s h =
+        (pc pc' : ℕ) (l : Slots V) (s : S) → Stood pc (branches_code bs c) pc' →
+        Goes (at_now pc l [] ws s) (branches site.ops invoke files bs other (here at) l s) (done_at pc' ws)
+    branches_run no_branches c other at ws run pc pc' l s h = run pc pc' l s h
+    branches_run (a_branch n e a bs) c other at ws run pc pc' l s h =
         let p = split pc pc' (expr_code n e) _ h in
         gives_then (eval site.ops invoke e (here n) l s) (value_runs n e pc p.0 l [] ws s p.1) (λ x l s.
-        either_runs site n (λ pc. done_at pc ws) [] [] ws (skips_ending site n ws) (block_code k a) (branches_code k bs c)
-        (block site.ops invoke files a k (here at)) (branches site.ops invoke files bs other k (here at))
-        (λ pc pc' l s h. block_runs a at k pc pc' l ws s h) (branches_run bs c other at k ws run) x p.0 pc' l s p.2)
+        either_runs site n (λ pc. done_at pc ws) [] [] ws (skips_ending site n ws) (block_code a) (branches_code bs c)
+        (block site.ops invoke files a (here at)) (branches site.ops invoke files bs other (here at))
+        (λ pc pc' l s h. block_runs a at pc pc' l ws s h) (branches_run bs c other at ws run) x p.0 pc' l s p.2)
 
-    pub block_runs : (b : Steps) (at k pc pc' : ℕ) (l : Slots V) (ws : List (Walk V)) (s : S) →
-        Stood pc (block_code k b) pc' →
-        Goes (at_now pc l [] ws s) (block site.ops invoke files b k (here at) l s) (done_at pc' ws)
-    block_runs no_steps at k pc pc' l ws s h = record { by = arrived site pc pc' l [] [] ws s h }
-    block_runs (step n st b) at k pc pc' l ws s h =
-        let p = split pc pc' (stmt_code n k st) _ h in
-        gives_then {f = after_step (block site.ops invoke files b (k + defines st) (here at))} (exec site.ops invoke files st k (here n) l s) (stmt_runs st n k pc p.0 l ws s p.1) (
-        step_ends site (block site.ops invoke files b (k + defines st) (here at)) p.0 pc' ws (λ l s. block_runs b at (k + defines st) p.0 pc' l ws s p.2))
+    pub block_runs : (b : Steps) (at pc pc' : ℕ) (l : Slots V) (ws : List (Walk V)) (s : S) →
+        Stood pc (block_code b) pc' →
+        Goes (at_now pc l [] ws s) (block site.ops invoke files b (here at) l s) (done_at pc' ws)
+    block_runs no_steps at pc pc' l ws s h = record { by = arrived site pc pc' l [] [] ws s h }
+    block_runs (step n st b) at pc pc' l ws s h =
+        let p = split pc pc' (stmt_code n st) _ h in
+        gives_then {f = after_step (block site.ops invoke files b (here at))} (exec site.ops invoke files st (here n) l s) (stmt_runs st n pc p.0 l ws s p.1) (
+        step_ends site (block site.ops invoke files b (here at)) p.0 pc' ws (λ l s. block_runs b at p.0 pc' l ws s p.2))

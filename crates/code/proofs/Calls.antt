@@ -10,11 +10,11 @@ use Rattle.syntax.specs.Resolved.{Program}
 use Rattle.code.specs.Operations.{recursion, deep, FunctionId, Callee, Arguments, Operations}
 use Rattle.code.specs.Outcome.{Slots, Outcome, done, fault, Final, final_of, ◌>>=◌, pure, act, Here, refused}
 use Rattle.code.specs.Entry.{in_file, same_function, entry, called}
-use Rattle.code.specs.Functions.{Function, Files, functions, function_at, its_name, function_name}
+use Rattle.code.specs.Functions.{Function, Files, functions, function_at, its_name, function_name, its_line, def_line}
 use Rattle.code.specs.Expressions.{Invoke}
 use Rattle.code.specs.Statements.{End, next, breaks, continues, returns, block}
 use Rattle.code.specs.Calls.{Going, inside, value_of, tested, written, chosen, running, invoke}
-use Rattle.code.specs.Instructions.{Instruction, FunctionCode, Codes, code_at, code_name}
+use Rattle.code.specs.Instructions.{Instruction, FunctionCode, Codes, code_at, code_line, code_name}
 use Rattle.code.specs.Machine.{Frame, Next, more, doing, choose, faults, returning, outer, finishing, frame_of, starting, starts, calls}
 use Rattle.code.specs.Performing.{line_of}
 use Rattle.code.specs.ExpressionCode.{Lines}
@@ -62,6 +62,13 @@ names_found files f = ap instr.its_name (code_found files f) ∙ as_named (funct
     as_named : (o : Option Function) → instr.its_name (option_map function_code o) ≡ its_name o
     as_named None = refl
     as_named (Some d) = refl
+
+pub line_found : (files : Files) (f : FunctionId) → code_line (code_of files) f ≡ def_line files f
+line_found files f = ap instr.its_line (code_found files f) ∙ as_lined (function_at files f)
+  where
+    as_lined : (o : Option Function) → instr.its_line (option_map function_code o) ≡ its_line o
+    as_lined None = refl
+    as_lined (Some d) = refl
 
 module _ {S V K : Type 0} (ops : Operations S V K) (files : Files) where
   abbrev codes : Codes
@@ -144,13 +151,13 @@ module _ {S V K : Type 0} (ops : Operations S V K) (files : Files) where
       (inv : Invoke S V K) (at : ℕ) (l : Slots V) (s : S) →
       function_at files fn ≡ Some d → Calls ops codes active inv →
       Gives ops codes V (now (site fn active below) 0 l [] [] [] s)
-      ((block ops inv files d.body d.first (active_at fn.file at active) >>= λ e. pure (value_of ops e)) l s)
+      ((block ops inv files d.body (active_at fn.file at active) >>= λ e. pure (value_of ops e)) l s)
       (λ v l s. returning v below (outer active) s)
   body_runs fn d active below inv at l s h made =
       let all = stands_all codes fn (function_code d) (code_found files fn ∙ ap (option_map function_code) h) (body_code d) [] refl in
-      let p = halves codes fn 0 _ (block_code d.first d.body) _ all in
-      gives_then (block ops inv files d.body d.first (active_at fn.file at active) l s)
-      (block_runs (site fn active below) inv made files (names_found files) d.body at d.first 0 p.0 l [] s p.1)
+      let p = halves codes fn 0 _ (block_code d.body) _ all in
+      gives_then (block ops inv files d.body (active_at fn.file at active) l s)
+      (block_runs (site fn active below) inv made files (names_found files) d.body at 0 p.0 l [] s p.1)
       (λ e l s. record { by = body_ends fn active below p.0 _ p.2 e l s })
 
   -- a function whose arguments fit
@@ -161,7 +168,7 @@ module _ {S V K : Type 0} (ops : Operations S V K) (files : Files) where
   begun_ends inv here lt f made below d l s h =
       subst (λ b. Ends below here.active (choose b (framed here f below l s) (faults here (ops.refusal deep))) (running ops files inv here f d l s))
       (sym (lt-ltb (length here.active) 128 lt))
-      (final_ends below here.active _ ((act here ops.tick >>= λ _. block ops inv files d.body d.first (inside f here) >>= λ e. pure (value_of ops e)) l s)
+      (final_ends below here.active _ ((act here ops.tick >>= λ _. block ops inv files d.body (inside f here) >>= λ e. pure (value_of ops e)) l s)
       (gives_then {k = λ _ l s. more (record { top = frame_of f l; below = below; active = f ∷ here.active; state = s })} (act here ops.tick l s)
       (record { by = stays }) (λ _ l s.
       body_runs f d (f ∷ here.active) below inv 0 l s h made)))

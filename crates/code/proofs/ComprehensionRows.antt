@@ -11,7 +11,7 @@ use Rattle.code.specs.Expressions.{eval}
 use Rattle.code.specs.Statements.{exec}
 use Rattle.code.specs.Calls.{invoke}
 use Rattle.code.proofs.Small.{nothing, number, list_at, found, steps, fresh}
-use Rattle.code.proofs.Written.{lines, local, list, one, each_in, sets, sets_global, calls, def, file, ends_with, fault_at, cell}
+use Rattle.code.proofs.Written.{lines, local, list, one, each_in, own, sets, sets_global, calls, def, file, ends_with, fault_at, cell}
 
 -- x = E
 abbrev assigning : Term → Program
@@ -19,11 +19,11 @@ assigning e = file (codes "x" ∷ []) (lines 1 (sets_global 0 e ∷ []))
 
 -- [q for p in [1] for q in [7]], in slots 0 and 1
 abbrev sevens : Term
-sevens = each (local 1) (each_in 0 (one 1) (each_in 1 (one 7) tree.done))
+sevens = each (own 0 2) (local 1) (each_in 0 (one 1) (each_in 1 (one 7) tree.done))
 
 -- x = [y for a in [q for p in [1] for q in [7]] for y in [y]]: what the first operand leaves in the slots isn't seen
 abbrev leftover : Program
-leftover = assigning (each (local 1) (each_in 0 sevens (each_in 1 (list (local 1 ∷ [])) tree.done)))
+leftover = assigning (each (own 0 2) (local 1) (each_in 0 sevens (each_in 1 (list (local 1 ∷ [])) tree.done)))
 
 leftover_is_unset : (ends_with leftover 3 ≡ fault_at (found unset) 1) × (ends_with leftover 2 ≡ fault_at steps 1)
 unfolding eval exec invoke put slot_value
@@ -31,7 +31,7 @@ leftover_is_unset = (refl, refl)
 
 -- x = [y for a in [q for p in [1] for q in [7]] if y for y in [5]]
 abbrev tested : Program
-tested = assigning (each (local 1) (each_in 0 sevens (only_if (local 1) (each_in 1 (one 5) tree.done))))
+tested = assigning (each (own 0 2) (local 1) (each_in 0 sevens (only_if (local 1) (each_in 1 (one 5) tree.done))))
 
 tested_is_unset : (ends_with tested 3 ≡ fault_at (found unset) 1) × (ends_with tested 2 ≡ fault_at steps 1)
 unfolding eval exec invoke put slot_value
@@ -39,7 +39,7 @@ tested_is_unset = (refl, refl)
 
 -- x = {y: a for a in [q for p in [1] for q in [7]] for y in [y]}
 abbrev keyed : Program
-keyed = assigning (each_pair (local 1) (local 0) (each_in 0 sevens (each_in 1 (list (local 1 ∷ [])) tree.done)))
+keyed = assigning (each_pair (own 0 2) (local 1) (local 0) (each_in 0 sevens (each_in 1 (list (local 1 ∷ [])) tree.done)))
 
 keyed_is_unset : (ends_with keyed 3 ≡ fault_at (found unset) 1) × (ends_with keyed 2 ≡ fault_at steps 1)
 unfolding eval exec invoke put slot_value
@@ -50,10 +50,10 @@ keyed_is_unset = (refl, refl)
 --     return [v for u in [q for p in l for q in l] for v in [v] if v]
 -- x = f()
 abbrev inside : Program
-inside = file (codes "f" ∷ codes "x" ∷ []) (step 1 (def 0 [] 1 (lines 2 (
+inside = file (codes "f" ∷ codes "x" ∷ []) (step 1 (def 0 [] 3 (lines 2 (
     sets 0 (one 1) ∷
-    give_back (Some (each (local 2)
-    (each_in 1 (each (local 2) (each_in 1 (local 0) (each_in 2 (local 0) tree.done)))
+    give_back (Some (each (own 1 3) (local 2)
+    (each_in 1 (each (own 1 3) (local 2) (each_in 1 (local 0) (each_in 2 (local 0) tree.done)))
     (each_in 2 (list (local 2 ∷ [])) (only_if (local 2) tree.done))))) ∷ [])))
     (lines 4 (sets_global 1 (calls 0 []) ∷ [])))
 
@@ -64,7 +64,7 @@ inside_is_unset = (refl, refl, refl)
 
 -- x = [v for u in [1, 2] for v in ([v] if u == 2 else [5])]: a name keeps its value from turn to turn
 abbrev kept : Program
-kept = assigning (each (local 1)
+kept = assigning (each (own 0 2) (local 1)
     (each_in 0 (list (numeral 1 ∷ numeral 2 ∷ []))
     (each_in 1 (choice (list (local 1 ∷ [])) (operates equal (local 0) (numeral 2)) (one 5)) tree.done)))
 
@@ -82,8 +82,8 @@ kept_is_five = refl
 
 -- x = [[w for u in [1] for w in ([w] if k == 2 else [5])] for k in [1, 2]]: and loses it from one evaluation to the next
 abbrev lost : Program
-lost = assigning (each
-    (each (local 2) (each_in 1 (one 1)
+lost = assigning (each (own 0 1)
+    (each (own 1 3) (local 2) (each_in 1 (one 1)
     (each_in 2 (choice (list (local 2 ∷ [])) (operates equal (local 0) (numeral 2)) (one 5)) tree.done)))
     (each_in 0 (list (numeral 1 ∷ numeral 2 ∷ [])) tree.done))
 
@@ -93,7 +93,7 @@ lost_is_unset = (refl, refl)
 
 -- x = [w for u in [1, 2] for w in [u, 5]]: a tick a turn and no other
 abbrev counted : Program
-counted = assigning (each (local 1)
+counted = assigning (each (own 0 2) (local 1)
     (each_in 0 (list (numeral 1 ∷ numeral 2 ∷ [])) (each_in 1 (list (local 0 ∷ numeral 5 ∷ [])) tree.done)))
 
 counted_six : ends_with counted 6 ≡ Ok (
@@ -114,7 +114,7 @@ counted_five = refl
 
 -- x = [u for u in [1] for w in [2]]: the names of a clause stay while those behind it are walked
 abbrev stays : Program
-stays = assigning (each (local 0) (each_in 0 (one 1) (each_in 1 (one 2) tree.done)))
+stays = assigning (each (own 0 2) (local 0) (each_in 0 (one 1) (each_in 1 (one 2) tree.done)))
 
 stays_one : ends_with stays 2 ≡ Ok (
   nothing,

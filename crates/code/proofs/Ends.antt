@@ -1,6 +1,6 @@
 -- A run has one end, and it is the one that is meant.
 use Rattle.std.proofs.Common.{◌≡◌, ℕ, zero, suc, ◌≤◌, [], ◌∷◌, Option, Some, None, refl, sym, ap, ◌∙◌, subst, ⊎_elim, arith}
-use Rattle.std.specs.Prelude.{Ok, Err, option_map}
+use Rattle.std.specs.Prelude.{Ok, Err, option_map, replicate}
 use Rattle.std.proofs.lemmas.Bool.{cases_lt}
 use Rattle.code.specs.Correct as spec
 use Rattle.code.specs.Operations.{FunctionId, Callee, Arguments, Operations}
@@ -15,8 +15,7 @@ use Rattle.code.specs.Performing.{step, Ending, ends, unfinished, gets_stuck, ru
 use Rattle.code.specs.StatementCode.{code_of, function_code}
 use Rattle.code.specs.Correct.{call_start, function_start, function_from, top_start, top_from}
 use Rattle.code.proofs.Leads.{Leads, Gives, stays}
-use Rattle.code.proofs.Lines.{line_found}
-use Rattle.code.proofs.Calls.{code_found, body_runs, written_ends, begun_ends, calls_run}
+use Rattle.code.proofs.Calls.{code_found, line_found, body_runs, written_ends, begun_ends, calls_run}
 
 abbrev IsOver : {S V K : Type 0} → Ending S V K → Type 0
 IsOver (ends o) = Unit {0}
@@ -85,8 +84,8 @@ module _ {S V K : Type 0} (ops : Operations S V K) (files : Files) where
       LeadsTo (top_from ops codes file s (option_map function_code o)) (top ops files file o s)
   top_leads file s None h = stays
   top_leads file s (Some d) h =
-      final_leads _ ((block ops (invoked 128) files d.body d.first (outside file 0) >>= λ e. pure (value_of ops e)) [] s)
-      (body_runs ops files (record { file = file; number = 0 }) d [] [] (invoked 128) 0 [] s h (calls_run ops files 128 [] refl))
+      final_leads _ ((block ops (invoked 128) files d.body (outside file 0) >>= λ e. pure (value_of ops e)) (replicate d.slots None) s)
+      (body_runs ops files (record { file = file; number = 0 }) d [] [] (invoked 128) 0 (replicate d.slots None) s h (calls_run ops files 128 [] refl))
 
   pub call_ends : (file at : ℕ) (g : Callee V) (args : Arguments V) (s : S) →
       spec.Ends ops codes (call_start ops codes file at g args s) (call_meaning ops files file at g args s)

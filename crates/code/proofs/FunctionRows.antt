@@ -3,7 +3,6 @@ use Rattle.std.proofs.Common.{◌≡◌, ℕ, [], ◌∷◌, Option, Some, None,
 use Rattle.std.specs.Prelude.{Ok, codes}
 use Rattle.syntax.specs.Resolved.{numeral, operates, invokes, selects, no_keywords, load, evaluate, pass, give_back, define, step, Program}
 use Rattle.grammar.specs.Tree.{both}
-use Rattle.code.specs.Names.{global}
 use Rattle.code.specs.Operations.{FunctionId, arity, recursion, deep, plain}
 use Rattle.code.specs.Outcome.{Final, put, slot_value}
 use Rattle.code.specs.Entry.{entry}
@@ -24,7 +23,7 @@ id n = record { file = 0; number = n }
 -- y = f()
 abbrev kept : Program
 kept = file (codes "f" ∷ codes "x" ∷ codes "y" ∷ []) (
-    step 1 (define (global 0) (codes "l" ∷ []) (terms (list [] ∷ [])) 1 (lines 2 (
+    step 1 (define 0 0 (codes "l" ∷ []) (terms (list [] ∷ [])) 1 (lines 2 (
     evaluate (append (local 0) (numeral 1)) ∷ give_back (Some (len_of (local 0))) ∷ []))) (
     lines 4 (sets_global 1 (calls 0 []) ∷ sets_global 2 (calls 0 []) ∷ [])))
 
@@ -123,7 +122,7 @@ conjunction_gives_operands = refl
 -- def g(): pass
 abbrev loading : Program
 loading = file (codes "x" ∷ codes "y" ∷ codes "f" ∷ codes "g" ∷ []) (lines 1 (
-    load (codes "m") (record { asked = codes "x"; binds = global 0 } ∷ []) ∷
+    load (codes "m") (record { asked = codes "x"; binds = 0 } ∷ []) ∷
     sets_global 1 (outer 0) ∷ def 2 [] 0 (lines 3 (pass ∷ [])) ∷ def 3 [] 0 (lines 4 (pass ∷ [])) ∷ []))
 
 -- a loaded name is none of the file's globals; functions have the names of their `def`s
@@ -156,7 +155,7 @@ called_from_outside = (refl, refl, refl)
 abbrev defaulting : Program
 defaulting = file (codes "x" ∷ codes "f" ∷ []) (lines 1 (
     sets_global 0 (numeral 1) ∷
-    define (global 1) (codes "a" ∷ []) (terms (fails ∷ [])) 1 (lines 2 (pass ∷ [])) ∷ []))
+    define 0 1 (codes "a" ∷ []) (terms (fails ∷ [])) 1 (lines 2 (pass ∷ [])) ∷ []))
 
 defaults_have_lines : ends_with defaulting 0 ≡ fault_at failed 2
 unfolding eval exec invoke put slot_value

@@ -6,7 +6,6 @@ pub mod Terms
 pub mod Loops
 pub mod Blocks
 pub mod Calls
-pub mod TermLines
 pub mod Lines
 pub mod Ends
 pub mod Terminates

@@ -12,7 +12,7 @@ use Rattle.code.specs.Expressions.{eval}
 use Rattle.code.specs.Statements.{exec}
 use Rattle.code.specs.Calls.{invoke}
 use Rattle.code.proofs.Small.{Value, nothing, number, list_at, function, Kind, found, steps, iterating, failed, Small, fresh}
-use Rattle.code.proofs.Written.{lines, local, list, each_in, sets, sets_global, calls, len_of, fails, append, def, file, ends_with, fault_at, called_with, cell}
+use Rattle.code.proofs.Written.{lines, local, list, each_in, own, sets, sets_global, calls, len_of, fails, append, def, file, ends_with, fault_at, called_with, cell}
 
 abbrev numbers : List Term
 numbers = numeral 1 ∷ numeral 2 ∷ numeral 3 ∷ []
@@ -131,11 +131,11 @@ returning_ticks = (refl, refl)
 -- w = f([1, 2, 3])
 abbrev nested : Program
 nested = file (codes "f" ∷ codes "w" ∷ []) (
-    step 1 (def 0 (codes "l" ∷ []) 3 (
+    step 1 (def 0 (codes "l" ∷ []) 4 (
     step 2 (loop (slot 1 ∷ []) (local 0) (
     step 3 (loop (slot 2 ∷ []) (local 0) (lines 4 (when 4 (is 2 2) (lines 5 (break_loop ∷ [])) ∷ []))) (
     lines 6 (when 6 (is 1 2) (lines 7 (
-    give_back (Some (each (local 3) (each_in 3 (local 0) (only_if (operates not_equal (local 3) (local 1)) tree.done)))) ∷ [])) ∷ [])))) (
+    give_back (Some (each (own 3 4) (local 3) (each_in 3 (local 0) (only_if (operates not_equal (local 3) (local 1)) tree.done)))) ∷ [])) ∷ [])))) (
     lines 8 (give_back (Some (local 0)) ∷ [])))) (
     lines 9 (sets_global 1 (calls 0 (list numbers ∷ [])) ∷ [])))
 

@@ -1,13 +1,13 @@
 -- One instruction, names, and calls.
-use Rattle.std.proofs.Common.{◌≡◌, ℕ, suc, ◌+◌, Bool, true, false, if◌then◌else◌, nat_eq, List, [], ◌∷◌, ◌++◌, length, map, Some, None, refl, ap, ◌∙◌, subst, arith}
+use Rattle.std.proofs.Common.{◌≡◌, ℕ, suc, ◌+◌, ◌-◌, Bool, true, false, if◌then◌else◌, nat_eq, List, [], ◌∷◌, ◌++◌, length, map, Option, Some, None, refl, ap, ◌∙◌, subst, arith}
 use Rattle.std.proofs.lemmas.Bool.{eqb-true}
 use Rattle.std.proofs.lemmas.List.{append-nil}
 use Rattle.std.specs.Prelude.{Ok, Err}
 use Rattle.code.specs.Instructions as instr
 use Rattle.syntax.specs.Names.{Name}
-use Rattle.code.specs.Names.{Binding, slot, global, builtin}
+use Rattle.code.specs.Names.{OwnSlots, Binding, slot, global, builtin}
 use Rattle.code.specs.Operations.{arity, FunctionId, Callee, Arguments, Operations}
-use Rattle.code.specs.Outcome.{Slots, Outcome, done, Final, Effect, raise, act, resumed, Here, put}
+use Rattle.code.specs.Outcome.{Slots, Outcome, done, Final, Effect, raise, act, resumed, Here, put, cleared}
 use Rattle.code.specs.Entry.{paired}
 use Rattle.code.specs.Expressions.{Invoke, set, set_each, assigned, forget, calling, read}
 use Rattle.code.specs.Instructions.{Instruction, Codes}
@@ -142,14 +142,12 @@ module _ {S V K : Type 0} (site : Site S V K) where
         (λ e. each_runs (b ∷ c ∷ bs) vs (eqb-true (length vs) n e) (suc pc) pc' l os cs ws s h.1)
         (record { by = stays })))
 
-    pub forget_runs : (bs : List Binding) (pc pc' : ℕ) (l : Slots V) (os : List V) (cs : List (Callee V))
-        (ws : List (Walk V)) (s : S) → At pc (forget_code at bs) pc' →
-        G (now pc l os cs ws s) (forget site.ops bs l s) (λ _ l s. now pc' l os cs ws s)
-    forget_runs [] pc pc' l os cs ws s h = record { by = arrived pc pc' l os cs ws s h }
-    forget_runs (slot n ∷ bs) pc pc' l os cs ws s h =
-        one at (instr.clear_slot n) pc l os cs ws s h.0 refl (forget_runs bs (suc pc) pc' (put n None l) os cs ws s h.1)
-    forget_runs (global n ∷ bs) pc pc' l os cs ws s h = forget_runs bs pc pc' l os cs ws s h
-    forget_runs (builtin p ∷ bs) pc pc' l os cs ws s h = forget_runs bs pc pc' l os cs ws s h
+    pub forget_runs : (own : Option OwnSlots) (pc pc' : ℕ) (l : Slots V) (os : List V) (cs : List (Callee V))
+        (ws : List (Walk V)) (s : S) → At pc (forget_code at own) pc' →
+        G (now pc l os cs ws s) (forget site.ops own l s) (λ _ l s. now pc' l os cs ws s)
+    forget_runs None pc pc' l os cs ws s h = record { by = arrived pc pc' l os cs ws s h }
+    forget_runs (Some own) pc pc' l os cs ws s h =
+        op at (instr.clear_slots own.first own.end) pc pc' l os cs ws s (λ _. os) (done tt (cleared (own.end - own.first) own.first l) s) h refl
 
     module _ (invoke : Invoke S V K) (calls : Calls site.ops site.codes site.active invoke) where
       resumes : (l : Slots V) (pc : ℕ) (os : List V) (cs : List (Callee V)) (ws : List (Walk V)) (r : Final S V K) →

@@ -11,7 +11,7 @@ use Rattle.code.specs.Expressions.{eval}
 use Rattle.code.specs.Statements.{exec}
 use Rattle.code.specs.Calls.{invoke}
 use Rattle.code.proofs.Small.{Value, number, Kind, Cell, Small}
-use Rattle.code.proofs.Written.{lines, terms, keywords, local, outer, list, each_in, sets_global, calls, append, def, file, ends_with}
+use Rattle.code.proofs.Written.{lines, terms, keywords, local, outer, list, each_in, own, sets_global, calls, append, def, file, ends_with}
 
 abbrev items_of : Option Cell → List Value
 items_of None = []
@@ -58,7 +58,7 @@ expressions =
     operates add (part 5) (part 6) ∷
     choice (part 8) (part 7) (part 99) ∷
     dict (more_pairs (part 9) (part 10) (more_pairs (part 11) (part 12) no_pairs)) ∷
-    each_pair (part 14) (part 15) (each_in 3 (list (part 13 ∷ [])) tree.done) ∷
+    each_pair (own 3 4) (part 14) (part 15) (each_in 3 (list (part 13 ∷ [])) tree.done) ∷
     subscript (list_part 16) (part 17) ∷
     operates both (zero_part 18) (part 99) ∷
     operates either (part 19) (part 99) ∷

@@ -1,12 +1,12 @@
 -- The code of an expression gives what it means.
-use Rattle.std.proofs.Common.{◌≡◌, ℕ, suc, ◌+◌, List, [], ◌∷◌, ◌++◌, length, refl, sym, subst, arith}
+use Rattle.std.proofs.Common.{◌≡◌, ℕ, suc, ◌+◌, List, [], ◌∷◌, ◌++◌, length, Option, Some, None, refl, sym, subst, arith}
 use Rattle.syntax.specs.Resolved as tree
 use Rattle.code.specs.Instructions as instr
 use Rattle.syntax.specs.Resolved.{Term, named, numeral, quoted, tuple, listing, dict, choice, operates, turned, selects, subscript, invokes, each, each_pair, Terms, no_terms, more_terms, Pairs, no_pairs, more_pairs, Keywords, no_keywords, more_keywords, Rounds, for_each, only_if}
-use Rattle.code.specs.Names.{Binding, slot, global, builtin}
+use Rattle.code.specs.Names.{OwnSlots, slot, global, builtin}
 use Rattle.code.specs.Operations.{Callee, plain}
 use Rattle.code.specs.Outcome.{Slots, Outcome, done, Effect, ◌>>=◌, pure, act, Here}
-use Rattle.code.specs.Expressions.{Invoke, way, names_of, bound_in, calling, forget, assigned, turns, eval, evals, values, entries, rounds}
+use Rattle.code.specs.Expressions.{Invoke, way, names_of, calling, forget, assigned, turns, eval, evals, values, entries, rounds}
 use Rattle.code.specs.Instructions.{Instruction, Codes}
 use Rattle.code.specs.Machine.{Walk, Next}
 use Rattle.code.specs.ExpressionCode.{Lines, source_of, turn_code, count, forget_code, call_code, expr_code, exprs_code, values_code, entries_code, rounds_code}
@@ -79,8 +79,8 @@ module _ {S V K : Type 0} (site : Site S V K) (invoke : Invoke S V K) (calls : C
   invokes_runs (turned o a) rf ro es ks re rk pc pc' l os cs ws s h = plain_runs (expr_code at (turned o a)) (eval site.ops invoke (turned o a) here) rf es ks re rk pc pc' l os cs ws s h
   invokes_runs (subscript f a) rf ro es ks re rk pc pc' l os cs ws s h = plain_runs (expr_code at (subscript f a)) (eval site.ops invoke (subscript f a) here) rf es ks re rk pc pc' l os cs ws s h
   invokes_runs (invokes f ts js) rf ro es ks re rk pc pc' l os cs ws s h = plain_runs (expr_code at (invokes f ts js)) (eval site.ops invoke (invokes f ts js) here) rf es ks re rk pc pc' l os cs ws s h
-  invokes_runs (each a r) rf ro es ks re rk pc pc' l os cs ws s h = plain_runs (expr_code at (each a r)) (eval site.ops invoke (each a r) here) rf es ks re rk pc pc' l os cs ws s h
-  invokes_runs (each_pair a b r) rf ro es ks re rk pc pc' l os cs ws s h = plain_runs (expr_code at (each_pair a b r)) (eval site.ops invoke (each_pair a b r) here) rf es ks re rk pc pc' l os cs ws s h
+  invokes_runs (each own a r) rf ro es ks re rk pc pc' l os cs ws s h = plain_runs (expr_code at (each own a r)) (eval site.ops invoke (each own a r) here) rf es ks re rk pc pc' l os cs ws s h
+  invokes_runs (each_pair own a b r) rf ro es ks re rk pc pc' l os cs ws s h = plain_runs (expr_code at (each_pair own a b r)) (eval site.ops invoke (each_pair own a b r) here) rf es ks re rk pc pc' l os cs ws s h
 
   is_from : (e : Term) → IsFrom site at (source_of e) (eval site.ops invoke e here)
   unfolding eval
@@ -98,8 +98,8 @@ module _ {S V K : Type 0} (site : Site S V K) (invoke : Invoke S V K) (calls : C
   is_from (selects f x) = tt
   is_from (subscript f a) = tt
   is_from (invokes f ts js) = tt
-  is_from (each a r) = tt
-  is_from (each_pair a b r) = tt
+  is_from (each own a r) = tt
+  is_from (each_pair own a b r) = tt
 
   mutual
     unfolding eval
@@ -143,18 +143,18 @@ module _ {S V K : Type 0} (site : Site S V K) (invoke : Invoke S V K) (calls : C
         op site at instr.item q.0 pc' l (i ∷ v ∷ os) cs ws s (λ v. v ∷ os) (act here (site.ops.item v i) l s) q.2 refl))
     expr_runs (invokes f es ks) pc pc' l os cs ws s h =
         invokes_runs f (expr_runs f) (owner_runs f) es ks (exprs_run es []) (values_run ks []) pc pc' l os cs ws s h
-    expr_runs (each e r) pc pc' l os cs ws s h =
+    expr_runs (each own e r) pc pc' l os cs ws s h =
         one site at (instr.make_list 0) pc l os cs ws s h.0 refl (
         gives_then {k = λ v l s. at_now (suc pc) l (v ∷ os) cs ws s} (act here (site.ops.new_list []) l s) (record { by = stays }) (λ v l s.
-        gives_then (rounds site.ops invoke (bound_in r) r (eval site.ops invoke e here >>= λ x. act here (site.ops.collect v x)) here l s) (rounds_run (bound_in r) r (expr_code at e ++ (at, instr.collect) ∷ []) (eval site.ops invoke e here >>= λ x. act here (site.ops.collect v x)) (v ∷ os) cs (λ pc pc' l ws s h.
+        gives_then (rounds site.ops invoke (Some own) r (eval site.ops invoke e here >>= λ x. act here (site.ops.collect v x)) here l s) (rounds_run (Some own) r (expr_code at e ++ (at, instr.collect) ∷ []) (eval site.ops invoke e here >>= λ x. act here (site.ops.collect v x)) (v ∷ os) cs (λ pc pc' l ws s h.
         let q = split pc pc' (expr_code at e) _ h in
         gives_then (eval site.ops invoke e here l s) (expr_runs e pc q.0 l (v ∷ os) cs ws s q.1) (λ x l s.
         op site at instr.collect q.0 pc' l (x ∷ v ∷ os) cs ws s (λ _. v ∷ os) (act here (site.ops.collect v x) l s) q.2 refl))
         (suc pc) pc' l ws s h.1) (λ _ l s. record { by = stays })))
-    expr_runs (each_pair k e r) pc pc' l os cs ws s h =
+    expr_runs (each_pair own k e r) pc pc' l os cs ws s h =
         one site at instr.new_dict pc l os cs ws s h.0 refl (
         gives_then {k = λ v l s. at_now (suc pc) l (v ∷ os) cs ws s} (act here site.ops.new_dict l s) (record { by = stays }) (λ v l s.
-        gives_then (rounds site.ops invoke (bound_in r) r (eval site.ops invoke k here >>= λ x. eval site.ops invoke e here >>= λ y. act here (site.ops.keep v x y)) here l s) (rounds_run (bound_in r) r (expr_code at k ++ (expr_code at e ++ (at, instr.keep) ∷ [])) (eval site.ops invoke k here >>= λ x. eval site.ops invoke e here >>= λ y. act here (site.ops.keep v x y)) (v ∷ os) cs (λ pc pc' l ws s h.
+        gives_then (rounds site.ops invoke (Some own) r (eval site.ops invoke k here >>= λ x. eval site.ops invoke e here >>= λ y. act here (site.ops.keep v x y)) here l s) (rounds_run (Some own) r (expr_code at k ++ (expr_code at e ++ (at, instr.keep) ∷ [])) (eval site.ops invoke k here >>= λ x. eval site.ops invoke e here >>= λ y. act here (site.ops.keep v x y)) (v ∷ os) cs (λ pc pc' l ws s h.
         let q = split pc pc' (expr_code at k) _ h in
         let u = split q.0 pc' (expr_code at e) _ q.2 in
         gives_then (eval site.ops invoke k here l s) (expr_runs k pc q.0 l (v ∷ os) cs ws s q.1) (λ x l s.
@@ -175,8 +175,8 @@ module _ {S V K : Type 0} (site : Site S V K) (invoke : Invoke S V K) (calls : C
     owner_runs (turned o a) = tt
     owner_runs (subscript f a) = tt
     owner_runs (invokes f ts js) = tt
-    owner_runs (each a r) = tt
-    owner_runs (each_pair a b r) = tt
+    owner_runs (each own a r) = tt
+    owner_runs (each_pair own a b r) = tt
 
     pub exprs_run : (es : Terms) (vs : List V) → Many (exprs_code at es) (evals site.ops invoke es here vs) vs
     exprs_run no_terms vs pc pc' l os cs ws s h = record { by = arrives pc pc' l (onto vs os) cs ws s h }
@@ -204,7 +204,7 @@ module _ {S V K : Type 0} (site : Site S V K) (invoke : Invoke S V K) (calls : C
         gives_then (act here (site.ops.enter d x y) l s) (op site at instr.enter q.0 (suc q.0) l (y ∷ x ∷ d ∷ os) cs ws s (λ _. d ∷ os) (act here (site.ops.enter d x y) l s) (q.2.0, refl) refl) (λ _ l s.
         entries_run ps d (suc q.0) pc' l os cs ws s q.2.1)))
 
-    rounds_run : (fs : List Binding) (r : Rounds) (c : Lines) (inner : Effect S V K Unit) (os : List V)
+    rounds_run : (fs : Option OwnSlots) (r : Rounds) (c : Lines) (inner : Effect S V K Unit) (os : List V)
         (cs : List (Callee V)) →
         ((pc pc' : ℕ) (l : Slots V) (ws : List (Walk V)) (s : S) → Stood pc c pc' → Goes (at_now pc l os cs ws s) (inner l s) (λ _ l s. at_now pc' l os cs ws s)) →
         (pc pc' : ℕ) (l : Slots V) (ws : List (Walk V)) (s : S) → Stood pc (rounds_code at fs r c) pc' →
@@ -218,7 +218,7 @@ module _ {S V K : Type 0} (site : Site S V K) (invoke : Invoke S V K) (calls : C
         (rounds_run fs r c inner os cs run (suc p.0) pc' l ws s p.2.1)
         (record { by = arrives _ pc' l os cs ws s (sym (length_of site (suc p.0) pc' (rounds_code at fs r c) p.2.1)) })))
     rounds_run fs (for_each bs e r) c inner os cs run pc pc' l ws s h =
-        let body = turn_code at bs ++ rounds_code at [] r c in
+        let body = turn_code at bs ++ rounds_code at None r c in
         let n = length body + 1 in
         let o = split pc pc' (expr_code at e) _ h in
         let p = split o.0 pc' (forget_code at fs) _ o.2 in
@@ -230,6 +230,6 @@ module _ {S V K : Type 0} (site : Site S V K) (invoke : Invoke S V K) (calls : C
         gives_then (forget site.ops fs l s) (forget_runs site at fs o.0 p.0 l (v ∷ os) cs ws s p.1) (λ _ l s.
         one site at (instr.begin_walk n) p.0 l (v ∷ os) cs ws s p.2.0 refl (
         gives_then {k = λ vs l s. at_now (suc p.0) l os cs (record { of = v; items = vs; head = suc p.0; end = suc p.0 + n } ∷ ws) s} (act here (site.ops.begin v) l s) (record { by = stays }) (λ vs l s.
-        gives_then (turns site.ops here (λ x. assigned site.ops here bs x >>= λ _. rounds site.ops invoke [] r inner here) vs l s) (turns_run site at bs (rounds site.ops invoke [] r inner here) v (suc p.0) u.0 q.0 (suc p.0 + n) os cs ws u.1 q.2.0 (λ l ws s.
-        rounds_run [] r c inner os cs run u.0 q.0 l ws s u.2) vs l s) (λ _ l s.
+        gives_then (turns site.ops here (λ x. assigned site.ops here bs x >>= λ _. rounds site.ops invoke None r inner here) vs l s) (turns_run site at bs (rounds site.ops invoke None r inner here) v (suc p.0) u.0 q.0 (suc p.0 + n) os cs ws u.1 q.2.0 (λ l ws s.
+        rounds_run None r c inner os cs run u.0 q.0 l ws s u.2) vs l s) (λ _ l s.
         record { by = arrives (suc p.0 + n) pc' l os cs ws (site.ops.end v s) e1 })))))

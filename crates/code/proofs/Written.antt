@@ -2,8 +2,8 @@
 use Rattle.std.proofs.Common.{ℕ, ◌+◌, List, [], ◌∷◌}
 use Rattle.std.specs.Prelude.{Err, codes}
 use Rattle.syntax.specs.Names.{Name}
-use Rattle.syntax.specs.Resolved.{Term, named, numeral, listing, invokes, selects, Terms, no_terms, more_terms, Keywords, no_keywords, more_keywords, Rounds, for_each, Statement, assign, define, Steps, no_steps, step, Program}
-use Rattle.code.specs.Names.{slot, global, builtin, len_function, fail_function}
+use Rattle.syntax.specs.Resolved.{Term, named, numeral, listing, invokes, selects, Terms, no_terms, more_terms, Keywords, no_keywords, more_keywords, Rounds, for_each, Statement, assign, define, Steps, no_steps, step, Program, program}
+use Rattle.code.specs.Names.{OwnSlots, slot, global, builtin, len_function, fail_function}
 use Rattle.code.specs.Outcome.{Final}
 use Rattle.code.specs.Calls.{function_meaning, top_meaning}
 use Rattle.code.proofs.Small.{Value, Kind, Cell, Small, fresh, small}
@@ -37,6 +37,10 @@ one n = list (numeral n ∷ [])
 abbrev pub each_in : ℕ → Term → Rounds → Rounds
 each_in n e r = for_each (slot n ∷ []) e r
 
+-- the slots of a comprehension, from one up to another
+abbrev pub own : ℕ → ℕ → OwnSlots
+own first end = record { first = first; end = end }
+
 abbrev pub sets : ℕ → Term → Statement
 sets n e = assign (slot n ∷ []) e
 
@@ -56,12 +60,13 @@ fails = invokes (named (builtin fail_function)) no_terms no_keywords
 abbrev pub append : Term → Term → Term
 append f e = invokes (selects f (codes "append")) (terms (e ∷ [])) no_keywords
 
--- a function without parameters with a default, with so many slots
+-- a function without parameters with a default, with so many slots; it gets its number in its file
 abbrev pub def : ℕ → List Name → ℕ → Steps → Statement
-def n ps slots body = define (global n) ps no_terms slots body
+def n ps slots body = define 0 n ps no_terms slots body
 
+-- a file that loads nothing
 abbrev pub file : List Name → Steps → Program
-file names steps = record { globals = names; steps = steps }
+file names steps = program names 0 steps
 
 -- how the top level of a file ends, with so many ticks
 abbrev pub ends_with : Program → ℕ → Final Small Value Kind

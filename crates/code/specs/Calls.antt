@@ -1,5 +1,5 @@
 -- What a call does, and what the top level of a file does (Starlark specification, "Function and method calls").
-use Rattle.std.specs.Prelude.{ℕ, zero, suc, if◌then◌else◌, [], ◌∷◌, Option, Some, None}
+use Rattle.std.specs.Prelude.{ℕ, zero, suc, if◌then◌else◌, [], ◌∷◌, Option, Some, None, replicate}
 use Rattle.std.specs.List.{list_any}
 use Rattle.code.specs.Operations.{FunctionId, Callee, Arguments, wrong_type, arity, recursion, deep, Operations}
 use Rattle.code.specs.Outcome.{Slots, Final, located, refused, final_of, ◌>>=◌, pure, act, Here}
@@ -55,7 +55,7 @@ module _ {S V K : Type 0} (ops : Operations S V K) (files : Files) where
   abbrev pub running : Invoke S V K → Here → FunctionId → Going S V K
   running inv here f d l s =
       final_of
-      ((act here ops.tick >>= λ _. block ops inv files d.body d.first (inside f here) >>= λ e.
+      ((act here ops.tick >>= λ _. block ops inv files d.body (inside f here) >>= λ e.
       pure (value_of ops e)) l s)
 
   -- a call inside of which at most so many functions more may become active
@@ -83,9 +83,9 @@ module _ {S V K : Type 0} (ops : Operations S V K) (files : Files) where
   top file None s = refused (outside file 0) (ops.refusal wrong_type)
   top file (Some d) s =
       final_of
-      ((block ops (invoke 128) files d.body d.first (outside file 0) >>= λ e.
-      pure (value_of ops e)) [] s)
+      ((block ops (invoke 128) files d.body (outside file 0) >>= λ e.
+      pure (value_of ops e)) (replicate d.slots None) s)
 
-  -- the top level of a file, which is no active function and takes no tick
+  -- the top level of a file, which is no active function and takes no tick. Nothing is set in its slots
   abbrev pub top_meaning : ℕ → S → Final S V K
   top_meaning file = top file (function_at files (record { file = file; number = 0 }))

@@ -1,5 +1,5 @@
 -- The compiled code does what its files mean.
-use Rattle.std.specs.Prelude.{◌≡◌, ◌≢◌, ℕ, suc, [], Option, Some, None}
+use Rattle.std.specs.Prelude.{◌≡◌, ◌≢◌, ℕ, suc, [], Option, Some, None, replicate}
 use Rattle.code.specs.Operations.{FunctionId, Callee, Arguments, wrong_type, Operations}
 use Rattle.code.specs.Outcome.{Final}
 use Rattle.code.specs.Functions.{Function, Files, function_at, def_line}
@@ -26,7 +26,7 @@ module _ {S V K : Type 0} (ops : Operations S V K) (codes : Codes) where
   abbrev pub top_from : ℕ → S → Option FunctionCode → Next S V K
   top_from file s None = faults (outside file 0) (ops.refusal wrong_type)
   top_from file s (Some d) =
-      continuing (frame_of (record { file = file; number = 0 }) []) [] [] s
+      continuing (frame_of (record { file = file; number = 0 }) (replicate d.slots None)) [] [] s
 
   -- or the top level of a file is run
   abbrev pub top_start : ℕ → S → Next S V K

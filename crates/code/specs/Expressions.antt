@@ -1,12 +1,12 @@
 -- What an expression does (Starlark specification, "Expressions"): its value, and what it changes, in the order of the text.
-use Rattle.std.specs.Prelude.{nat_eq, Bool, if◌then◌else◌, List, [], ◌∷◌, ◌++◌, length, Some, None}
+use Rattle.std.specs.Prelude.{◌-◌, nat_eq, Bool, if◌then◌else◌, List, [], ◌∷◌, ◌++◌, length, Option, Some, None}
 use Rattle.grammar.specs.Tree.{Operator, either, both}
 use Rattle.syntax.specs.Names.{Name}
 use Rattle.syntax.specs.Resolved as tree
 use Rattle.syntax.specs.Resolved.{Term, named, numeral, quoted, tuple, listing, dict, choice, operates, turned, selects, subscript, invokes, each, each_pair, Terms, no_terms, more_terms, Pairs, no_pairs, more_pairs, Keywords, no_keywords, more_keywords, Rounds, for_each, only_if}
-use Rattle.code.specs.Names.{Binding, slot, global, builtin}
+use Rattle.code.specs.Names.{OwnSlots, Binding, slot, global, builtin}
 use Rattle.code.specs.Operations.{Callee, plain, Arguments, arity, Operations}
-use Rattle.code.specs.Outcome.{done, Final, resumed, Effect, ◌>>=◌, pure, raise, act, change, Here, set_slot, slot_value}
+use Rattle.code.specs.Outcome.{done, Final, resumed, Effect, ◌>>=◌, pure, raise, act, change, Here, cleared, set_slot, slot_value}
 use Rattle.code.specs.Entry.{paired}
 
 -- what calls do
@@ -25,12 +25,6 @@ way _ = always
 abbrev pub names_of : Keywords → List Name
 names_of no_keywords = []
 names_of (more_keywords x e ks) = x ∷ names_of ks
-
--- the names that a comprehension binds
-abbrev pub bound_in : Rounds → List Binding
-bound_in tree.done = []
-bound_in (for_each bs e r) = bs ++ bound_in r
-bound_in (only_if e r) = bound_in r
 
 module _ {S V K : Type 0} (ops : Operations S V K) where
   abbrev pub truth : V → Effect S V K Bool
@@ -64,12 +58,10 @@ module _ {S V K : Type 0} (ops : Operations S V K) where
   assigned here (b ∷ []) v = set here b v
   assigned here (b ∷ c ∷ bs) v = act here (ops.parts v) >>= unpacked here (b ∷ c ∷ bs)
 
-  -- nothing is set in the slots of these names
-  abbrev pub forget : List Binding → Effect S V K Unit
-  forget [] = pure tt
-  forget (slot n ∷ bs) = set_slot n None >>= λ _. forget bs
-  forget (global n ∷ bs) = forget bs
-  forget (builtin p ∷ bs) = forget bs
+  -- nothing is set in the slots of a comprehension's own names, if it still has them from before
+  abbrev pub forget : Option OwnSlots → Effect S V K Unit
+  forget None = pure tt
+  forget (Some own) = λ l s. done tt (cleared (own.end - own.first) own.first l) s
 
   -- an operator, of what gives its left and its right side (Starlark specification, "Or and and", "Binary operators")
   abbrev pub joined : Way → Operator → Here → Effect S V K V → Effect S V K V → Effect S V K V
@@ -117,13 +109,13 @@ module _ {S V K : Type 0} (ops : Operations S V K) where
           eval f here >>= λ v.
           calling here (plain v) (evals es here []) (values ks here []) (names_of ks)
       -- a comprehension makes its list or dict first, and each innermost turn puts something into it
-      eval (each e r) here =
+      eval (each own e r) here =
           act here (ops.new_list []) >>= λ v.
-          rounds (bound_in r) r (eval e here >>= λ x. act here (ops.collect v x)) here >>= λ _.
+          rounds (Some own) r (eval e here >>= λ x. act here (ops.collect v x)) here >>= λ _.
           pure v
-      eval (each_pair k e r) here =
+      eval (each_pair own k e r) here =
           act here ops.new_dict >>= λ v.
-          rounds (bound_in r) r
+          rounds (Some own) r
           (eval k here >>= λ x. eval e here >>= λ y. act here (ops.keep v x y)) here >>= λ _.
           pure v
 
@@ -144,12 +136,12 @@ module _ {S V K : Type 0} (ops : Operations S V K) where
           entries ps here d
 
       -- the clauses of a comprehension, around what is done in the innermost turn (Starlark specification, "Comprehensions").
-      -- Its names, the first argument, have nothing from before: their slots are emptied once the first operand has its
+      -- Its names have nothing from before: their slots, the first argument, are emptied once the first operand has its
       -- value, since what stands in that operand may have used the same slots
-      pub rounds : List Binding → Rounds → Effect S V K Unit → Here → Effect S V K Unit
+      pub rounds : Option OwnSlots → Rounds → Effect S V K Unit → Here → Effect S V K Unit
       rounds fs tree.done inner here = inner
       rounds fs (only_if e r) inner here =
           eval e here >>= λ x. truth x >>= λ t. if t then rounds fs r inner here else pure tt
       rounds fs (for_each bs e r) inner here =
           eval e here >>= λ v. forget fs >>= λ _.
-          walking here v (turns here (λ x. assigned here bs x >>= λ _. rounds [] r inner here))
+          walking here v (turns here (λ x. assigned here bs x >>= λ _. rounds None r inner here))

@@ -1,48 +1,34 @@
--- The functions of files, and the lines of their `def`s.
-use Rattle.std.specs.Prelude.{ℕ, ◌+◌, nat_eq, if◌then◌else◌, List, [], ◌∷◌, map, Option, Some, None, slice_get, unwrap_or}
-use Rattle.syntax.specs.Names.{Name, or_else}
-use Rattle.syntax.specs.Resolved.{Statement, branch, loop, define, Branches, no_branches, a_branch, Steps, no_steps, step, Program}
-use Rattle.code.specs.Names.{Binding, slot, global, builtin}
+-- The functions of files, by their numbers, and the lines of their `def`s.
+use Rattle.std.specs.Prelude.{ℕ, List, [], ◌∷◌, map, Option, Some, None, slice_get, unwrap_or}
+use Rattle.syntax.specs.Names.{Name}
+use Rattle.syntax.specs.Resolved.{Statement, define, Steps, no_steps, step, Program}
 use Rattle.code.specs.Operations.{FunctionId}
 use Rattle.code.specs.Entry.{in_file}
 
--- a function: its name, its parameters, how many slots they and its other names have, its statements, and the number of the
--- first function that is defined in these
+-- a function: its name, the line of its `def`, its parameters, how many slots it has, those of comprehensions too, and its
+-- statements
 pub record Function : Type 0 where
   pub name : Name
+  pub line : Option ℕ
   pub params : List Name
   pub slots : ℕ
-  pub first : ℕ
   pub body : Steps
 
--- how many functions a statement defines
-abbrev pub defines : Statement → ℕ
-defines (define x ps ds n body) = 1
-defines _ = 0
-
--- the name that a `def` binds, among those of the file's top level
-abbrev pub name_bound : List Name → Binding → Name
-name_bound names (slot n) = []
-name_bound names (global n) = unwrap_or (slice_get names n) []
-name_bound names (builtin p) = []
-
-abbrev pub function_of : List Name → Binding → List Name → ℕ → Steps → Function
-function_of names x ps n body =
-    record { name = name_bound names x; params = ps; slots = n; first = 0; body = body }
-
--- the function that a statement defines, before others
-abbrev pub before : List Name → Statement → List Function → List Function
-before names (define x ps ds n body) fs = function_of names x ps n body ∷ fs
-before names _ fs = fs
+-- the function of a statement at line n, if that is a `def`, before others. It has the name that it binds at the top level,
+-- of which the tree has the number
+abbrev pub before : List Name → ℕ → Statement → List Function → List Function
+before names n (define k x ps ds slots body) fs =
+    record { name = unwrap_or (slice_get names x) []; line = Some n; params = ps; slots = slots; body = body } ∷ fs
+before names n _ fs = fs
 
 -- the functions that statements define, in the order of the text
 abbrev pub functions_of : List Name → Steps → List Function
 functions_of names no_steps = []
-functions_of names (step n s rest) = before names s (functions_of names rest)
+functions_of names (step n st rest) = before names n st (functions_of names rest)
 
--- a file's top level, which has no name and no parameters
+-- a file's top level, which has no name, no `def` and no parameters
 abbrev pub top_level : Program → Function
-top_level p = record { name = []; params = []; slots = 0; first = 1; body = p.steps }
+top_level p = record { name = []; line = None; params = []; slots = p.slots; body = p.steps }
 
 -- all functions of a file, by number
 abbrev pub functions : Program → List Function
@@ -62,27 +48,10 @@ its_name (Some d) = d.name
 abbrev pub function_name : Files → FunctionId → Name
 function_name files f = its_name (function_at files f)
 
--- the line of the `def` of function number m, in statements of which the first function has number k
-abbrev mutual
-  pub statement_line : ℕ → ℕ → ℕ → Statement → Option ℕ
-  statement_line m k n (branch bs other) = branches_line m k bs (steps_line m k other)
-  statement_line m k n (loop bs e a) = steps_line m k a
-  statement_line m k n (define x ps ds slots body) = if nat_eq m k then Some n else None
-  statement_line m k n _ = None
-
-  pub branches_line : ℕ → ℕ → Branches → Option ℕ → Option ℕ
-  branches_line m k no_branches o = o
-  branches_line m k (a_branch n e a bs) o = or_else (steps_line m k a) (branches_line m k bs o)
-
-  pub steps_line : ℕ → ℕ → Steps → Option ℕ
-  steps_line m k no_steps = None
-  steps_line m k (step n st rest) =
-      or_else (statement_line m k n st) (steps_line m (k + defines st) rest)
-
-abbrev pub program_line : ℕ → Option Program → Option ℕ
-program_line m None = None
-program_line m (Some p) = steps_line m 1 p.steps
+abbrev pub its_line : Option Function → Option ℕ
+its_line None = None
+its_line (Some d) = d.line
 
 -- the line of the `def` of a function, at which it is called from outside; a top level has none
 abbrev pub def_line : Files → FunctionId → Option ℕ
-def_line files f = program_line f.number (slice_get files f.file)
+def_line files f = its_line (function_at files f)

@@ -4,3 +4,4 @@ pub use Rattle.syntax.specs.declared.names.Binding.TheVariants.{Slot as slot, Gl
 pub use Rattle.syntax.specs.declared.names.Predeclared.{Predeclared}
 pub use Rattle.syntax.specs.declared.names.Predeclared.TheVariants.{NoneValue as none_value, TrueValue as true_value, FalseValue as false_value, LenFunction as len_function, FailFunction as fail_function}
 pub use Rattle.syntax.specs.declared.program.Loaded.{Loaded}
+pub use Rattle.syntax.specs.declared.program.OwnSlots.{OwnSlots}

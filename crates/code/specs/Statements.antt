@@ -1,10 +1,10 @@
 -- What a statement does (Starlark specification, "Statements"): what it changes, and how it ends.
-use Rattle.std.specs.Prelude.{ℕ, ◌+◌, if◌then◌else◌, List, [], ◌∷◌, Option, Some, None}
+use Rattle.std.specs.Prelude.{ℕ, if◌then◌else◌, List, [], ◌∷◌, Option, Some, None}
 use Rattle.syntax.specs.Resolved.{Term, Statement, load, assign, assign_item, add_to, add_to_item, evaluate, pass, break_loop, continue_loop, give_back, branch, loop, define, Branches, no_branches, a_branch, Steps, no_steps, step}
-use Rattle.code.specs.Names.{Binding, slot, global, builtin, Loaded}
+use Rattle.code.specs.Names.{Loaded}
 use Rattle.code.specs.Operations.{Operations}
-use Rattle.code.specs.Outcome.{Effect, ◌>>=◌, pure, act, change, set_slot, Here}
-use Rattle.code.specs.Functions.{defines, Files, function_name}
+use Rattle.code.specs.Outcome.{Effect, ◌>>=◌, pure, act, change, Here}
+use Rattle.code.specs.Functions.{Files, function_name}
 use Rattle.code.specs.Expressions.{Invoke, truth, read, set, assigned, walking, eval, evals}
 
 -- how a statement ends: it goes on, it leaves a loop or a turn of it, or it gives a value back
@@ -36,17 +36,12 @@ module _ {S V K : Type 0} (ops : Operations S V K) where
   loop_turns here f [] = pure next
   loop_turns here f (v ∷ vs) = act here ops.tick >>= λ _. f v >>= after_turn (loop_turns here f vs)
 
-  -- a name that a load binds
-  abbrev pub set_import : Here → Binding → V → Effect S V K Unit
-  set_import here (slot n) v = set_slot n (Some v)
-  set_import here (global n) v = change (ops.set_loaded here.file n v)
-  set_import here (builtin p) v = pure tt
-
   -- the names that a load asks another file for, one after the other
   abbrev pub imports : Here → List ℕ → List Loaded → Effect S V K Unit
   imports here m [] = pure tt
   imports here m (i ∷ is) =
-      act here (ops.loaded here.file m i.asked) >>= λ v. set_import here i.binds v >>= λ _.
+      act here (ops.loaded here.file m i.asked) >>= λ v.
+      change (ops.set_loaded here.file i.binds v) >>= λ _.
       imports here m is
 
   module _ (invoke : Invoke S V K) where
@@ -59,55 +54,55 @@ module _ {S V K : Type 0} (ops : Operations S V K) where
     given_back (Some e) here = value e here
 
     module _ (files : Files) where
-      -- a function is made where its `def` is run, and its defaults are evaluated then
+      -- the function of this number is made where its `def` is run, and its defaults are evaluated then
       abbrev pub makes_function : Here → ℕ → List V → Effect S V K V
       makes_function here k vs =
           act here (ops.define (record { file = here.file; number = k })
           (function_name files (record { file = here.file; number = k })) vs)
 
       unfoldable mutual
-        -- a statement; k is the number of the function that it makes if it is a `def`
-        pub exec : Statement → ℕ → Here → Doing S V K
-        exec (load m is) k here = imports here m is >>= λ _. pure next
-        exec (assign bs e) k here = value e here >>= λ v. assigned ops here bs v >>= λ _. pure next
+        -- a statement
+        pub exec : Statement → Here → Doing S V K
+        exec (load m is) here = imports here m is >>= λ _. pure next
+        exec (assign bs e) here = value e here >>= λ v. assigned ops here bs v >>= λ _. pure next
         -- `f[a] = e`: the right side, then the base, then the index
-        exec (assign_item f a e) k here =
+        exec (assign_item f a e) here =
             value e here >>= λ v. value f here >>= λ b. value a here >>= λ i.
             act here (ops.set_item b i v) >>= λ _. pure next
         -- `x += e`: x is read before e is evaluated
-        exec (add_to x e) k here =
+        exec (add_to x e) here =
             read ops here x >>= λ a. value e here >>= λ b.
             act here (ops.increase a b) >>= λ v. set ops here x v >>= λ _. pure next
         -- `f[a] += e`: the base, the index, the item there, then e
-        exec (add_to_item f a e) k here =
+        exec (add_to_item f a e) here =
             value f here >>= λ b. value a here >>= λ i. act here (ops.item b i) >>= λ x.
             value e here >>= λ y.
             act here (ops.increase x y) >>= λ v. act here (ops.set_item b i v) >>= λ _. pure next
-        exec (evaluate e) k here = value e here >>= λ _. pure next
-        exec pass k here = pure next
-        exec break_loop k here = pure breaks
-        exec continue_loop k here = pure continues
-        exec (give_back o) k here = given_back o here >>= λ v. pure (returns v)
-        exec (branch bs other) k here = branches bs (block other k here) k here
+        exec (evaluate e) here = value e here >>= λ _. pure next
+        exec pass here = pure next
+        exec break_loop here = pure breaks
+        exec continue_loop here = pure continues
+        exec (give_back o) here = given_back o here >>= λ v. pure (returns v)
+        exec (branch bs other) here = branches bs (block other here) here
         -- the walk ends with its loop, however that ends
-        exec (loop bs e a) k here =
+        exec (loop bs e a) here =
             value e here >>= λ v.
             walking ops here v
-            (loop_turns here (λ x. assigned ops here bs x >>= λ _. block a k here))
-        exec (define x ps ds n body) k here =
+            (loop_turns here (λ x. assigned ops here bs x >>= λ _. block a here))
+        exec (define k x ps ds n body) here =
             evals ops invoke ds here [] >>= λ vs. makes_function here k vs >>= λ v.
-            set ops here x v >>= λ _. pure next
+            change (ops.set_global here.file x v) >>= λ _. pure next
 
         -- the tests of a condition, each at its own line, up to the first that holds; the statements of that branch, or those
         -- of the `else`
-        pub branches : Branches → Doing S V K → ℕ → Here → Doing S V K
-        branches no_branches other k here = other
-        branches (a_branch n e a bs) other k here =
+        pub branches : Branches → Doing S V K → Here → Doing S V K
+        branches no_branches other here = other
+        branches (a_branch n e a bs) other here =
             value e (record here { at = n }) >>= λ x. truth ops x >>= λ t.
-            if t then block a k here else branches bs other k here
+            if t then block a here else branches bs other here
 
-        -- statements, each at its own line; k is the number of the first function that they make
-        pub block : Steps → ℕ → Here → Doing S V K
-        block no_steps k here = pure next
-        block (step n st rest) k here =
-            exec st k (record here { at = n }) >>= after_step (block rest (k + defines st) here)
+        -- statements, each at its own line
+        pub block : Steps → Here → Doing S V K
+        block no_steps here = pure next
+        block (step n st rest) here =
+            exec st (record here { at = n }) >>= after_step (block rest here)

@@ -1,6 +1,5 @@
 -- A file that has a tree is shallow.
-use Rattle.std.proofs.Common.{◌≡◌, ℕ, ◌≤◌, max, List, Result, Ok, subst, sym, false, true, arith}
-use Rattle.lexer.specs.declared.fault.SyntaxFault.{SyntaxFault}
+use Rattle.std.proofs.Common.{◌≡◌, ℕ, List, Ok, subst, sym, false, true, arith}
 use Rattle.lexer.specs.declared.file_kind.FileKind.{FileKind}
 use Rattle.grammar.specs.Blocks.{Block}
 use Rattle.grammar.specs.BareLines.{bare_lines}
@@ -8,10 +7,10 @@ use Rattle.grammar.specs.Places.{top_of}
 use Rattle.grammar.proofs.BareLaws.{block_shallow}
 use Rattle.syntax.specs.Files.{syntax}
 use Rattle.syntax.specs.Names.{file_scope}
-use Rattle.syntax.specs.Resolved.{Program, resolved}
+use Rattle.syntax.specs.Resolved.{Program, resolved, steps_of}
 use Rattle.syntax.specs.ProgramDepth.{IsShallow}
 use Rattle.syntax.proofs.FileLaws.{syntax_is}
-use Rattle.syntax.proofs.ProgramDepths.{made_within, nested_within}
+use Rattle.syntax.proofs.ProgramDepths.{made_within, nested_within, numbered_depth, numbered_nesting}
 use Rattle.syntax.proofs.BlocksNested.{blocks_within}
 
 pub file_shallow : (text : List ℕ) (kind : FileKind) (tree : Block) → syntax text kind ≡ Ok tree → IsShallow (resolved (bare_lines tree))
@@ -22,7 +21,9 @@ file_shallow text kind tree e =
     let k = block_shallow _ false true 0 tree h.spelled.is_block in
     let n = nested_within (file_scope ls) ls in
     let b = blocks_within (top_of kind) h.lines tree h.spelled h.read.laid_out.nested in
-    record { expressions = omega (arith, d, k); blocks = omega (arith, n, b) }
+    let e1 = numbered_depth 1 (steps_of (file_scope ls) ls) in
+    let e2 = numbered_nesting 1 (steps_of (file_scope ls) ls) in
+    record { expressions = omega (arith, d, k, e1); blocks = omega (arith, n, b, e2) }
 
 -- the same of what is seen as it
 pub program_shallow : (text : List ℕ) (kind : FileKind) (tree : Block) (p : Program) → syntax text kind ≡ Ok tree → p ≡ resolved (bare_lines tree) → IsShallow p

@@ -15,7 +15,7 @@ use Rattle.grammar.specs.Blocks.{Block}
 use Rattle.grammar.specs.BlockReading.{read_lines}
 use Rattle.grammar.specs.BareLines.{bare_lines}
 use Rattle.syntax.specs.Names.{global, slot, builtin, len_function}
-use Rattle.syntax.specs.Resolved.{Program, named, numeral, invokes, each, more_terms, no_terms, no_keywords, done, for_each, assign, give_back, branch, a_branch, no_branches, define, no_steps, step, resolved}
+use Rattle.syntax.specs.Resolved.{OwnSlots, Program, named, numeral, invokes, each, more_terms, no_terms, no_keywords, done, for_each, assign, give_back, branch, a_branch, no_branches, define, no_steps, step, resolved}
 use Rattle.syntax.specs.Files.{syntax}
 
 -- a text of these lines
@@ -152,18 +152,24 @@ pub added_to :
 unfolding reading tokens_of scan begins line_starts turn read_lines lead then_at names_to string_at commas listed simple_at form_at chain next sign_at name_at keyword_at behind_close behind_comma behind_colon behind_else is_for names_in head_at member members clauses atom suffixes e9 e8 e7 e6 e5 e4 e3 e2 e1 read verdict
 added_to = (refl, refl, refl, refl)
 
+-- the third slot, for a comprehension
+abbrev own : OwnSlots
+own = record { first = 2; end = 3 }
+
 -- what names stand for: a function's slots are numbered by first bindings, a comprehension's come behind them
 pub names :
     program (syntax (lines (codes "def f(a):" ∷ codes "  if a:" ∷ codes "    b = a" ∷ codes "  elif g:" ∷ codes "    b = len" ∷ codes "  else:" ∷ codes "    return [b for b in [x for x in b]]" ∷ codes "g = f(1)" ∷ [])) Module)
     ≡ Some (record {
       globals = codes "f" ∷ codes "g" ∷ [];
+      loaded = 0;
+      slots = 0;
       steps =
-          step 1 (define (global 0) (codes "a" ∷ []) no_terms 2
+          step 1 (define 1 0 (codes "a" ∷ []) no_terms 3
           (step 2 (branch
           (a_branch 2 (named (slot 0)) (step 3 (assign (slot 1 ∷ []) (named (slot 0))) no_steps)
           (a_branch 4 (named (global 1)) (step 5 (assign (slot 1 ∷ []) (named (builtin len_function))) no_steps)
           no_branches))
-          (step 7 (give_back (Some (each (named (slot 2)) (for_each (slot 2 ∷ []) (each (named (slot 2)) (for_each (slot 2 ∷ []) (named (slot 1)) done)) done)))) no_steps)) no_steps))
+          (step 7 (give_back (Some (each own (named (slot 2)) (for_each (slot 2 ∷ []) (each own (named (slot 2)) (for_each (slot 2 ∷ []) (named (slot 1)) done)) done)))) no_steps)) no_steps))
           (step 8 (assign (global 1 ∷ []) (invokes (named (global 0)) (more_terms (numeral 1) no_terms) no_keywords)) no_steps);
     })
 unfolding reading tokens_of scan begins line_starts turn read_lines lead then_at names_to string_at commas listed simple_at form_at chain next sign_at name_at keyword_at behind_close behind_comma behind_colon behind_else is_for names_in head_at member members clauses atom suffixes e9 e8 e7 e6 e5 e4 e3 e2 e1 read program

@@ -1,11 +1,10 @@
 -- A file with what its names stand for is as deep as its lines.
-use Rattle.std.proofs.Common.{◌≡◌, ℕ, suc, ◌≤◌, max, List, [], ◌∷◌, Option, Some, None, refl, ap, arith}
+use Rattle.std.proofs.Common.{◌≡◌, ℕ, suc, ◌≤◌, max, List, [], ◌∷◌, Some, None, refl, ap, arith}
 use Rattle.grammar.specs.Bare as bare
 use Rattle.grammar.specs.BareDepth.{tree_depth, trees_depth, entries_depth, keywords_depth, rest_depth, params_depth, form_depth, lines_depth}
 use Rattle.grammar.specs.BareLines.{Param, required, optional, Form, loads, defines, if_head, elif_head, else_head, for_head, assigns, assigns_at, increases, increases_at, evaluates, passes, breaks, continues, returns, Lines, no_lines, a_line}
 use Rattle.syntax.specs.Names.{Scope, inside_of, scope_of, width}
-use Rattle.syntax.specs.Resolved as resolved
-use Rattle.syntax.specs.Resolved.{term, terms, pairs, keywords, rounds, defaults, Head, simple, tests, tests_again, otherwise, repeats, makes, head, Made, with_line, made, Steps}
+use Rattle.syntax.specs.Resolved.{term, terms, pairs, keywords, rounds, defaults, Head, simple, tests, tests_again, otherwise, repeats, makes, head, Made, with_line, made, Statement, load, assign, assign_item, add_to, add_to_item, evaluate, pass, break_loop, continue_loop, give_back, branch, loop, define, Steps, no_steps, step, with_number, next_number, numbered}
 use Rattle.syntax.specs.ProgramDepth.{term_depth, terms_depth, pairs_depth, keywords_depth as named_depth, rounds_depth, statement_depth, branches_depth, steps_depth, statement_nesting, branches_nesting, steps_nesting}
 
 mutual
@@ -146,3 +145,30 @@ made_nested s (a_line n f inner ls) =
 
 pub nested_within : (s : Scope) (ls : Lines) → steps_nesting (made s ls).steps ≤ lines_nesting ls
 nested_within s ls = (made_nested s ls).steps
+
+-- the numbers of functions change nothing of this
+abbrev AsDeep : Statement → Statement → Type 0
+AsDeep a b = (statement_depth a ≡ statement_depth b) × (statement_nesting a ≡ statement_nesting b)
+
+statement_numbered : (k : ℕ) (st : Statement) → AsDeep (with_number k st) st
+statement_numbered k (load p is) = (refl, refl)
+statement_numbered k (assign bs a) = (refl, refl)
+statement_numbered k (assign_item f a b) = (refl, refl)
+statement_numbered k (add_to x a) = (refl, refl)
+statement_numbered k (add_to_item f a b) = (refl, refl)
+statement_numbered k (evaluate a) = (refl, refl)
+statement_numbered k pass = (refl, refl)
+statement_numbered k break_loop = (refl, refl)
+statement_numbered k continue_loop = (refl, refl)
+statement_numbered k (give_back a) = (refl, refl)
+statement_numbered k (branch bs other) = (refl, refl)
+statement_numbered k (loop bs a inner) = (refl, refl)
+statement_numbered k (define j x ps ds n inner) = (refl, refl)
+
+pub numbered_depth : (k : ℕ) (ss : Steps) → steps_depth (numbered k ss) ≡ steps_depth ss
+numbered_depth k no_steps = refl
+numbered_depth k (step n st ss) = let i = (statement_numbered k st).0 in let j = numbered_depth (next_number k st) ss in omega (arith, i, j)
+
+pub numbered_nesting : (k : ℕ) (ss : Steps) → steps_nesting (numbered k ss) ≡ steps_nesting ss
+numbered_nesting k no_steps = refl
+numbered_nesting k (step n st ss) = let i = (statement_numbered k st).1 in let j = numbered_nesting (next_number k st) ss in omega (arith, i, j)

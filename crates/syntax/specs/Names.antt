@@ -83,6 +83,15 @@ form_binds (assigns x xs a) = x ∷ xs
 form_binds (increases x a) = x ∷ []
 form_binds f = []
 
+-- the names that loads bind, in the order of the text: those of lines of the top level, where alone a `load` stands
+abbrev pub loaded_by : Form → List Name
+loaded_by (loads s items) = map (λ i. i.binds) items
+loaded_by f = []
+
+abbrev pub loads_bind : Lines → List Name
+loads_bind no_lines = []
+loads_bind (a_line n f inner ls) = loaded_by f ++ loads_bind ls
+
 -- what the block of a head binds around it: a function keeps its names to itself
 abbrev pub passed_on : Form → List Name → List Name
 passed_on (defines x ps) xs = []

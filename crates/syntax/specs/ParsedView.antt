@@ -4,4 +4,4 @@ use Rattle.syntax.specs.ProgramView.{steps}
 use Rattle.syntax.specs.Resolved.{Program}
 
 abbrev pub program_of : Parsed → Program
-program_of p = record { globals = p.globals.keys; steps = steps p.steps.items }
+program_of p = record { globals = p.globals.keys; loaded = p.loaded; slots = p.slots; steps = steps p.steps.items }

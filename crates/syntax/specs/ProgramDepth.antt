@@ -17,8 +17,8 @@ abbrev mutual
   term_depth (selects f x) = suc (term_depth f)
   term_depth (subscript f a) = suc (max (term_depth f) (term_depth a))
   term_depth (invokes f ts ks) = suc (max (term_depth f) (max (terms_depth ts) (keywords_depth ks)))
-  term_depth (each a r) = suc (max (term_depth a) (rounds_depth r))
-  term_depth (each_pair k v r) = suc (max (max (term_depth k) (term_depth v)) (rounds_depth r))
+  term_depth (each own a r) = suc (max (term_depth a) (rounds_depth r))
+  term_depth (each_pair own k v r) = suc (max (max (term_depth k) (term_depth v)) (rounds_depth r))
 
   pub terms_depth : Terms → ℕ
   terms_depth no_terms = 0
@@ -53,7 +53,7 @@ abbrev mutual
   statement_depth (give_back (Some a)) = term_depth a
   statement_depth (branch bs other) = max (branches_depth bs) (steps_depth other)
   statement_depth (loop bs a inner) = max (term_depth a) (steps_depth inner)
-  statement_depth (define x ps ds n inner) = max (terms_depth ds) (steps_depth inner)
+  statement_depth (define k x ps ds n inner) = max (terms_depth ds) (steps_depth inner)
 
   pub branches_depth : Branches → ℕ
   branches_depth no_branches = 0
@@ -68,7 +68,7 @@ abbrev mutual
   pub statement_nesting : Statement → ℕ
   statement_nesting (branch bs other) = max (branches_nesting bs) (steps_nesting other)
   statement_nesting (loop bs a inner) = steps_nesting inner
-  statement_nesting (define x ps ds n inner) = steps_nesting inner
+  statement_nesting (define k x ps ds n inner) = steps_nesting inner
   statement_nesting st = 0
 
   pub branches_nesting : Branches → ℕ

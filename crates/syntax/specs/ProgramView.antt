@@ -47,8 +47,8 @@ term_step (Term-F.Unary sign a) = resolved.turned (sign_seen sign) a.value
 term_step (Term-F.Attribute f x) = resolved.selects f.value x
 term_step (Term-F.Index f a) = resolved.subscript f.value a.value
 term_step (Term-F.Call f ts ks) = resolved.invokes f.value (terms_onto ts.items no_terms) (keywords_onto ks.items no_keywords)
-term_step (Term-F.ListEach a rs) = resolved.each a.value (rounds_onto rs.items done)
-term_step (Term-F.DictEach k v rs) = resolved.each_pair k.value v.value (rounds_onto rs.items done)
+term_step (Term-F.ListEach own a rs) = resolved.each own a.value (rounds_onto rs.items done)
+term_step (Term-F.DictEach own k v rs) = resolved.each_pair own k.value v.value (rounds_onto rs.items done)
 
 abbrev pub pair_step : Pair-F (Rounds → Rounds) resolved.Term (List ℕ × resolved.Term) (resolved.Term × resolved.Term) → resolved.Term × resolved.Term
 pair_step p = (p.key, p.value)
@@ -107,7 +107,7 @@ abbrev pub branch_step : Branch-F resolved.Statement (Branches → Branches) res
 branch_step b = a_branch b.line (term b.test) (steps_onto b.steps.items no_steps)
 
 abbrev pub function_step : Function-F resolved.Statement (Branches → Branches) resolved.Statement (ℕ × resolved.Statement) → resolved.Statement
-function_step f = resolved.define f.binds f.params.items (terms f.defaults.items) f.slots (steps_onto f.steps.items no_steps)
+function_step f = resolved.define f.number f.binds f.params.items (terms f.defaults.items) f.slots (steps_onto f.steps.items no_steps)
 
 abbrev pub step_step : Step-F resolved.Statement (Branches → Branches) resolved.Statement (ℕ × resolved.Statement) → ℕ × resolved.Statement
 step_step s = (s.line, s.statement)

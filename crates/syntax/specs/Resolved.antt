@@ -1,13 +1,15 @@
 -- The tree of a file with what its names stand for in their place: what the meaning of a file is said of.
 --
 -- A function's names have slots, by the order of their first bindings; a comprehension's have the slots behind those in
--- use around it. A name of the top level has its number, by the order of the bindings there.
-use Rattle.std.specs.Prelude.{ℕ, List, [], ◌∷◌, map, Option, option_map, unwrap_or}
+-- use around it. A name of the top level has its number, by the order of the bindings there; and functions have numbers,
+-- by the order of their `def`s, where 0 is the top level.
+use Rattle.std.specs.Prelude.{ℕ, suc, max, List, [], ◌∷◌, map, length, position, bytes_eq, Option, None, Some, option_map, unwrap_or}
 pub use Rattle.syntax.specs.declared.program.Loaded.{Loaded}
+pub use Rattle.syntax.specs.declared.program.OwnSlots.{OwnSlots}
 use Rattle.grammar.specs.Tree.{Operator, Sign}
 use Rattle.grammar.specs.Bare as bare
 use Rattle.grammar.specs.BareLines.{Param, required, optional, Form, loads, defines, if_head, elif_head, else_head, for_head, assigns, assigns_at, increases, increases_at, evaluates, passes, breaks, continues, returns, Lines, no_lines, a_line}
-use Rattle.syntax.specs.Names.{Name, param_name, lines_bind, once, Binding, Scope, width, slot, stands_for, file_scope, scope_of, inside_of}
+use Rattle.syntax.specs.Names.{Name, param_name, lines_bind, loads_bind, once, Binding, Scope, width, slot, stands_for, file_scope, scope_of, inside_of}
 
 mutual
   -- an expression (Starlark specification, "Expressions")
@@ -24,8 +26,10 @@ mutual
     selects : Term → Name → Term
     subscript : Term → Term → Term
     invokes : Term → Terms → Keywords → Term
-    each : Term → Rounds → Term
-    each_pair : Term → Term → Rounds → Term
+    -- a comprehension, with the slots that its names have for their own. They are made unset when its first operand has its
+    -- value, before its first turn: what stands in that operand may have used the same slots
+    each : OwnSlots → Term → Rounds → Term
+    each_pair : OwnSlots → Term → Term → Rounds → Term
 
   pub data Terms : Type 0 where
     no_terms : Terms
@@ -59,9 +63,9 @@ mutual
     give_back : Option Term → Statement
     branch : Branches → Steps → Statement
     loop : List Binding → Term → Steps → Statement
-    -- the name of a function, those of its parameters, the defaults of the last of them, how many slots it has, and its
-    -- statements
-    define : Binding → List Name → Terms → ℕ → Steps → Statement
+    -- the number of a function and that of the name that it binds, the names of its parameters, the defaults of the last of
+    -- them, how many slots it has, those of comprehensions too, and its statements
+    define : ℕ → ℕ → List Name → Terms → ℕ → Steps → Statement
 
   -- the branches of a condition, that of its `if` and those of its `elif`s: each with the first line of its logical line,
   -- its test, and the statements that run where it is the first that holds
@@ -74,14 +78,86 @@ mutual
     no_steps : Steps
     step : ℕ → Statement → Steps → Steps
 
--- a file: the names that its top level binds, by number, and its statements
+-- a file: the names that its top level binds, by number; how many of these are loaded, which have the first numbers; how
+-- many slots the top level has for its comprehensions; and its statements
 pub record Program : Type 0 where
   pub globals : List Name
+  pub loaded : ℕ
+  pub slots : ℕ
   pub steps : Steps
+
+-- how many slots the comprehensions in an expression take: the number behind that of the last one
+abbrev mutual
+  pub term_slots : Term → ℕ
+  term_slots (named b) = 0
+  term_slots (numeral n) = 0
+  term_slots (quoted t) = 0
+  term_slots (tuple ts) = terms_slots ts
+  term_slots (listing ts) = terms_slots ts
+  term_slots (dict ps) = pairs_slots ps
+  term_slots (choice a c b) = max (term_slots a) (max (term_slots c) (term_slots b))
+  term_slots (operates o a b) = max (term_slots a) (term_slots b)
+  term_slots (turned o a) = term_slots a
+  term_slots (selects f x) = term_slots f
+  term_slots (subscript f a) = max (term_slots f) (term_slots a)
+  term_slots (invokes f ts ks) = max (term_slots f) (max (terms_slots ts) (keywords_slots ks))
+  term_slots (each own a r) = max own.end (max (term_slots a) (rounds_slots r))
+  term_slots (each_pair own k v r) = max own.end (max (max (term_slots k) (term_slots v)) (rounds_slots r))
+
+  pub terms_slots : Terms → ℕ
+  terms_slots no_terms = 0
+  terms_slots (more_terms a ts) = max (term_slots a) (terms_slots ts)
+
+  pub pairs_slots : Pairs → ℕ
+  pairs_slots no_pairs = 0
+  pairs_slots (more_pairs k v ps) = max (max (term_slots k) (term_slots v)) (pairs_slots ps)
+
+  pub keywords_slots : Keywords → ℕ
+  keywords_slots no_keywords = 0
+  keywords_slots (more_keywords x a ks) = max (term_slots a) (keywords_slots ks)
+
+  pub rounds_slots : Rounds → ℕ
+  rounds_slots done = 0
+  rounds_slots (for_each bs a r) = max (term_slots a) (rounds_slots r)
+  rounds_slots (only_if a r) = max (term_slots a) (rounds_slots r)
+
+-- the same of statements. A function has slots of its own; its defaults are evaluated outside
+abbrev mutual
+  pub statement_slots : Statement → ℕ
+  statement_slots (load p is) = 0
+  statement_slots (assign bs a) = term_slots a
+  statement_slots (assign_item f a b) = max (term_slots f) (max (term_slots a) (term_slots b))
+  statement_slots (add_to x a) = term_slots a
+  statement_slots (add_to_item f a b) = max (term_slots f) (max (term_slots a) (term_slots b))
+  statement_slots (evaluate a) = term_slots a
+  statement_slots pass = 0
+  statement_slots break_loop = 0
+  statement_slots continue_loop = 0
+  statement_slots (give_back None) = 0
+  statement_slots (give_back (Some a)) = term_slots a
+  statement_slots (branch bs other) = max (branches_slots bs) (steps_slots other)
+  statement_slots (loop bs a inner) = max (term_slots a) (steps_slots inner)
+  statement_slots (define k x ps ds n inner) = terms_slots ds
+
+  pub branches_slots : Branches → ℕ
+  branches_slots no_branches = 0
+  branches_slots (a_branch n a inner bs) = max (max (term_slots a) (steps_slots inner)) (branches_slots bs)
+
+  pub steps_slots : Steps → ℕ
+  steps_slots no_steps = 0
+  steps_slots (step n st ss) = max (statement_slots st) (steps_slots ss)
 
 -- what a name stands for; in a file without fault each stands for something
 abbrev pub binding_of : Scope → Name → Binding
 binding_of s x = unwrap_or (stands_for s x) (slot 0)
+
+-- the number of a name that the top level binds
+abbrev pub global_of : Scope → Name → ℕ
+global_of s x = unwrap_or (position (bytes_eq x) s.globals) 0
+
+-- the slots of a comprehension's own names
+abbrev pub own_slots : Scope → bare.Rest → OwnSlots
+own_slots s r = record { first = width s.levels; end = width (inside_of s r).levels }
 
 abbrev mutual
   pub term : Scope → bare.Tree → Term
@@ -97,8 +173,9 @@ abbrev mutual
   term s (bare.selects f x) = selects (term s f) x
   term s (bare.subscript f a) = subscript (term s f) (term s a)
   term s (bare.invokes f ts ks) = invokes (term s f) (terms s ts) (keywords s ks)
-  term s (bare.each a r) = each (term (inside_of s r) a) (rounds s (inside_of s r) r)
-  term s (bare.each_entry k v r) = each_pair (term (inside_of s r) k) (term (inside_of s r) v) (rounds s (inside_of s r) r)
+  term s (bare.each a r) = each (own_slots s r) (term (inside_of s r) a) (rounds s (inside_of s r) r)
+  term s (bare.each_entry k v r) =
+      each_pair (own_slots s r) (term (inside_of s r) k) (term (inside_of s r) v) (rounds s (inside_of s r) r)
 
   pub terms : Scope → bare.Trees → Terms
   terms s bare.no_trees = no_terms
@@ -133,11 +210,11 @@ pub data Head : Type 0 where
   tests tests_again : Term → Head
   otherwise : Head
   repeats : List Binding → Term → Head
-  makes : Binding → List Name → Terms → Head
+  makes : ℕ → List Name → Terms → Head
 
 abbrev pub head : Scope → Form → Head
-head s (loads p items) = simple (load p (map (λ i. record { asked = i.asked; binds = binding_of s i.binds }) items))
-head s (defines x ps) = makes (binding_of s x) (map param_name ps) (defaults s ps)
+head s (loads p items) = simple (load p (map (λ i. record { asked = i.asked; binds = global_of s i.binds }) items))
+head s (defines x ps) = makes (global_of s x) (map param_name ps) (defaults s ps)
 head s (if_head a) = tests (term s a)
 head s (elif_head a) = tests_again (term s a)
 head s else_head = otherwise
@@ -162,14 +239,16 @@ pub record Made : Type 0 where
 abbrev pub begun : Steps → Made
 begun ss = record { branches = no_branches; other = no_steps; steps = ss }
 
--- a line before others: its number, how many slots are in use in its block, and the statements of that
+-- a line before others: its number, how many slots the names in its block have, and the statements of that. A function has
+-- slots for its names and for the comprehensions in it; it gets its number later
 abbrev pub with_line : Head → ℕ → ℕ → Steps → Made → Made
 with_line (simple st) n slots inner m = begun (step n st m.steps)
 with_line (tests a) n slots inner m = begun (step n (branch (a_branch n a inner m.branches) m.other) m.steps)
 with_line (tests_again a) n slots inner m = record { branches = a_branch n a inner m.branches; other = m.other; steps = m.steps }
 with_line otherwise n slots inner m = record { branches = no_branches; other = inner; steps = m.steps }
 with_line (repeats bs a) n slots inner m = begun (step n (loop bs a inner) m.steps)
-with_line (makes b ps ds) n slots inner m = begun (step n (define b ps ds slots inner) m.steps)
+with_line (makes x ps ds) n slots inner m =
+    begun (step n (define 0 x ps ds (max slots (steps_slots inner)) inner) m.steps)
 
 abbrev pub made : Scope → Lines → Made
 made s no_lines = begun no_steps
@@ -180,6 +259,24 @@ made s (a_line n f inner ls) =
 abbrev pub steps_of : Scope → Lines → Steps
 steps_of s ls = (made s ls).steps
 
+-- functions of the top level have their numbers from k on, in the order of the text
+abbrev pub with_number : ℕ → Statement → Statement
+with_number k (define j x ps ds n inner) = define k x ps ds n inner
+with_number k st = st
+
+abbrev pub next_number : ℕ → Statement → ℕ
+next_number k (define j x ps ds n inner) = suc k
+next_number k st = k
+
+abbrev pub numbered : ℕ → Steps → Steps
+numbered k no_steps = no_steps
+numbered k (step n st ss) = step n (with_number k st) (numbered (next_number k st) ss)
+
+-- a file of these statements, of which the first function has number 1
+abbrev pub program : List Name → ℕ → Steps → Program
+program globals loaded ss =
+    record { globals = globals; loaded = loaded; slots = steps_slots ss; steps = numbered 1 ss }
+
 -- a file with what its names stand for
 abbrev pub resolved : Lines → Program
-resolved ls = record { globals = once (lines_bind ls); steps = steps_of (file_scope ls) ls }
+resolved ls = program (once (lines_bind ls)) (length (loads_bind ls)) (steps_of (file_scope ls) ls)

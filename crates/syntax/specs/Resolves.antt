@@ -23,7 +23,7 @@ use Rattle.grammar.specs.TreeView.{tree_of}
 use Rattle.syntax.specs.Names.{Name, Scope, apart, clause_names, distinct, form_binds, or_else, scope_of, width}
 use Rattle.syntax.specs.ProgramView as view
 use Rattle.syntax.specs.Resolved as resolved
-use Rattle.syntax.specs.Resolved.{Made, Steps, steps_of}
+use Rattle.syntax.specs.Resolved.{Made, OwnSlots, Steps, own_slots, steps_of}
 use Rattle.syntax.specs.Scopes.{adds_to_name, line_scoped, lines_fault, none_predeclared, rest_scoped, scoped, unless}
 use Rattle.syntax.specs.ScopeView.{entered}
 
@@ -63,10 +63,11 @@ GivesTerm t = Gives view.term (λ s. scoped s t) (λ s. resolved.term s t)
 
 -- what a function ensures that goes into a comprehension with these clauses, and resolves the expression of the first,
 -- which stands outside of its scope
-abbrev pub Enters : Rest → Scope → Result (Option Term) Unresolved → Scope → Type 0
-Enters r old (Ok first) new =
+abbrev pub Enters : Rest → Scope → Result (OwnSlots × Option Term) Unresolved → Scope → Type 0
+Enters r old (Ok (own, first)) new =
     ((none_predeclared (clause_names r) && first_scoped old r) ≡ true)
     × (option_map view.term first ≡ option_map (resolved.term old) (first_tree r))
+    × (own ≡ own_slots old r)
     × (new ≡ entered (clause_names r) old)
 Enters r old (Err stop.Breaks) new = ((none_predeclared (clause_names r) && first_scoped old r) ≡ false) × (new ≡ old)
 Enters r old (Err stop.NoMemory) new = Unit {0}

@@ -8,7 +8,7 @@ ghost use Rattle.grammar.specs.LineView.{form_of, item_of, line_of, param_of};
 ghost use Rattle.grammar.specs.declared.statements.Line.{out-Line};
 ghost use Rattle.grammar.specs.TreeView.{clause_of, rests};
 ghost use Rattle.syntax.specs.Names as names;
-ghost use Rattle.syntax.specs.Names.{Name, form_binds, lines_bind, param_name, passed_on};
+ghost use Rattle.syntax.specs.Names.{Name, form_binds, lines_bind, loads_bind, param_name, passed_on};
 
 use crate::scope::add_names;
 use grammar::{Clause, Form, Item, Line, Param};
@@ -93,6 +93,16 @@ pub(crate) fn block_of(line: &Line) -> &[Line]
     ensures seen { (rest : Lines) → line_of line.now rest ≡ a_line (out-Line line.now).number (form_of (out-Line line.now).form) (view.lines result.now) rest }
 {
     line.block.as_slice()
+}
+
+/// Adds the names that a line binds, if it is a `load`.
+pub(crate) fn add_loaded(found: &mut Vec<Text>, line: &Line) -> Result<(), AllocError>
+    ensures { OnOk result ((rest : Lines) → found.new.items ++ loads_bind rest ≡ found.old.items ++ loads_bind (line_of line.now rest)) }
+{
+    match &line.form {
+        Form::Load(_, items) => add_items(found, items.as_slice()),
+        _ => Ok(()),
+    }
 }
 
 /// Adds the names that lines bind, in the order of the text. It calls itself once for each block that is open: 32 at most, and

@@ -10,7 +10,7 @@ ghost use Rattle.syntax.specs.Names.{form_binds, param_name};
 ghost use Rattle.syntax.specs.ProgramView as view;
 ghost use Rattle.syntax.specs.ProgramView.{terms_onto};
 ghost use Rattle.syntax.specs.Resolved as resolved;
-ghost use Rattle.syntax.specs.Resolved.{Terms, binding_of, defaults, with_default};
+ghost use Rattle.syntax.specs.Resolved.{Terms, defaults, global_of, with_default};
 ghost use Rattle.syntax.specs.Resolves.{Gives, GivesHead, GivesTerm, Keeps};
 ghost use Rattle.syntax.specs.Scopes.{defaults_last, form_scoped, line_scoped, none_predeclared, param_scoped, scoped};
 
@@ -32,8 +32,8 @@ pub(crate) enum Head {
     Elif(Term),
     Else,
     For(Vec<Binding>, Term),
-    /// `def`, with the names of its parameters, and the defaults of the last of them.
-    Def(Binding, Vec<Text>, Vec<Term>),
+    /// `def`, with the number of the name that it binds, the names of its parameters, and the defaults of the last of them.
+    Def(usize, Vec<Text>, Vec<Term>),
 }
 
 fn term(alloc: Global, scope: &mut Scope, expr: &Expr) -> Result<Term, Unresolved>
@@ -128,13 +128,13 @@ fn defaults(alloc: Global, scope: &mut Scope, params: &[Param]) -> Result<Vec<Te
 
 /// What a `load` binds.
 fn loaded(alloc: Global, scope: &Scope, items: &[Item]) -> Result<Vec<Loaded>, AllocError>
-    ensures { IfOk result (λ v. v.items ≡ map (λ i. record { asked = i.asked; binds = binding_of scope.now i.binds }) (map item_of items.now)) }
+    ensures { IfOk result (λ v. v.items ≡ map (λ i. record { asked = i.asked; binds = global_of scope.now i.binds }) (map item_of items.now)) }
 {
     let mut found = Vec::new(alloc);
     for item in items {
         found.push(Loaded {
             asked: item.asked.share()?,
-            binds: scope.binding(&item.binds),
+            binds: scope.global(&item.binds),
         })?;
     }
     Ok(found)
@@ -142,7 +142,7 @@ fn loaded(alloc: Global, scope: &Scope, items: &[Item]) -> Result<Vec<Loaded>, A
 
 /// A `load`.
 fn load(alloc: Global, scope: &Scope, path: &Text, items: &[Item]) -> Result<Statement, AllocError>
-    ensures { IfOk result (λ l. view.statement l ≡ resolved.load path.now (map (λ i. record { asked = i.asked; binds = binding_of scope.now i.binds }) (map item_of items.now))) }
+    ensures { IfOk result (λ l. view.statement l ≡ resolved.load path.now (map (λ i. record { asked = i.asked; binds = global_of scope.now i.binds }) (map item_of items.now))) }
 {
     let items = loaded(alloc, scope, items)?;
     let path = path.share()?;
@@ -173,7 +173,7 @@ fn def(alloc: Global, scope: &mut Scope, name: &Text, params: &[Param]) -> Resul
         return Err(Unresolved::Breaks);
     }
     let defaults = defaults(alloc, scope, params)?;
-    Ok(Head::Def(scope.binding(name), names, defaults))
+    Ok(Head::Def(scope.global(name), names, defaults))
 }
 
 /// The parts of `BASE[INDEX] = VALUE`, or of the same with `+=`.

@@ -8,6 +8,7 @@
 
 mod bound;
 pub mod file_laws;
+mod frames;
 mod heads;
 mod levels;
 mod names;
@@ -22,4 +23,4 @@ pub use grammar::{Operator, Sign};
 pub use lexer::{FaultKind, FileKind, NoMemory, ParseStop, SyntaxFault};
 pub use names::{Binding, Predeclared, predeclared_as};
 pub use parsing::{Parsed, parse};
-pub use program::{Argument, Function, Loaded, Pair, Round, Statement, Step, Term};
+pub use program::{Argument, Function, Loaded, OwnSlots, Pair, Round, Statement, Step, Term};

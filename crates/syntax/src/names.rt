@@ -37,10 +37,11 @@ pub enum Predeclared {
 /// What a name stands for.
 #[derive(Clone, Copy, PartialEq, Eq, Debug)]
 pub enum Binding {
-    /// A slot of the function around, or of the comprehensions around. The parameters of a function have its first slots,
-    /// then the names that its lines bind, each once, by their first bindings; those of a comprehension stand behind them.
+    /// A slot of the function or of the top level around: its own, or one of the comprehensions around. The parameters of a
+    /// function have its first slots, then the names that its lines bind, each once, by their first bindings; those of a
+    /// comprehension stand behind them.
     Slot(usize),
-    /// A name of the file's top level, counted by first bindings.
+    /// A name of the file's top level, counted by first bindings. Those that are loaded come first.
     Global(usize),
     /// What each file finds bound.
     Builtin(Predeclared),

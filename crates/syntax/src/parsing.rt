@@ -6,11 +6,14 @@ ghost use Rattle.grammar.specs.Blocks.{Block};
 ghost use Rattle.syntax.specs.Files.{syntax};
 ghost use Rattle.syntax.specs.ParsedView.{program_of};
 ghost use Rattle.syntax.specs.ProgramDepth.{IsShallow};
-ghost use Rattle.syntax.specs.Resolved.{resolved};
+ghost use Rattle.syntax.specs.ProgramView as view;
+ghost use Rattle.syntax.specs.Resolved.{program, resolved};
 
+use crate::frames::steps_slots;
 use crate::program::Step;
-use crate::steps::{Stopped, resolve_file};
-use crate::top::file_scope;
+use crate::scope::Scope;
+use crate::steps::{Stopped, number_functions, resolve_file};
+use crate::top::{count_loaded, file_scope};
 use grammar::read_file;
 use indexmap::IndexSet;
 use lexer::{FaultKind, FileKind, ParseStop, SyntaxFault, logical_lines};
@@ -20,10 +23,29 @@ use std::alloc::Global;
 /// The tree of a file, with its names resolved.
 #[derive(Drop)]
 pub struct Parsed {
-    /// The names that its top level binds, by number.
+    /// The names that its top level binds, by number: first those that its loads bind, then its globals, each in the order of
+    /// the text.
     pub globals: IndexSet<Text>,
+    /// How many of these names its loads bind.
+    pub loaded: usize,
+    /// How many slots its top level has: those of the comprehensions that stand there.
+    pub slots: usize,
     /// The statements of its top level.
     pub steps: Vec<Step>,
+}
+
+/// A file of these statements, in the scope of its top level, of whose names so many are loaded.
+fn finished(scope: Scope, loaded: usize, mut steps: Vec<Step>) -> Parsed
+    ensures { program_of result ≡ program scope.globals loaded (view.steps steps.items) }
+{
+    let slots = steps_slots(steps.as_slice());
+    number_functions(&mut steps);
+    Parsed {
+        globals: scope.into_globals(),
+        loaded,
+        slots,
+        steps,
+    }
 }
 
 /// The same as [`parse`].
@@ -42,11 +64,11 @@ fn read(alloc: Global, text: &str, kind: FileKind) -> Result<Parsed, ParseStop>
     let Ok(mut scope) = file_scope(alloc, lines.as_slice()) else {
         return Err(ParseStop::NoMemory);
     };
+    let Ok(loaded) = count_loaded(alloc, lines.as_slice()) else {
+        return Err(ParseStop::NoMemory);
+    };
     match resolve_file(alloc, &mut scope, lines) {
-        Ok(steps) => Ok(Parsed {
-            globals: scope.into_globals(),
-            steps,
-        }),
+        Ok(steps) => Ok(finished(scope, loaded, steps)),
         Err(Stopped::At(line)) => Err(ParseStop::Fault(SyntaxFault {
             line,
             kind: FaultKind::Scope,

@@ -10,6 +10,14 @@ use grammar::{Operator, Sign};
 use plain::Text;
 use std::alloc::{AllocError, Global};
 
+/// The slots of a comprehension's own names: from the first up to the end, which isn't one of them. They are made unset when
+/// its first operand has its value, before its first turn: what stands in that operand may have used the same ones.
+#[derive(Clone, Copy, PartialEq, Eq, Debug)]
+pub struct OwnSlots {
+    pub first: usize,
+    pub end: usize,
+}
+
 /// An expression. It is at most 200 deep in a file that was read.
 #[cycle(terms)]
 #[derive(Drop)]
@@ -29,10 +37,10 @@ pub enum Term {
     Index(Box<Term>, Box<Term>),
     /// A call, with its positional arguments and then those with names.
     Call(Box<Term>, Vec<Term>, Vec<Argument>),
-    /// `[ELEMENT for ..]`, with all its clauses; the first one is a `for`.
-    ListEach(Box<Term>, Vec<Round>),
+    /// `[ELEMENT for ..]`, with the slots of its names, and all its clauses; the first one is a `for`.
+    ListEach(OwnSlots, Box<Term>, Vec<Round>),
     /// `{KEY: VALUE for ..}`.
-    DictEach(Box<Term>, Box<Term>, Vec<Round>),
+    DictEach(OwnSlots, Box<Term>, Box<Term>, Vec<Round>),
 }
 
 /// An entry of a dict.
@@ -60,11 +68,11 @@ pub enum Round {
     If(Term),
 }
 
-/// What a `load` binds: the name in the module, and what it is in this file.
+/// What a `load` binds: the name in the module, and the number of the name in this file.
 #[derive(Drop)]
 pub struct Loaded {
     pub asked: Text,
-    pub binds: Binding,
+    pub binds: usize,
 }
 
 /// A statement. Where several names are bound, the items of a sequence go to them.
@@ -126,11 +134,15 @@ pub struct Branch {
 #[cycle(steps)]
 #[derive(Drop)]
 pub struct Function {
-    pub binds: Binding,
+    /// Functions count from 1 on, in the order of the text; 0 is the top level.
+    pub number: usize,
+    /// The number of the name that it binds at the top level.
+    pub binds: usize,
     pub params: Vec<Text>,
     /// The defaults of the last parameters.
     pub defaults: Vec<Term>,
-    /// How many slots its parameters and its lines have; comprehensions in it have more behind them.
+    /// How many slots it has: its parameters have the first ones, then the names that its lines bind, and behind them the
+    /// comprehensions in it, of which two that aren't in each other may share some.
     pub slots: usize,
     pub steps: Vec<Step>,
 }
@@ -195,23 +207,26 @@ pub(crate) fn call(
 
 pub(crate) fn list_each(
     alloc: Global,
+    own: OwnSlots,
     element: Term,
     clauses: Vec<Round>,
 ) -> Result<Term, AllocError>
-    ensures { IfOk result (λ t. view.term t ≡ resolved.each (view.term element) (view.rounds clauses.items)) }
+    ensures { IfOk result (λ t. view.term t ≡ resolved.each own (view.term element) (view.rounds clauses.items)) }
 {
-    Ok(Term::ListEach(Box::new(alloc, element)?, clauses))
+    Ok(Term::ListEach(own, Box::new(alloc, element)?, clauses))
 }
 
 pub(crate) fn dict_each(
     alloc: Global,
+    own: OwnSlots,
     key: Term,
     value: Term,
     clauses: Vec<Round>,
 ) -> Result<Term, AllocError>
-    ensures { IfOk result (λ t. view.term t ≡ resolved.each_pair (view.term key) (view.term value) (view.rounds clauses.items)) }
+    ensures { IfOk result (λ t. view.term t ≡ resolved.each_pair own (view.term key) (view.term value) (view.rounds clauses.items)) }
 {
-    Ok(Term::DictEach(Box::new(alloc, key)?, Box::new(alloc, value)?, clauses))
+    let key = Box::new(alloc, key)?;
+    Ok(Term::DictEach(own, key, Box::new(alloc, value)?, clauses))
 }
 
 pub(crate) fn tuple(items: Vec<Term>) -> Term

@@ -18,8 +18,8 @@ ghost use Rattle.grammar.specs.TreeView.{clause_of, entries, entry_of, keyword_o
 use crate::bound::clause_names;
 use crate::names::Binding;
 use crate::program::{
-    Argument, Pair, Round, Term, attribute, binary, call, choice, dict_each, dict_of, entry, index,
-    keyword, list_each, list_of, name, number, string, tuple, unary,
+    Argument, OwnSlots, Pair, Round, Term, attribute, binary, call, choice, dict_each, dict_of,
+    entry, index, keyword, list_each, list_of, name, number, string, tuple, unary,
 };
 use crate::scope::{Scope, are_distinct, none_predeclared};
 use grammar::{Clause, Entry, Expr, Keyword, Operator};
@@ -353,8 +353,12 @@ impl<F: Fn(Global, &mut Scope, &Expr, usize) -> Result<Term, Unresolved>> Resolv
         Ok((key, value, rounds))
     }
 
-    /// Goes into a comprehension, and gives the expression of its first clause.
-    fn enter(&self, scope: &mut Scope, clauses: &[Clause]) -> Result<Option<Term>, Unresolved>
+    /// Goes into a comprehension, and gives its slots and the expression of its first clause.
+    fn enter(
+        &self,
+        scope: &mut Scope,
+        clauses: &[Clause],
+    ) -> Result<(OwnSlots, Option<Term>), Unresolved>
         requires { ResolvesInside self.now.turns (F.pre self.now.inside) (F.post self.now.inside) }
         ensures { Enters (rests clauses.now) scope.old result scope.new }
     {
@@ -363,8 +367,8 @@ impl<F: Fn(Global, &mut Scope, &Expr, usize) -> Result<Term, Unresolved>> Resolv
             return Err(Unresolved::Breaks);
         }
         let first = self.first_operand(scope, clauses)?;
-        scope.enter(self.alloc, names.as_slice())?;
-        Ok(first)
+        let own = scope.enter(self.alloc, names.as_slice())?;
+        Ok((own, first))
     }
 
     fn list_each(
@@ -376,11 +380,11 @@ impl<F: Fn(Global, &mut Scope, &Expr, usize) -> Result<Term, Unresolved>> Resolv
         requires { ResolvesInside self.now.turns (F.pre self.now.inside) (F.post self.now.inside) }
         ensures { GivesTerm (each (tree_of element.now) (rests clauses.now)) scope.old result scope.new }
     {
-        let first = self.enter(scope, clauses)?;
+        let (own, first) = self.enter(scope, clauses)?;
         let inside = self.in_list(scope, element, first, clauses);
         scope.leave();
         let (element, rounds) = inside?;
-        Ok(list_each(self.alloc, element, rounds)?)
+        Ok(list_each(self.alloc, own, element, rounds)?)
     }
 
     fn dict_each(
@@ -393,11 +397,11 @@ impl<F: Fn(Global, &mut Scope, &Expr, usize) -> Result<Term, Unresolved>> Resolv
         requires { ResolvesInside self.now.turns (F.pre self.now.inside) (F.post self.now.inside) }
         ensures { GivesTerm (each_entry (tree_of key.now) (tree_of value.now) (rests clauses.now)) scope.old result scope.new }
     {
-        let first = self.enter(scope, clauses)?;
+        let (own, first) = self.enter(scope, clauses)?;
         let inside = self.in_dict(scope, key, value, first, clauses);
         scope.leave();
         let (key, value, rounds) = inside?;
-        Ok(dict_each(self.alloc, key, value, rounds)?)
+        Ok(dict_each(self.alloc, own, key, value, rounds)?)
     }
 
     fn expr(&self, scope: &mut Scope, expr: &Expr) -> Result<Term, Unresolved>

@@ -2,12 +2,13 @@
 
 ghost use Rattle.std.specs.Prelude.{◌≡◌, ◌&&◌, ◌++◌, ◌∷◌, [], ℕ, List, IfOk, OnOk, is_none, true};
 ghost use Rattle.syntax.specs.Names.{among, apart, distinct, once, predeclared, stands_for, width};
-ghost use Rattle.syntax.specs.Resolved.{binding_of};
+ghost use Rattle.syntax.specs.Resolved.{binding_of, global_of};
 ghost use Rattle.syntax.specs.Scopes.{none_predeclared};
 ghost use Rattle.syntax.specs.ScopeView.{entered, in_function, left};
 
 use crate::levels::Levels;
 use crate::names::{Binding, predeclared_as};
+use crate::program::OwnSlots;
 use indexmap::IndexSet;
 use plain::Text;
 use std::alloc::{AllocError, Global};
@@ -126,6 +127,13 @@ impl Scope {
         self.stands_for(name).unwrap_or(Binding::Slot(0))
     }
 
+    /// The number of a name that the top level binds.
+    pub(crate) fn global(&self, name: &Text) -> usize
+        ensures { result ≡ global_of self.now name.now }
+    {
+        self.globals.get_index_of(name).unwrap_or(0)
+    }
+
     /// How many slots are in use.
     pub(crate) fn slots(&self) -> usize
         ensures { result ≡ width self.now.levels }
@@ -133,12 +141,18 @@ impl Scope {
         self.levels.width()
     }
 
-    /// Goes into a comprehension that binds these names.
-    pub(crate) fn enter(&mut self, alloc: Global, names: &[Text]) -> Result<(), AllocError>
-        ensures { OnOk result (self.new ≡ entered names.now self.old) }
+    /// Goes into a comprehension that binds these names, and gives the slots that they have.
+    pub(crate) fn enter(&mut self, alloc: Global, names: &[Text]) -> Result<OwnSlots, AllocError>
+        ensures entered { OnOk result (self.new ≡ entered names.now self.old) }
+        ensures own { IfOk result (λ own. own ≡ record { first = width self.old.levels; end = width self.new.levels }) }
     {
         let level = once(alloc, names)?;
-        self.levels.enter(level)
+        let first = self.slots();
+        self.levels.enter(level)?;
+        Ok(OwnSlots {
+            first,
+            end: self.slots(),
+        })
     }
 
     /// Leaves a comprehension.

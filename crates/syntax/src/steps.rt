@@ -1,7 +1,7 @@
 //! The statements of lines, with their names resolved: blocks in the place of lines, and the lines of a condition as one
 //! statement. The lines of a block are gone through from the last to the first.
 
-ghost use Rattle.std.specs.Prelude.{◌≡◌, [], IfOk, OnOk, reverse};
+ghost use Rattle.std.specs.Prelude.{◌≡◌, ◌≤◌, ◌<◌, ◌+◌, ◌^◌, [], IfOk, OnOk, max, reverse};
 ghost use Rattle.grammar.specs.BareLines.{Lines};
 ghost use Rattle.grammar.specs.LineView as seen;
 ghost use Rattle.grammar.specs.LineView.{form_of, line_of};
@@ -9,11 +9,12 @@ ghost use Rattle.grammar.specs.declared.statements.Line.{out-Line};
 ghost use Rattle.syntax.specs.Names.{Scope as Around, scope_of};
 ghost use Rattle.syntax.specs.ProgramView as view;
 ghost use Rattle.syntax.specs.Resolved as resolved;
-ghost use Rattle.syntax.specs.Resolved.{Branches, begun, head, no_steps, steps_of, with_line};
+ghost use Rattle.syntax.specs.Resolved.{Branches, begun, head, next_number, no_steps, steps_of, with_line, with_number};
 ghost use Rattle.syntax.specs.Resolves.{FollowsOn, IsLater, IsOwn, Places, PlacesSteps, back, before_lines, behind_seen, head_seen, own_fault};
 ghost use Rattle.syntax.specs.Scopes.{line_scoped, lines_fault, top_fault, unless};
 
 use crate::bound::{add_lines, add_params, block_of};
+use crate::frames::steps_slots;
 use crate::heads::{Head, line_head};
 use crate::levels::Levels;
 use crate::names::Binding;
@@ -45,7 +46,7 @@ impl From<AllocError> for Stopped {
     }
 }
 
-/// The statements of a block, and how many slots are in use there.
+/// The statements of a block, and how many slots the names there have.
 #[derive(Drop)]
 pub(crate) struct Inner {
     slots: usize,
@@ -129,14 +130,17 @@ fn repetition(names: Vec<Binding>, operand: Term, steps: Vec<Step>) -> Statement
     Statement::For(names, operand, steps)
 }
 
-fn definition(binds: Binding, params: Vec<Text>, defaults: Vec<Term>, inner: Inner) -> Statement
-    ensures { view.statement result ≡ resolved.define binds params.items (view.terms defaults.items) inner.slots (view.steps inner.steps.items) }
+/// A function, which gets its number later.
+fn definition(binds: usize, params: Vec<Text>, defaults: Vec<Term>, inner: Inner) -> Statement
+    ensures { let body = view.steps inner.steps.items in
+        view.statement result ≡ resolved.define 0 binds params.items (view.terms defaults.items) (max inner.slots (resolved.steps_slots body)) body }
 {
     Statement::Define(Function {
+        number: 0,
         binds,
         params,
         defaults,
-        slots: inner.slots,
+        slots: inner.slots.max(steps_slots(inner.steps.as_slice())),
         steps: inner.steps,
     })
 }
@@ -370,5 +374,31 @@ pub(crate) fn resolve_file(
     match number {
         Some(number) => Err(Stopped::At(number)),
         None => Ok(steps),
+    }
+}
+
+/// Gives a statement this number, if it is a function, and tells that of the next one.
+fn give_number(step: &mut Step, number: usize) -> usize
+    requires { number < 2 ^ 63 }
+    ensures numbered { let was = view.line_and_statement step.old in
+        (view.line_and_statement step.new ≡ (was.0, with_number number was.1)) × (result ≡ next_number number was.1) }
+    ensures next { result ≤ number + 1 }
+{
+    match &mut step.statement {
+        Statement::Define(function) => {
+            function.number = number;
+            number + 1
+        }
+        _ => number,
+    }
+}
+
+/// Gives the functions of a top level their numbers, from 1 on.
+pub(crate) fn number_functions(steps: &mut Vec<Step>)
+    ensures { view.steps steps.new.items ≡ resolved.numbered 1 (view.steps steps.old.items) }
+{
+    let mut number = 1;
+    for step in steps.iter_mut() {
+        number = give_number(step, number);
     }
 }

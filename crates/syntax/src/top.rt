@@ -5,11 +5,11 @@ ghost use Rattle.grammar.specs.LineView as view;
 ghost use Rattle.grammar.specs.BareLines.{Lines, a_line};
 ghost use Rattle.grammar.specs.LineView.{form_of, line_of};
 ghost use Rattle.grammar.specs.declared.statements.Line.{out-Line};
-ghost use Rattle.syntax.specs.Names.{Scope as Around, among, file_scope, form_binds, or_else};
+ghost use Rattle.syntax.specs.Names.{Scope as Around, among, file_scope, form_binds, loads_bind, or_else};
 ghost use Rattle.syntax.specs.Resolves.{binds_anew};
 ghost use Rattle.syntax.specs.Scopes.{adds_to_name, lines_fault, top_fault};
 
-use crate::bound::{add_lines, form_names};
+use crate::bound::{add_lines, add_loaded, form_names};
 use crate::scope::{Scope, bind_anew};
 use grammar::{Form, Line};
 use indexmap::IndexSet;
@@ -27,6 +27,21 @@ pub(crate) fn file_scope(alloc: Global, lines: &[Line]) -> Result<Scope, AllocEr
     let mut names = Vec::new(alloc);
     add_lines(&mut names, lines)?;
     Scope::new(alloc, names.as_slice())
+}
+
+/// How many names loads bind.
+///
+/// # Errors
+///
+/// Where memory was refused.
+pub(crate) fn count_loaded(alloc: Global, lines: &[Line]) -> Result<usize, AllocError>
+    ensures { IfOk result (λ n. n ≡ length (loads_bind (view.lines lines.now))) }
+{
+    let mut names = Vec::new(alloc);
+    for line in lines {
+        add_loaded(&mut names, line)?;
+    }
+    Ok(names.len())
 }
 
 fn adds_to_name(form: &Form) -> bool

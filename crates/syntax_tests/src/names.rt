@@ -1,7 +1,9 @@
 //! What the names of files stand for, in the trees that `parse` gives.
 use std::alloc::Global;
 use std::process::Abort;
-use syntax::{Binding, FileKind, Parsed, Predeclared, Round, Statement, Step, Term, parse};
+use syntax::{
+    Binding, FileKind, Function, OwnSlots, Parsed, Predeclared, Round, Statement, Step, Term, parse,
+};
 
 fn parsed(rt: &impl Abort, alloc: Global, text: &str) -> Parsed {
     match parse(alloc, text, FileKind::Module) {
@@ -21,7 +23,7 @@ fn name(term: &Term) -> Option<Binding> {
 /// What the name stands for that is the element of a list comprehension.
 fn element(term: &Term) -> Option<Binding> {
     match term {
-        Term::ListEach(element, _) => name(element),
+        Term::ListEach(_, element, _) => name(element),
         _ => None,
     }
 }
@@ -91,7 +93,7 @@ fn names_of_functions(rt: HostRuntime) {
 /// through.
 fn elements(term: &Term) -> Option<(Binding, Binding)> {
     match term {
-        Term::ListEach(_, clauses) => match clauses.as_slice() {
+        Term::ListEach(_, _, clauses) => match clauses.as_slice() {
             [Round::For(_, operand), ..] => Some((element(term)?, element(operand)?)),
             _ => None,
         },
@@ -125,5 +127,93 @@ fn names_of_comprehensions(rt: HostRuntime) {
             None => None,
         };
         assert!(&rt; found == Some((outer, inner)), "{text:?}");
+    }
+}
+
+/// The last function of a file.
+fn last_function(steps: &[Step]) -> Option<&Function> {
+    match last(steps)? {
+        Statement::Define(function) => Some(function),
+        _ => None,
+    }
+}
+
+/// The slots of the returned comprehension, and those of the one which its first `for` goes through.
+fn own_slots(term: &Term) -> Option<(OwnSlots, OwnSlots)> {
+    match term {
+        Term::ListEach(outer, _, clauses) => match clauses.as_slice() {
+            [Round::For(_, Term::ListEach(inner, _, _)), ..] => Some((*outer, *inner)),
+            _ => None,
+        },
+        _ => None,
+    }
+}
+
+#[test]
+fn slots_of_comprehensions(rt: HostRuntime) {
+    let rows = [
+        (
+            "def f(l):\n  return [a for a in [y for y in [1] for z in [2]] if b for b in [3]]\n",
+            (1, 3),
+            (1, 3),
+            3,
+        ),
+        (
+            "def f(l):\n  return [a for a in [y for y in [1] for y in [z for z in [2]]]]\n",
+            (1, 2),
+            (1, 2),
+            3,
+        ),
+    ];
+    for (text, outer, inner, slots) in rows {
+        let parsed = parsed(&rt, rt.alloc(), text);
+        let found = match returned(parsed.steps.as_slice()) {
+            Some(value) => own_slots(value),
+            None => None,
+        };
+        let all = match last_function(parsed.steps.as_slice()) {
+            Some(function) => function.slots,
+            None => 0,
+        };
+        let wanted = (
+            OwnSlots {
+                first: outer.0,
+                end: outer.1,
+            },
+            OwnSlots {
+                first: inner.0,
+                end: inner.1,
+            },
+        );
+        assert!(&rt;
+            found == Some(wanted) && all == slots && parsed.slots == 0,
+            "{text:?}"
+        );
+    }
+}
+
+#[test]
+fn numbers_of_a_file(rt: HostRuntime) {
+    let rows = [
+        ("", 0, 0, 0, 0),
+        ("x = [a for a in [b for b in [] for c in []]]\n", 0, 2, 0, 0),
+        (
+            "load(\":a.bzl\", \"a\", b = \"c\")\nload(\":b.bzl\", \"d\")\ndef f(): pass\nx = 1\ndef g(l = [i for i in []]): pass\n",
+            3,
+            1,
+            2,
+            5,
+        ),
+    ];
+    for (text, loaded, slots, number, binds) in rows {
+        let parsed = parsed(&rt, rt.alloc(), text);
+        let found = match last_function(parsed.steps.as_slice()) {
+            Some(function) => (function.number, function.binds),
+            None => (0, 0),
+        };
+        assert!(&rt;
+            (parsed.loaded, parsed.slots, found) == (loaded, slots, (number, binds)),
+            "{text:?}"
+        );
     }
 }

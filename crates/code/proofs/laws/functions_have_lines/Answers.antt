@@ -1,4 +1,5 @@
-use Rattle.code.proofs.Lines.{line_found, function_lined}
+use Rattle.code.proofs.Calls.{line_found}
+use Rattle.code.proofs.Lines.{function_lined}
 use Rattle.code.proofs.laws.functions_have_lines.Goals as goal
 
 pub returns-clause-kept : goal.returns-clause-kept
