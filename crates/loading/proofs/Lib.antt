@@ -1,0 +1,5 @@
+pub mod Rows
+pub mod Trails
+pub mod Heights
+pub mod ByLoads
+pub mod Sources

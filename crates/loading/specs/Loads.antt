@@ -1,0 +1,93 @@
+-- The `load` statements of a file, and why one of them fails (Bazel documentation, "BUILD files", "Loading an extension"; the kinds of faults and their order are this project's own, docs/PROFILE.md, "Loading").
+use Rattle.std.specs.Prelude.{ℕ, Bool, false, not, List, [], ◌∷◌, map, Option, Some, None, Result, Ok, Err, if◌then◌else◌, nat_eq}
+use Rattle.std.specs.List.{list_any}
+use Rattle.std.specs.Str.{bytes_eq}
+
+-- a file's path in the workspace, as `a/rules.bzl`
+abbrev pub Path : Type 0
+Path = List ℕ
+
+-- a name that a module binds
+abbrev pub Name : Type 0
+Name = List ℕ
+
+-- One `load`: the line that it begins on, the path that its label spells, if it spells one, and the names that it asks of that module, in order.
+pub record LoadStatement : Type 0 where
+  pub line : ℕ
+  pub target : Option Path
+  pub asked : List Name
+
+-- A file without a syntax fault: its loads in order, and what of it is evaluated.
+pub record Read (T : Type 0) : Type 0 where
+  pub loads : List LoadStatement
+  pub tree : T
+
+-- Why a file has no globals or targets. S are the kinds of syntax faults, K those of an evaluation's faults.
+pub data LoadFaultKind (S K : Type 0) : Type 0 where
+  syntax : S → LoadFaultKind S K
+  load_cycle : LoadFaultKind S K
+  missing_file : LoadFaultKind S K
+  loaded_module_failed : LoadFaultKind S K
+  private_name : LoadFaultKind S K
+  missing_name : LoadFaultKind S K
+  evaluation : K → LoadFaultKind S K
+  unexported : LoadFaultKind S K
+
+-- a kind of fault, and the place where it stands
+pub record Placed (K : Type 0) : Type 0 where
+  pub kind : K
+  pub path : Path
+  pub line : ℕ
+
+abbrev pub LoadFault : Type 0 → Type 0 → Type 0
+LoadFault S K = Placed (LoadFaultKind S K)
+
+-- A name that begins with `_` is its module's own.
+abbrev pub is_private : Name → Bool
+is_private [] = false
+is_private (b ∷ bs) = nat_eq b 95
+
+-- a path that is no module's is none
+module _ (is_module : Path → Bool) where
+  abbrev pub module_path : Option Path → Option Path
+  module_path None = None
+  module_path (Some q) = if is_module q then Some q else None
+
+  abbrev pub of_module : LoadStatement → LoadStatement
+  of_module l = record { line = l.line; target = module_path l.target; asked = l.asked }
+
+  -- What a file loads are modules: a label of anything else finds no file.
+  abbrev pub of_modules : {T E : Type 0} → Result (Read T) E → Result (Read T) E
+  of_modules (Ok r) = Ok (record { loads = map of_module r.loads; tree = r.tree })
+  of_modules (Err e) = Err e
+
+abbrev pub first_of : {A : Type 0} → Option A → Option A → Option A
+first_of None later = later
+first_of (Some a) later = Some a
+
+-- The loads of the file at a path, one after the other. Each module that is loaded was found, with its globals' names or its own fault, or wasn't.
+module _ {S K M : Type 0} (globals : M → List Name) (path : Path) where
+  abbrev pub fault_at : ℕ → LoadFaultKind S K → LoadFault S K
+  fault_at n k = record { kind = k; path = path; line = n }
+
+  -- the first name of a statement that can't be had: a private one, or one that the module doesn't bind
+  abbrev pub names_fault : ℕ → List Name → M → Option (LoadFault S K)
+  names_fault n [] m = None
+  names_fault n (a ∷ later) m =
+      if is_private a then Some (fault_at n private_name)
+      else (if not (list_any (bytes_eq a) (globals m)) then Some (fault_at n missing_name)
+      else names_fault n later m)
+
+  abbrev pub module_fault : LoadStatement → Option (Result M (LoadFault S K)) → Option (LoadFault S K)
+  module_fault l None = Some (fault_at l.line missing_file)
+  module_fault l (Some (Err f)) = Some (fault_at l.line loaded_module_failed)
+  module_fault l (Some (Ok m)) = names_fault l.line l.asked m
+
+  abbrev pub found : (Path → Option (Result M (LoadFault S K))) → Option Path → Option (Result M (LoadFault S K))
+  found module_at None = None
+  found module_at (Some q) = module_at q
+
+  -- The fault of the first statement that has one.
+  abbrev pub loads_fault : (Path → Option (Result M (LoadFault S K))) → List LoadStatement → Option (LoadFault S K)
+  loads_fault module_at [] = None
+  loads_fault module_at (l ∷ ls) = first_of (module_fault l (found module_at l.target)) (loads_fault module_at ls)
