@@ -1,0 +1,7 @@
+use Rattle.components.specs.Search.{IsResting}
+use Rattle.components.proofs.found.Components.of.Given as goal
+
+abbrev pub invariant-loop-n : goal.invariant-loop-n
+invariant-loop-n l = record {
+  rests : IsResting l.deps l.n l.search;
+}

@@ -1,0 +1,3 @@
+pub mod Components
+pub mod Search
+pub mod Turns
