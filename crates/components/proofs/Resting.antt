@@ -4,7 +4,7 @@ use Rattle.std.specs.Prelude.{slice_index}
 use Rattle.std.proofs.lemmas.List.{get_or_past, get_or_default}
 use Rattle.edges.specs.Rows.{row, has}
 use Rattle.edges.specs.Walks.{Walk, OnCycle}
-use Rattle.edges.proofs.Lists.{below_or_past, to_has, from_has}
+use Rattle.edges.proofs.Lists.{below_or_past, to_has, from_has, has-get_or}
 use Rattle.components.specs.declared.search.Place.{Place}
 use Rattle.components.specs.declared.search.Place.TheVariants.{Unmet, Open, Closed}
 use Rattle.components.specs.Components.{AreInside, AreComponents}
@@ -134,6 +134,11 @@ module _ (deps : List (List ℕ)) (v : View) where
             no_row n past c = let none = ap length (get_or_past deps n [] past) in omega (arith, none, c.1)
 
 -- ---- a node on a cycle
+
+-- what is read of a row is listed in it
+pub listed : (ds : List ℕ) (now : List ℕ) (i d : ℕ) → now ≡ ds → i < length now → d ≡ get_or now i d → has ds d ≡ true
+listed ds now i d same low is =
+    subst (λ x. has x d ≡ true) same (subst (λ x. has now x ≡ true) (get_or_default now i 0 d low ∙ sym is) (has-get_or now i low))
 
 module _ (deps : List (List ℕ)) (inside : AreInside deps) (numbers : List ℕ) (c : AreComponents deps numbers) (n : ℕ) (low : n < length deps) where
   pub cycle_by : (d : ℕ) → Contains (row deps n) d → get_or numbers d 0 ≡ get_or numbers n 0 → OnCycle (row deps) n

@@ -6,4 +6,4 @@
 mod found;
 mod search;
 
-pub use found::Components;
+pub use found::{Components, is_inside};

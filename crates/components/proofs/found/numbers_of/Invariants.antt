@@ -1,5 +1,5 @@
 use Rattle.components.specs.Search.{IsResting}
-use Rattle.components.proofs.found.Components.of.Given as goal
+use Rattle.components.proofs.found.numbers_of.Given as goal
 
 abbrev pub invariant-loop-n : goal.invariant-loop-n
 invariant-loop-n l = record {
