@@ -1,0 +1,3 @@
+pub mod Coherent
+pub mod Together
+pub mod Laws
