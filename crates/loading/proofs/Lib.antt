@@ -3,3 +3,4 @@ pub mod Trails
 pub mod Heights
 pub mod ByLoads
 pub mod Sources
+pub mod Kept

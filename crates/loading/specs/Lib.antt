@@ -1,3 +1,4 @@
 pub mod Loads
 pub mod Modules
+pub mod Together
 pub mod Laws

@@ -2,7 +2,8 @@
 //! reading of its texts and every evaluation.
 
 ghost use Rattle.loading.specs.Modules.{Sources};
-ghost use Rattle.loading.specs.Laws.{TellsCycles, ComeFromLower, LoadsAreLower};
+ghost use Rattle.loading.specs.Laws.{TellsCycles, ComeFromLower, LoadsAreLower, KeptByEach};
+ghost use Rattle.loading.specs.Together.{Seen};
 
 /// A file is found to be on a load cycle exactly where some walk along loads leads from it back to itself.
 pub fn load_cycles_are_walks<T, M, S, K>()
@@ -14,4 +15,10 @@ pub fn load_cycles_are_walks<T, M, S, K>()
 pub fn modules_come_from_their_loads<T, M, S, K>()
     ensures lower { (w : Sources T M S K) → ComeFromLower w }
     ensures loads { (w : Sources T M S K) → LoadsAreLower w }
+{}
+
+/// Where the evaluation of each module keeps one tree for an id, all modules of a workspace together do, and each of their
+/// depsets is owned by a module.
+pub fn modules_are_coherent_together<T, M, S, K, D, I>()
+    ensures { (w : Sources T M S K) (s : Seen M D I) → KeptByEach w s }
 {}
