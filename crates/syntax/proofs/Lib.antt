@@ -2,7 +2,12 @@ pub mod BlocksNested
 pub mod FaultLaws
 pub mod FileDepths
 pub mod FileLaws
+pub mod FileRanges
 pub mod FileRows
+pub mod LineRanges
+pub mod NamePlaces
 pub mod ProgramDepths
 pub mod ProgramLemmas
 pub mod ScopeLemmas
+pub mod TermRanges
+pub mod WellFormed

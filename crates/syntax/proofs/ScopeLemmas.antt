@@ -12,7 +12,7 @@ use Rattle.syntax.specs.Resolves.{binds_anew}
 use Rattle.syntax.specs.Scopes.{adds_to_name, line_scoped, lines_fault, top_fault, top_line_scoped, unless}
 
 -- names that are equal, by the test
-same_name : (x y : Name) → bytes_eq x y ≡ true → x ≡ y
+pub same_name : (x y : Name) → bytes_eq x y ≡ true → x ≡ y
 same_name x y e = (bytes_eq-Decides x y).0 e
 
 eq_sym : (x y : Name) → bytes_eq x y ≡ bytes_eq y x

@@ -6,5 +6,6 @@ pub mod Resolved
 pub mod ProgramDepth
 pub mod ScopeView
 pub mod ProgramView
+pub mod IsProgram
 pub mod Resolves
 pub mod ParsedView

@@ -4,6 +4,7 @@ ghost use Rattle.std.specs.Prelude.{◌≡◌, IfOk, Ok, Err};
 ghost use Rattle.grammar.specs.BareLines.{bare_lines};
 ghost use Rattle.grammar.specs.Blocks.{Block};
 ghost use Rattle.syntax.specs.Files.{syntax};
+ghost use Rattle.syntax.specs.IsProgram.{IsProgram};
 ghost use Rattle.syntax.specs.ParsedView.{program_of};
 ghost use Rattle.syntax.specs.ProgramDepth.{IsShallow};
 ghost use Rattle.syntax.specs.ProgramView as view;
@@ -78,7 +79,8 @@ fn read(alloc: Global, text: &str, kind: FileKind) -> Result<Parsed, ParseStop>
 }
 
 /// Reads a file: its characters, its tokens, its brackets and columns, its statements, and then its scopes. The grammar is
-/// that of the Starlark specification in this project's profile. What it gives is shallow, however long the text is.
+/// that of the Starlark specification in this project's profile. What it gives is shallow, however long the text is, and each
+/// statement and what each name stands for is in its place.
 ///
 /// # Errors
 ///
@@ -87,6 +89,7 @@ fn read(alloc: Global, text: &str, kind: FileKind) -> Result<Parsed, ParseStop>
 pub fn parse(alloc: Global, text: &str, kind: FileKind) -> Result<Parsed, ParseStop>
     ensures tree { IfOk result (λ p. (tree : Block) × (syntax text.now kind ≡ Ok tree) × (program_of p ≡ resolved (bare_lines tree))) }
     ensures shallow { IfOk result (λ p. IsShallow (program_of p)) }
+    ensures fits { IfOk result (λ p. IsProgram (program_of p)) }
     ensures fault { (f : SyntaxFault) → result ≡ Err (ParseStop.Fault f) → syntax text.now kind ≡ Err f }
 {
     read(alloc, text, kind)

@@ -2,10 +2,12 @@ use Rattle.std.proofs.Common.{◌≡◌, Ok}
 use Rattle.grammar.specs.Blocks.{Block}
 use Rattle.grammar.specs.BareLines.{bare_lines}
 use Rattle.syntax.specs.Files.{syntax}
+use Rattle.syntax.specs.IsProgram.{IsProgram}
 use Rattle.syntax.specs.ParsedView.{program_of}
 use Rattle.syntax.specs.ProgramDepth.{IsShallow}
 use Rattle.syntax.specs.Resolved.{resolved}
 use Rattle.syntax.proofs.FileDepths.{program_shallow}
+use Rattle.syntax.proofs.FileRanges.{program_is}
 use Rattle.syntax.proofs.ProgramLemmas.{if_ok_then}
 use Rattle.syntax.proofs.parsing.parse.Goals as goal
 
@@ -16,4 +18,13 @@ returns-clause-shallow c =
     (λ p. (tree : Block) × (syntax text c.args.kind ≡ Ok tree) × (program_of p ≡ resolved (bare_lines tree)))
     (λ p. IsShallow (program_of p))
     (λ p t. program_shallow text c.args.kind t.0 (program_of p) t.1 t.2)
+    c.read.ensures.tree
+
+pub returns-clause-fits : goal.returns-clause-fits
+returns-clause-fits c =
+    let text = c.args.text.now in
+    if_ok_then c.read.result
+    (λ p. (tree : Block) × (syntax text c.args.kind ≡ Ok tree) × (program_of p ≡ resolved (bare_lines tree)))
+    (λ p. IsProgram (program_of p))
+    (λ p t. program_is text c.args.kind t.0 (program_of p) t.1 t.2)
     c.read.ensures.tree
