@@ -1,0 +1,51 @@
+//! `bzlan_pack`: a folder in, an input of `bzlan` out.
+#![tactic(auto)]
+
+use clap::Error;
+use clap::error::ErrorKind;
+use devices::Counted;
+use packing::{HostFolder, PackWords, pack, read_pack_words, status, tell};
+use std::process::ExitCode;
+use std::{env, io};
+
+/// Packs the folder that the words name, and gives the exit status.
+fn run(rt: &HostRuntime, words: PackWords<'_>) -> u8 {
+    let alloc = rt.alloc();
+    let folder = HostFolder::new(rt, words.root);
+    let mut sink = Counted::new(io::writer(rt));
+    let packed = pack(&folder, alloc, words.strict, &mut sink);
+    let _ = tell(rt, alloc, words.root, &packed);
+    status(&packed)
+}
+
+/// Prints what the words came to where they ask for no packing, and gives the exit status.
+fn refuse(rt: &HostRuntime, error: &Error) -> u8 {
+    let printed = error.print(rt);
+    match error.kind() {
+        ErrorKind::OutOfMemory => 3,
+        ErrorKind::DisplayHelp | ErrorKind::DisplayVersion => match printed {
+            Ok(()) => 0,
+            Err(_) => 4,
+        },
+        _ => 2,
+    }
+}
+
+fn main(rt: HostRuntime) -> ExitCode {
+    let words = match env::args(&rt) {
+        Ok(words) => words,
+        Err(_) => {
+            let _ = eprintln!(rt; "bzlan_pack: the words aren't UTF-8");
+            return ExitCode::from(2);
+        }
+    };
+    let Ok(words) = words.collect::<Vec<String>>(rt.alloc()) else {
+        let _ = eprintln!(rt; "bzlan_pack: no memory");
+        return ExitCode::from(3);
+    };
+    let ended = match read_pack_words(rt.alloc(), words.as_slice()) {
+        Ok(words) => run(&rt, words),
+        Err(error) => refuse(&rt, &error),
+    };
+    ExitCode::from(ended)
+}

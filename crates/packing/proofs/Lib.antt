@@ -1,0 +1,3 @@
+pub mod WalkLemmas
+pub mod InputTexts
+pub mod WritingLemmas

@@ -1,0 +1,170 @@
+-- Steps of a walk.
+use Rattle.std.proofs.Common.{◌≡◌, ◌∙◌, ◌⊎◌, ◌<◌, ◌+◌, ◌++◌, ℕ, List, [], ◌∷◌, length, refl, ap, sym, subst, inl, inr, arith, take, get_or}
+use Rattle.std.specs.Prelude.{All, Contains}
+use Rattle.std.specs.declared.cmp.Ordering.{Ordering}
+use Rattle.std.specs.declared.cmp.Ordering.TheVariants.{Less, Equal, Greater}
+use Rattle.std.specs.BTreeSet.{insert_key}
+use Rattle.std.specs.Cmp.Lexicographic.{slice_cmp}
+use Rattle.std.specs.Ordering.{is_eq, match_ordering, nat_cmp}
+use Rattle.std.proofs.lemmas.List.{take_more}
+use Rattle.std.proofs.lemmas.List.Elements.{All-push, Contains-append_cases, Contains-append_left, Contains-append_right, Contains-push, Contains-push_cases}
+use Rattle.std.proofs.lemmas.Map.Text.{is_eq-slice_cmp}
+use Rattle.std.proofs.lemmas.Slice.Eq.{bytes_eq-Decides}
+use Rattle.std.proofs.lemmas.Map.Views.{All-insert_key}
+use Rattle.packing.specs.Folders.{At, HasKind, HasNames, IsFile, Reaches, here, inside}
+use Rattle.packing.specs.Packs.{HasCause, IsNamed}
+use Rattle.packing.specs.Walks.{CoversFrom, CoversName, Grows, IsCovered, IsWalked}
+use Rattle.packing.specs.declared.folders.Kind.TheVariants as kind
+use Rattle.packing.specs.declared.leaving.LeftOut.{LeftOut}
+use Rattle.packing.specs.declared.walk.Walk.{Walk}
+
+same-contains : {X : Type 0} (xs ys : List X) (x : X) → ys ≡ xs → Contains xs x → Contains ys x
+same-contains xs ys x same h = subst (λ zs. Contains zs x) (sym same) h
+
+named-same : (at : At) (left more : List LeftOut) (l : LeftOut) (path : List ℕ) → more ≡ left ++ l ∷ [] → IsNamed at left path → IsNamed at more path
+named-same at left more l path is n =
+    (n.0, same-contains (left ++ l ∷ []) more n.0 is (Contains-append_left left (l ∷ []) n.0 n.1), n.2)
+
+-- something more is named
+pub grows-left : (at : At) (old new : Walk) (l : LeftOut) → new.files.keys ≡ old.files.keys → new.waiting.items ≡ old.waiting.items
+    → new.left.items ≡ old.left.items ++ l ∷ [] → HasCause at l → Grows at old new
+grows-left at old new l files waiting left cause = record {
+  covered = λ path h. elim h [
+    | inl found ↦ inl (same-contains old.files.keys new.files.keys path files found)
+    | inr rest ↦ elim rest [
+      | inl named ↦ inr (inl (named-same at old.left.items new.left.items l path left named))
+      | inr waits ↦ inr (inr (waits.0, same-contains old.waiting.items new.waiting.items waits.0 waiting waits.1, waits.2))
+    ]
+  ];
+  files = λ h. subst (λ ks. All (λ p. IsFile (at p)) ks) (sym files) h;
+  causes = λ h. subst (λ ls. All (HasCause at) ls) (sym left) (All-push (HasCause at) old.left.items l h cause);
+}
+
+pub covers-left : (at : At) (new : Walk) (left : List LeftOut) (l : LeftOut) → new.left.items ≡ left ++ l ∷ [] → CoversFrom at new l.path
+covers-left at new left l is path h =
+    inr (inl (l, same-contains (left ++ l ∷ []) new.left.items l is (Contains-push left l), h))
+
+pub grows-same : (at : At) (w : Walk) → Grows at w w
+grows-same at w = record { covered = λ path h. h; files = λ h. h; causes = λ h. h }
+
+pub grows-then : (at : At) (a b c : Walk) → Grows at a b → Grows at b c → Grows at a c
+grows-then at a b c g h = record {
+  covered = λ path k. h.covered path (g.covered path k);
+  files = λ k. h.files (g.files k);
+  causes = λ k. h.causes (g.causes k);
+}
+
+-- ---- paths in order
+
+abbrev order : List ℕ → List ℕ → Ordering
+order = slice_cmp nat_cmp
+
+same_path : (x y : List ℕ) → order x y ≡ Equal → x ≡ y
+same_path x y is = (bytes_eq-Decides x y).0 (sym (is_eq-slice_cmp x y) ∙ ap is_eq is)
+
+one : (x : List ℕ) (xs : List (List ℕ)) (q : List ℕ) → x ≡ q → Contains (x ∷ xs) q
+one x xs q same = (0, omega arith, same)
+
+insert-keeps : (ks : List (List ℕ)) (k q : List ℕ) → Contains ks q → Contains (insert_key order ks k) q
+insert-keeps [] k q h = absurd (omega (arith, h.1))
+insert-keeps (x ∷ xs) k q h = go (insert-keeps xs k q) (order k x)
+  where
+    go : (Contains xs q → Contains (insert_key order xs k) q) → (o : Ordering)
+        → Contains (match_ordering o (k ∷ x ∷ xs) (x ∷ xs) (x ∷ insert_key order xs k)) q
+    go rest Less = Contains-append_right (k ∷ []) (x ∷ xs) q h
+    go rest Equal = h
+    go rest Greater = elim (Contains-append_cases (x ∷ []) xs q h) [
+      | inl first ↦ Contains-append_left (x ∷ []) (insert_key order xs k) q first
+      | inr later ↦ Contains-append_right (x ∷ []) (insert_key order xs k) q (rest later)
+    ]
+
+pub insert-has : (ks : List (List ℕ)) (k : List ℕ) → Contains (insert_key order ks k) k
+insert-has [] k = one k [] k refl
+insert-has (x ∷ xs) k = go (insert-has xs k) (order k x) refl
+  where
+    go : Contains (insert_key order xs k) k → (o : Ordering) → order k x ≡ o
+        → Contains (match_ordering o (k ∷ x ∷ xs) (x ∷ xs) (x ∷ insert_key order xs k)) k
+    go rest Less is = one k (x ∷ xs) k refl
+    go rest Equal is = one x xs k (sym (same_path k x is))
+    go rest Greater is = Contains-append_right (x ∷ []) (insert_key order xs k) k rest
+
+-- a file more is found
+pub grows-found : (at : At) (old new : Walk) (path : List ℕ) → new.files.keys ≡ insert_key order old.files.keys path
+    → new.waiting.items ≡ old.waiting.items → new.left.items ≡ old.left.items → IsFile (at path) → Grows at old new
+grows-found at old new path files waiting left is = record {
+  covered = λ p h. elim h [
+    | inl found ↦ inl (same-contains (insert_key order old.files.keys path) new.files.keys p files (insert-keeps old.files.keys path p found))
+    | inr rest ↦ elim rest [
+      | inl named ↦ inr (inl (named.0, same-contains old.left.items new.left.items named.0 left named.1, named.2))
+      | inr waits ↦ inr (inr (waits.0, same-contains old.waiting.items new.waiting.items waits.0 waiting waits.1, waits.2))
+    ]
+  ];
+  files = λ h. subst (λ ks. All (λ p. IsFile (at p)) ks) (sym files) (All-insert_key order path (λ p. IsFile (at p)) old.files.keys h is);
+  causes = λ h. subst (λ ls. All (HasCause at) ls) (sym left) h;
+}
+
+-- from a regular file only itself is reached
+alone : (at : At) (from path : List ℕ) → HasKind (at from) kind.File → Reaches at from path → path ≡ from
+alone at from path is (here p bytes there) = refl
+alone at from path is (inside f name p names there listed kept seen later) =
+    let bad : kind.File ≡ kind.Folder = subst (λ n. HasKind n kind.File) there is in absurd (cc)
+
+pub covers-found : (at : At) (w : Walk) (path : List ℕ) → HasKind (at path) kind.File → Contains w.files.keys path → CoversFrom at w path
+covers-found at w path is found p h = inl (subst (λ q. Contains w.files.keys q) (sym (alone at path p is h)) found)
+
+-- ---- into a folder
+
+-- by a name that isn't in the folder nothing is reached
+pub covers-names : (at : At) (w : Walk) (from : List ℕ) (names : List (List ℕ)) → HasNames (at from) names
+    → ((name : List ℕ) → Contains names name → CoversName at w from name) → CoversFrom at w from
+covers-names at w from names told each path (here p bytes there) =
+    absurd (subst (λ n. HasNames n names) there told)
+covers-names at w from names told each path (inside f name p ns there listed kept seen later) =
+    let same : names ≡ ns = subst (λ n. HasNames n names) there told in
+    each name (subst (λ (xs : List (List ℕ)). Contains xs name) (sym same) listed) kept seen path later
+
+pub covers-grown : (at : At) (a b : Walk) (from : List ℕ) → Grows at a b → CoversFrom at a from → CoversFrom at b from
+covers-grown at a b from g h path r = g.covered path (h path r)
+
+pub covers-more : (at : At) (a b : Walk) (from : List ℕ) (names : List (List ℕ)) (i : ℕ) (d : List ℕ) → i < length names → Grows at a b
+    → ((name : List ℕ) → Contains (take i names) name → CoversName at a from name) → CoversName at b from (get_or names i d)
+    → (name : List ℕ) → Contains (take (i + 1) names) name → CoversName at b from name
+covers-more at a b from names i d lt g before now name h =
+    let grown : take (i + 1) names ≡ take i names ++ get_or names i d ∷ [] = take_more names i d lt in
+    elim (Contains-push_cases (take i names) (get_or names i d) name (subst (λ (xs : List (List ℕ)). Contains xs name) grown h)) [
+      | inl early ↦ λ kept seen path r. g.covered path (before name early kept seen path r)
+      | inr same ↦ subst (λ (n : List ℕ). CoversName at b from n) same now
+    ]
+
+-- ---- the whole walk
+
+-- a folder that waited is taken out
+pub taken-covered : (at : At) (old new : Walk) (from path : List ℕ) → new.files.keys ≡ old.files.keys → new.left.items ≡ old.left.items
+    → old.waiting.items ≡ new.waiting.items ++ from ∷ [] → IsCovered at old path → IsCovered at new path ⊎ Reaches at from path
+taken-covered at old new from path files left waiting h = elim h [
+  | inl found ↦ inl (inl (same-contains old.files.keys new.files.keys path files found))
+  | inr rest ↦ elim rest [
+    | inl named ↦ inl (inr (inl (named.0, same-contains old.left.items new.left.items named.0 left named.1, named.2)))
+    | inr waits ↦ elim (Contains-push_cases new.waiting.items from waits.0 (subst (λ (xs : List (List ℕ)). Contains xs waits.0) waiting waits.1)) [
+      | inl other ↦ inl (inr (inr (waits.0, other, waits.2)))
+      | inr this ↦ inr (subst (λ (f : List ℕ). Reaches at f path) (sym this) waits.2)
+    ]
+  ]
+]
+
+pub walked : (at : At) (w : Walk) → w.waiting.items ≡ [] → CoversFrom at w [] → All (λ p. IsFile (at p)) w.files.keys
+    → All (HasCause at) w.left.items → IsWalked at w
+walked at w none covers files causes = record {
+  whole = λ path r. elim (covers path r) [
+    | inl found ↦ inl found
+    | inr rest ↦ elim rest [
+      | inl named ↦ inr named
+      | inr waits ↦ absurd (nothing waits.0 (subst (λ (xs : List (List ℕ)). Contains xs waits.0) none waits.1))
+    ]
+  ];
+  files = files;
+  causes = causes;
+}
+  where
+    nothing : (p : List ℕ) → Contains [] p → ⊥
+    nothing p h = omega (arith, h.1)

@@ -1,0 +1,21 @@
+use Rattle.std.proofs.Common.{◌≡◌, ◌∙◌, subst}
+use Rattle.std.proofs.lemmas.Result.{IfOk-weaker}
+use Rattle.std.specs.Prelude.{Contains, List, ℕ}
+use Rattle.packing.specs.Folders.{HasKind, below}
+use Rattle.packing.specs.declared.folders.Kind.{Kind}
+use Rattle.packing.specs.declared.folders.Kind.TheVariants as kind
+use Rattle.packing.proofs.WalkLemmas.{covers-found}
+use Rattle.packing.proofs.walk.Walk.take.Goals as goal
+
+pub returns-in-Ok-File-clause-covers : goal.returns-in-Ok-File-clause-covers
+returns-in-Ok-File-clause-covers g c =
+    let at = g.F.Folder.at c.args.folder.now in
+    let named : c.as_str.result.now ≡ below c.args.from.now c.args.name.now = c.as_str.ensures ∙ c.in_ok-path.ensures in
+    let told : HasKind (at c.as_str.result.now) kind.File = subst (λ (k : Kind). HasKind (at c.as_str.result.now) k) c.in-Ok-File.field-0-is c.in-Ok-File.ensures in
+    let there : HasKind (at (below c.args.from.now c.args.name.now)) kind.File = subst (λ (p : List ℕ). HasKind (at p) kind.File) named told in
+    IfOk-weaker c.find.result _ _ (λ r h kept seen. covers-found at c.find.new.self (below c.args.from.now c.args.name.now) there
+    (subst (λ (p : List ℕ). Contains c.find.new.self.files.keys p) c.in_ok-path.ensures h)) c.find.ensures.has
+
+pub returns-in_ok-reason-in-Err-clause-grows : goal.returns-in_ok-reason-in-Err-clause-grows
+returns-in_ok-reason-in-Err-clause-grows g c =
+    IfOk-weaker c.leave-in-Err.result _ _ (λ r h. h (g.F.Folder.at c.args.folder.now) (c.in_ok-reason-in-Err.ensures (g.F.Folder.at c.args.folder.now) c.in_ok-path.path)) c.leave-in-Err.ensures.grows

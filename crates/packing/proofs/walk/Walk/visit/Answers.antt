@@ -1,0 +1,24 @@
+use Rattle.std.proofs.Common.{List, ℕ, subst, sym}
+use Rattle.std.proofs.lemmas.Result.{IfOk-weaker}
+use Rattle.std.specs.Prelude.{Contains}
+use Rattle.packing.specs.Folders.{HasNames}
+use Rattle.packing.specs.Walks.{CoversName}
+use Rattle.packing.proofs.WalkLemmas.{covers-names, grows-then}
+use Rattle.packing.proofs.walk.Walk.visit.Goals as goal
+
+pub returns-in-Err-clause-grows : goal.returns-in-Err-clause-grows
+returns-in-Err-clause-grows g c =
+    IfOk-weaker c.leave.result _ _ (λ r h. h (g.F.Folder.at c.args.folder.now) (c.in_ok-reason-in-Err.ensures (g.F.Folder.at c.args.folder.now) c.args.from)) c.leave.ensures.grows
+
+pub returns-in_ok-leave-clause-grows : goal.returns-in_ok-leave-clause-grows
+returns-in_ok-leave-clause-grows g c =
+    let at = g.F.Folder.at c.args.folder.now in
+    grows-then at c.args.self.now c.take_each.new.self c.leave-then-listing.new.self c.in_ok-take_each.ensures.grows (c.in_ok-leave.ensures.grows at tt)
+
+pub returns-else-listing-clause-covers : goal.returns-else-listing-clause-covers
+returns-else-listing-clause-covers g c =
+    let at = g.F.Folder.at c.args.folder.now in
+    let told : HasNames (at c.args.from) c.in-Ok.listing.names.items = subst (λ (p : List ℕ). HasNames (at p) c.in-Ok.listing.names.items) c.as_str.ensures c.in-Ok.ensures in
+    covers-names at c.take_each.new.self c.args.from c.in-Ok.listing.names.items told
+    (λ name listed. subst (λ (p : List ℕ). CoversName at c.take_each.new.self p name) c.as_str-2.ensures
+    (c.in_ok-take_each.ensures.covers name (subst (λ (ns : List (List ℕ)). Contains ns name) (sym c.deref.ensures.value) listed)))

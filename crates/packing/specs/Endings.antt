@@ -1,0 +1,13 @@
+-- The exit status (docs/REPORT.md, "bzlan_pack"; this project's own choice).
+use Rattle.std.specs.Prelude.{ℕ, Result, Ok, Err}
+use Rattle.packing.specs.declared.whole.PackStop.{PackStop}
+use Rattle.packing.specs.declared.whole.PackStop.TheVariants as stop
+use Rattle.packing.specs.declared.whole.Packed.{Packed}
+
+abbrev pub status_of : Result Packed PackStop → ℕ
+status_of (Ok packed) = 0
+status_of (Err (stop.LeftOut left)) = 1
+status_of (Err (stop.TooLong sizes)) = 2
+status_of (Err stop.NoMemory) = 3
+status_of (Err (stop.Root unread)) = 4
+status_of (Err stop.Write) = 4

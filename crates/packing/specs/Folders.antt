@@ -1,0 +1,88 @@
+-- What stands in a folder, and what a walk through it reaches (docs/REPORT.md, "bzlan_pack"; this project's own choice).
+--
+-- A folder is seen as a function: what stands at each path below it. `None` says that it isn't known, as of the
+-- folders of a system, or that nothing stands there. The folder itself is at the empty path.
+use Rattle.std.specs.Prelude.{◌≡◌, ◌<◌, ℕ, Bool, true, false, nat_eq, List, [], ◌∷◌, ◌++◌, length, codes, Option, Some, None, Contains, ⊤}
+use Rattle.std.specs.List.{starts_with}
+use Rattle.packing.specs.declared.folders.Kind.{Kind}
+use Rattle.packing.specs.declared.folders.Kind.TheVariants as kind
+
+-- a folder with the names in it, a regular file with its bytes, a link, or what is none of these
+pub data Node : Type 0 where
+  folder : List (List ℕ) → Node
+  file : List ℕ → Node
+  link : Node
+  special : Node
+
+abbrev pub At : Type 0
+At = List ℕ → Option Node
+
+-- the path of a name in a folder
+abbrev pub below : List ℕ → List ℕ → List ℕ
+below [] name = name
+below (b ∷ bs) name = (b ∷ bs) ++ 47 ∷ name
+
+-- `bazel-*` in the root: Bazel's links to what it makes
+abbrev pub is_output : List ℕ → List ℕ → Bool
+is_output [] name = starts_with nat_eq name (codes "bazel-")
+is_output (b ∷ bs) name = false
+
+-- its name begins with a dot
+abbrev pub is_hidden : List ℕ → Bool
+is_hidden name = starts_with nat_eq name (codes ".")
+
+-- a folder whose name begins with a dot
+abbrev pub IsHiddenFolder : Option Node → List ℕ → Type 0
+IsHiddenFolder None name = ⊥
+IsHiddenFolder (Some (folder names)) name = is_hidden name ≡ true
+IsHiddenFolder (Some (file bytes)) name = ⊥
+IsHiddenFolder (Some link) name = ⊥
+IsHiddenFolder (Some special) name = ⊥
+
+-- from a folder a walk reaches the regular file at a path: by names that stand in the folders on the way, none of
+-- them left out
+pub data Reaches (at : At) : List ℕ → List ℕ → Type 0 where
+  here : (path bytes : List ℕ) → at path ≡ Some (file bytes) → Reaches at path path
+  inside : (from name path : List ℕ) (names : List (List ℕ)) → at from ≡ Some (folder names) → Contains names name
+      → is_output from name ≡ false → (IsHiddenFolder (at (below from name)) name → ⊥)
+      → Reaches at (below from name) path → Reaches at from path
+
+-- what a folder tells, against what is known: its names
+abbrev pub HasNames : Option Node → List (List ℕ) → Type 0
+HasNames None told = ⊤
+HasNames (Some (folder names)) told = told ≡ names
+HasNames (Some (file bytes)) told = ⊥
+HasNames (Some link) told = ⊥
+HasNames (Some special) told = ⊥
+
+-- what stands at a path
+abbrev pub HasKind : Option Node → Kind → Type 0
+HasKind None k = ⊤
+HasKind (Some (folder names)) k = k ≡ kind.Folder
+HasKind (Some (file bytes)) k = k ≡ kind.File
+HasKind (Some link) k = k ≡ kind.Link
+HasKind (Some special) k = k ≡ kind.Special
+
+-- a regular file's bytes
+abbrev pub HasBytes : Option Node → List ℕ → Type 0
+HasBytes None told = ⊤
+HasBytes (Some (folder names)) told = ⊥
+HasBytes (Some (file bytes)) told = told ≡ bytes
+HasBytes (Some link) told = ⊥
+HasBytes (Some special) told = ⊥
+
+-- a regular file has more bytes than these
+abbrev pub IsLonger : Option Node → ℕ → Type 0
+IsLonger None limit = ⊤
+IsLonger (Some (folder names)) limit = ⊥
+IsLonger (Some (file bytes)) limit = limit < length bytes
+IsLonger (Some link) limit = ⊥
+IsLonger (Some special) limit = ⊥
+
+-- a regular file, where it is known
+abbrev pub IsFile : Option Node → Type 0
+IsFile None = ⊤
+IsFile (Some (folder names)) = ⊥
+IsFile (Some (file bytes)) = ⊤
+IsFile (Some link) = ⊥
+IsFile (Some special) = ⊥

@@ -1,0 +1,85 @@
+-- What is packed of a folder, and what is left out (docs/REPORT.md, "bzlan_pack"; this project's own choice).
+use Rattle.std.specs.Prelude.{◌≡◌, ◌⊎◌, ℕ, Bool, true, false, ◌||◌, if◌then◌else◌, List, [], codes, Option, Some, None, Contains, All, IsUtf8, ⊤}
+use Rattle.std.specs.Cmp.Lexicographic.{slice_cmp}
+use Rattle.std.specs.List.Sorted.{IsStrictlySortedBy}
+use Rattle.std.specs.Ordering.{nat_cmp}
+use Rattle.std.specs.Str.{bytes_eq}
+use Rattle.request.specs.Input.{Spells}
+use Rattle.workspace.specs.FileKinds.{is_build_file, is_module}
+use Rattle.workspace.specs.Paths.{is_path, last_segment}
+use Rattle.workspace.specs.Workspaces.{Pair, paths_of, text_limit}
+use Rattle.packing.specs.Folders.{At, IsLonger, Node, Reaches, file, folder, link, special}
+use Rattle.packing.specs.declared.leaving.LeftOut.{LeftOut}
+use Rattle.packing.specs.declared.leaving.Reason.{Reason}
+use Rattle.packing.specs.declared.leaving.Reason.TheVariants as reason
+
+-- a `BUILD` file or a module: the text is used
+abbrev pub is_used : List ℕ → Bool
+is_used path = is_build_file path || is_module path
+
+-- `BUILD.bazel` and `MODULE.bazel`, which `bzlan` doesn't serve
+abbrev pub is_bazel_file : List ℕ → Bool
+is_bazel_file path =
+    bytes_eq (last_segment path) (codes "BUILD.bazel") || bytes_eq (last_segment path) (codes "MODULE.bazel")
+
+-- the text of a file where it is used, and else the empty text
+abbrev pub used_text : List ℕ → List ℕ → List ℕ
+used_text path bytes = if is_used path then bytes else []
+
+-- the pair is of the regular file that stands there, where that is known
+abbrev pub IsOf : Option Node → Pair → Type 0
+IsOf None pair = ⊤
+IsOf (Some (folder names)) pair = ⊥
+IsOf (Some (file bytes)) pair = pair.1 ≡ used_text pair.0 bytes
+IsOf (Some link) pair = ⊥
+IsOf (Some special) pair = ⊥
+
+-- the bytes aren't UTF-8, where they are known
+abbrev pub IsNoText : Option Node → Type 0
+IsNoText None = ⊤
+IsNoText (Some (folder names)) = ⊥
+IsNoText (Some (file bytes)) = IsUtf8 bytes → ⊥
+IsNoText (Some link) = ⊥
+IsNoText (Some special) = ⊥
+
+-- neither folder, file nor link, where it is known
+abbrev pub IsSpecial : Option Node → Type 0
+IsSpecial None = ⊤
+IsSpecial (Some (folder names)) = ⊥
+IsSpecial (Some (file bytes)) = ⊥
+IsSpecial (Some link) = ⊥
+IsSpecial (Some special) = ⊤
+
+-- the reason holds of the path. What couldn't be read, no definition tells
+abbrev pub Holds : At → List ℕ → Reason → Type 0
+Holds at path reason.IllegalPath = is_path path ≡ false
+Holds at path reason.BazelFile = is_bazel_file path ≡ true
+Holds at path reason.NotUtf8 = IsNoText (at path)
+Holds at path reason.TooLong = IsLonger (at path) text_limit
+Holds at path reason.Special = IsSpecial (at path)
+Holds at path reason.NamesNotUtf8 = ⊤
+Holds at path reason.Gone = ⊤
+Holds at path reason.Denied = ⊤
+Holds at path reason.NameTooLong = ⊤
+Holds at path reason.Failed = ⊤
+
+abbrev pub HasCause : At → LeftOut → Type 0
+HasCause at l = Holds at l.path l.reason
+
+-- the file at a path, or a folder on the way to it, is named as left out
+abbrev pub IsNamed : At → List LeftOut → List ℕ → Type 0
+IsNamed at left path = (l : LeftOut) × Contains left l × Reaches at l.path path
+
+-- the paths ascend by their bytes
+abbrev pub AreAscending : List (List ℕ) → Type 0
+AreAscending paths = IsStrictlySortedBy (slice_cmp nat_cmp) paths
+
+-- what is written spells a workspace: its pairs ascend by their paths, and each is of a file of the folder. Each file
+-- that a walk reaches is one of them, or is named as left out, and each that is named has its cause
+pub record Packs (at : At) (left : List LeftOut) (input : List ℕ) : Type 0 where
+  pub workspace : List Pair
+  pub spelt : Spells input workspace
+  pub ascending : AreAscending (paths_of workspace)
+  pub of : All (λ p. IsOf (at p.0) p) workspace
+  pub whole : (path : List ℕ) → Reaches at [] path → Contains (paths_of workspace) path ⊎ IsNamed at left path
+  pub causes : All (HasCause at) left

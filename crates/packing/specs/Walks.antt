@@ -1,0 +1,34 @@
+-- A walk through a folder on its way.
+use Rattle.std.specs.Prelude.{◌≡◌, ◌⊎◌, ℕ, false, List, [], All, Contains}
+use Rattle.packing.specs.Folders.{At, IsFile, IsHiddenFolder, Reaches, below, is_output}
+use Rattle.packing.specs.Packs.{HasCause, IsNamed}
+use Rattle.packing.specs.declared.walk.Walk.{Walk}
+
+-- a folder waits from which the path is reached
+abbrev pub Awaits : At → List (List ℕ) → List ℕ → Type 0
+Awaits at waiting path = (from : List ℕ) × Contains waiting from × Reaches at from path
+
+-- the file at the path was found, or is named as left out, or will be reached
+abbrev pub IsCovered : At → Walk → List ℕ → Type 0
+IsCovered at w path = Contains w.files.keys path ⊎ (IsNamed at w.left.items path ⊎ Awaits at w.waiting.items path)
+
+-- so is each file that is reached from here
+abbrev pub CoversFrom : At → Walk → List ℕ → Type 0
+CoversFrom at w from = (path : List ℕ) → Reaches at from path → IsCovered at w path
+
+-- so is each that is reached by a name in a folder, if that isn't left out
+abbrev pub CoversName : At → Walk → List ℕ → List ℕ → Type 0
+CoversName at w from name =
+    is_output from name ≡ false → (IsHiddenFolder (at (below from name)) name → ⊥) → CoversFrom at w (below from name)
+
+-- a step of a walk loses nothing, takes files alone, and leaves nothing out without a cause
+pub record Grows (at : At) (old new : Walk) : Type 0 where
+  pub covered : (path : List ℕ) → IsCovered at old path → IsCovered at new path
+  pub files : All (λ p. IsFile (at p)) old.files.keys → All (λ p. IsFile (at p)) new.files.keys
+  pub causes : All (HasCause at) old.left.items → All (HasCause at) new.left.items
+
+-- a whole walk
+pub record IsWalked (at : At) (w : Walk) : Type 0 where
+  pub whole : (path : List ℕ) → Reaches at [] path → Contains w.files.keys path ⊎ IsNamed at w.left.items path
+  pub files : All (λ p. IsFile (at p)) w.files.keys
+  pub causes : All (HasCause at) w.left.items

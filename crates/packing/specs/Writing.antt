@@ -1,0 +1,66 @@
+-- An input that is written file by file.
+use Rattle.std.specs.Prelude.{◌≡◌, ◌<◌, ◌≤◌, ◌⊎◌, ◌++◌, ℕ, true, List, [], ◌∷◌, length, All, Contains, IsUtf8, ⊤}
+use Rattle.std.specs.List.{list_all}
+use Rattle.request.specs.Input.{input_limit}
+use Rattle.workspace.specs.Workspaces.{Pair, is_file, paths_of}
+use Rattle.packing.specs.Folders.{At}
+use Rattle.packing.specs.Inputs.{begun_text, comma, input_text, pair_text}
+use Rattle.packing.specs.Packs.{AreAscending, HasCause, IsOf}
+use Rattle.packing.specs.declared.leaving.LeftOut.{LeftOut}
+use Rattle.packing.specs.declared.writing.Writing.{Writing}
+use Rattle.packing.specs.declared.writing.WriteStop.{WriteStop}
+use Rattle.packing.specs.declared.writing.WriteStop.TheVariants as stop
+
+-- the file's pair is put behind the others
+pub record Puts (at : At) (path : List ℕ) (old new : Writing) (pairs : List Pair) : Type 0 where
+  pub text : List ℕ
+  pub begun : new.input.items ≡ begun_text (pairs ++ (path, text) ∷ [])
+  pub limit : length new.input.items < input_limit
+  pub file : is_file (path, text) ≡ true
+  pub of : IsOf (at path) (path, text)
+  pub left : new.left.items ≡ old.left.items
+
+-- the file is named as left out
+pub record Leaves (at : At) (path : List ℕ) (old new : Writing) : Type 0 where
+  pub input : new.input.items ≡ old.input.items
+  pub named : LeftOut
+  pub names : named.path ≡ path
+  pub left : new.left.items ≡ old.left.items ++ named ∷ []
+  pub cause : HasCause at named
+
+-- one file more
+pub record Takes (at : At) (path : List ℕ) (old new : Writing) : Type 0 where
+  pub taken : (pairs : List Pair) → old.input.items ≡ begun_text pairs → Puts at path old new pairs ⊎ Leaves at path old new
+  pub utf8 : IsUtf8 old.input.items → IsUtf8 new.input.items
+
+-- with the file's pair, and the last bracket, the input would be above the limit
+abbrev pub Exceeds : At → List ℕ → List ℕ → Type 0
+Exceeds at path input = (text : List ℕ) × (is_file (path, text) ≡ true) × IsOf (at path) (path, text)
+    × (input_limit ≤ length (input ++ (comma input ++ pair_text (path, text))))
+
+-- the pairs of some legal files, in order
+pub record ArePacked (at : At) (pairs : List Pair) : Type 0 where
+  pub files : list_all is_file pairs ≡ true
+  pub ascending : AreAscending (paths_of pairs)
+  pub of : All (λ p. IsOf (at p.0) p) pairs
+
+-- each of these files was taken
+pub record Written (at : At) (done : List (List ℕ)) (before : List LeftOut) (w : Writing) : Type 0 where
+  pub pairs : List Pair
+  pub packed : ArePacked at pairs
+  pub begun : w.input.items ≡ begun_text pairs
+  pub limit : length w.input.items < input_limit
+  pub utf8 : IsUtf8 w.input.items
+  pub within : All (Contains done) (paths_of pairs)
+  pub whole : (path : List ℕ) → Contains done path
+      → Contains (paths_of pairs) path ⊎ ((l : LeftOut) × Contains w.left.items l × (l.path ≡ path))
+  pub kept : (l : LeftOut) → Contains before l → Contains w.left.items l
+  pub causes : All (HasCause at) w.left.items
+
+-- the pairs of some files spell more than the limit
+abbrev pub IsTooMuch : At → Type 0
+IsTooMuch at = (pairs : List Pair) × ArePacked at pairs × (input_limit < length (input_text pairs))
+
+abbrev pub Stops : At → WriteStop → Type 0
+Stops at stop.TooLong = IsTooMuch at
+Stops at stop.NoMemory = ⊤

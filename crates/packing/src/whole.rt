@@ -1,0 +1,165 @@
+//! A whole folder packed: from its walk to the input that is written.
+
+ghost use Rattle.std.specs.Prelude.{◌≡◌, ◌≢◌, ◌++◌, ◌∷◌, [], Bool, true, Err, IfErr, IfOk, OnErr, OnOk};
+ghost use Rattle.std.specs.Io.KnownBytes.{Appends};
+ghost use Rattle.devices.specs.Devices.{Failed};
+ghost use Rattle.packing.specs.Packs.{Packs};
+ghost use Rattle.packing.specs.Refusals.{BeginsInput, Refuses};
+ghost use Rattle.packing.specs.Writing.{Written};
+
+use crate::folders::{Folder, Unread};
+use crate::leaving::LeftOut;
+use crate::walk::{Walk, walk_through};
+use crate::writing::{Counts, WriteStop, Writing, is_used};
+use devices::{Sink, WriteFailed, write_all};
+use plain::Text;
+use std::alloc::{AllocError, Global};
+use std::collections::BTreeSet;
+use workspace::TEXT_LIMIT;
+
+/// How many of the greatest files a refusal names.
+const GREATEST: usize = 5;
+
+/// A file and how many bytes it has.
+#[derive(Drop, PartialEq, Eq, PartialOrd, Ord)]
+pub struct FileSize {
+    /// How many bytes.
+    pub bytes: usize,
+    /// Its path.
+    pub path: Text,
+}
+
+/// What was packed.
+#[derive(Drop)]
+pub struct Packed {
+    /// The bytes that spell the workspace.
+    pub input: Vec<u8>,
+    /// What is left out.
+    pub left: Vec<LeftOut>,
+    /// How many files of each kind it has.
+    pub counts: Counts,
+}
+
+/// Why nothing was packed.
+#[derive(Drop)]
+pub enum PackStop {
+    /// The folder itself couldn't be read.
+    Root(Unread),
+    /// The input would have too many bytes. These are the greatest of the files whose texts are used.
+    TooLong(Vec<FileSize>),
+    /// This is left out, and nothing may be.
+    LeftOut(Vec<LeftOut>),
+    /// Memory was refused.
+    NoMemory,
+    /// The writer failed. A beginning of the input was written; after any other stop, nothing.
+    Write,
+}
+
+/// The greatest of the files whose texts are used, the greatest first.
+fn greatest<F: Folder>(
+    folder: &F,
+    alloc: Global,
+    files: &BTreeSet<Text>,
+) -> Result<Vec<FileSize>, AllocError> {
+    let mut sizes = Vec::new(alloc);
+    for path in files {
+        if is_used(path.as_str())
+            && let Ok(bytes) = folder.bytes(alloc, path.as_str(), TEXT_LIMIT)
+        {
+            sizes.push(FileSize {
+                bytes: bytes.len(),
+                path: path.share()?,
+            })?;
+        }
+    }
+    sizes.sort_unstable();
+    sizes.reverse();
+    sizes.truncate(GREATEST);
+    Ok(sizes)
+}
+
+/// The input with its last bracket.
+fn closed(mut writing: Writing) -> Result<Packed, PackStop>
+    ensures input { IfOk result (λ p. p.input.items ≡ writing.input.items ++ 93 ∷ []) }
+    ensures left { IfOk result (λ p. p.left ≡ writing.left) }
+    ensures memory { IfErr result (λ e. e ≡ PackStop.NoMemory) }
+{
+    match writing.input.push(b']') {
+        Ok(()) => Ok(Packed {
+            input: writing.input,
+            left: writing.left,
+            counts: writing.counts,
+        }),
+        Err(_) => Err(PackStop::NoMemory),
+    }
+}
+
+/// Packs a folder: its input, and what is left out.
+///
+/// # Errors
+///
+/// `Root`, `TooLong` and `NoMemory`.
+fn pack_folder<F: Folder>(folder: &F, alloc: Global) -> Result<Packed, PackStop>
+    ensures packs { IfOk result (λ p. Packs (F.at folder.now) p.left.items p.input.items) }
+    ensures refuses { IfErr result (λ e. (strict : Bool) → Refuses (F.at folder.now) strict e) }
+    ensures unwritten { result ≡ Err PackStop.Write → ⊥ }
+{
+    match folder.names(alloc, "") {
+        Ok(_) => {}
+        Err(Unread::NoMemory) => return Err(PackStop::NoMemory),
+        Err(unread) => return Err(PackStop::Root(unread)),
+    }
+    let Ok(Walk { files, left, .. }) = walk_through(folder, alloc) else {
+        return Err(PackStop::NoMemory);
+    };
+    match Writing::of_files(folder, alloc, &files, left) {
+        Ok(writing) => closed(writing),
+        Err(WriteStop::TooLong) => match greatest(folder, alloc, &files) {
+            Ok(sizes) => Err(PackStop::TooLong(sizes)),
+            Err(_) => Err(PackStop::NoMemory),
+        },
+        Err(WriteStop::NoMemory) => Err(PackStop::NoMemory),
+    }
+}
+
+/// Packs a folder and writes the input: bytes that spell the workspace of its files ([`Packed`]).
+///
+/// A file that has no place in a workspace is left out, and so is what can't be read; each is named. Where `strict`
+/// says so, nothing may be left out. `folder` is read by its names and texts; links, folders whose name begins with a
+/// dot, and `bazel-*` in the root are passed over.
+///
+/// # Errors
+///
+/// `Root` where the folder itself can't be read; `TooLong` where the input would be above the limit; `LeftOut` where
+/// something is left out that may not be; `Write` where the writer failed; `NoMemory` where memory was refused. Only
+/// after `Write` something was written, a beginning of the input.
+pub fn pack<F: Folder, K: Sink>(
+    folder: &F,
+    alloc: Global,
+    strict: bool,
+    sink: &mut K,
+) -> Result<Packed, PackStop>
+    ensures packs { IfOk result (λ p. Packs (F.at folder.now) p.left.items p.input.items) }
+    ensures strict { IfOk result (λ p. strict ≡ true → p.left.items ≡ []) }
+    ensures writes { IfOk result
+        (λ p. Appends (K.contents sink.old) (K.contents sink.new) p.input.items) }
+    ensures flushed { OnOk result (K.flushed sink.new ≡ true) }
+    ensures refuses { IfErr result (Refuses (F.at folder.now) strict) }
+    ensures nothing { IfErr result (λ e. e ≢ PackStop.Write → sink.new ≡ sink.old) }
+    ensures write_only { result ≡ Err PackStop.Write
+        → Failed (K.failures sink.old) (K.failures sink.new) }
+    ensures beginning { result ≡ Err PackStop.Write
+        → BeginsInput (F.at folder.now) (K.contents sink.old) (K.contents sink.new) }
+{
+    let packed = match pack_folder(folder, alloc) {
+        Ok(packed) => packed,
+        Err(stop) => return Err(stop),
+    };
+    if strict && !packed.left.is_empty() {
+        return Err(PackStop::LeftOut(packed.left));
+    }
+    match write_all(sink, packed.input.as_slice()) {
+        Ok(()) => Ok(packed),
+        Err(WriteFailed) => Err(PackStop::Write),
+    }
+}
