@@ -4,7 +4,8 @@
 use clap::Error;
 use clap::error::ErrorKind;
 use devices::Counted;
-use packing::{HostFolder, PackWords, pack, read_pack_words, status, tell};
+use pack_host::{HostFolder, PackWords, read_pack_words, status, tell};
+use packing::pack;
 use std::process::ExitCode;
 use std::{env, io};
 

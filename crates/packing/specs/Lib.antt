@@ -4,4 +4,3 @@ pub mod Packs
 pub mod Walks
 pub mod Writing
 pub mod Refusals
-pub mod Endings

@@ -1,11 +1,9 @@
 //! How the program ends: the exit status, and the lines on standard error.
 
 ghost use Rattle.std.specs.Prelude.{◌≡◌};
-ghost use Rattle.packing.specs.Endings.{status_of};
+ghost use Rattle.pack_host.specs.Endings.{status_of};
 
-use crate::folders::Unread;
-use crate::leaving::LeftOut;
-use crate::whole::{FileSize, PackStop, Packed};
+use packing::{FileSize, LeftOut, PackStop, Packed, Unread};
 use std::alloc::{AllocError, Global};
 use std::io;
 
@@ -53,12 +51,16 @@ fn tell_counts<R: Eprint>(rt: &R, packed: &Packed) -> io::Result<()> {
     let (packages, modules, sources) = (counts.packages, counts.modules, counts.sources);
     let files = packages.saturating_add(modules).saturating_add(sources);
     let left = packed.left.len();
-    eprintln!(rt; "bzlan_pack: {files} files: {packages} packages, {modules} modules, {sources} sources; {left} left out")
+    eprintln!(rt;
+        "bzlan_pack: {files} files: {packages} packages, {modules} modules, {sources} sources; {left} left out"
+    )
 }
 
 /// Names the greatest files of an input that is too long.
 fn tell_sizes<R: Eprint>(rt: &R, sizes: &[FileSize]) -> io::Result<()> {
-    eprintln!(rt; "bzlan_pack: the input would have more than 16777216 bytes: pack a smaller folder; its greatest files are")?;
+    eprintln!(rt;
+        "bzlan_pack: the input would have more than 16777216 bytes: pack a smaller folder; its greatest files are"
+    )?;
     for size in sizes {
         let path = size.path.as_str();
         let bytes = size.bytes;

@@ -2,14 +2,15 @@
 
 ghost use Rattle.std.specs.Prelude.{None};
 
-use crate::folders::{Folder, Kind, Names, Unread};
 use devices::{Counted, InputStop, read_input};
+use packing::{Folder, Kind, Names, Unread};
 use plain::Text;
 use std::alloc::{AllocError, Global};
 use std::rt::Files;
 use std::{fs, io};
 
 /// A folder of the system, by the path of its root.
+#[derive(Drop)]
 pub struct HostFolder<'a, R> {
     rt: &'a R,
     root: &'a str,

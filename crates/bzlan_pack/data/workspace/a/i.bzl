@@ -1,0 +1,4 @@
+I = provider(fields = ["n"])
+def _r(ctx):
+    return [I(n = 1)]
+r = rule(implementation = _r)
