@@ -1,6 +1,6 @@
 //! Folders in memory.
 
-ghost use Rattle.std.specs.Prelude.{None};
+ghost use Rattle.std.specs.Prelude.{◌≤◌, IfOk, None, vec_len};
 
 use packing::{Folder, Kind, Names, Unread};
 use plain::Text;
@@ -63,7 +63,9 @@ impl<'a> Tree<'a> {
 }
 
 /// Bytes of one's own, if there aren't too many.
-fn given(alloc: Global, bytes: &[u8], limit: usize) -> Result<Vec<u8>, Unread> {
+fn given(alloc: Global, bytes: &[u8], limit: usize) -> Result<Vec<u8>, Unread>
+    ensures { IfOk result (λ b. vec_len b ≤ limit) }
+{
     if bytes.len() > limit {
         return Err(Unread::TooLong);
     }
