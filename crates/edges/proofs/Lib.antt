@@ -11,3 +11,5 @@ pub mod Ends
 pub mod Orders
 pub mod Renumbering
 pub mod Worked
+pub mod Ordered
+pub mod Marks

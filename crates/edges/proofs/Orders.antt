@@ -14,7 +14,7 @@ use Rattle.edges.proofs.Lists.{has-append, has-filter, has-head, has-later, has-
 use Rattle.edges.proofs.Ends.{left_decides}
 
 -- two lists that share nothing
-distinct-append : (xs ys : List ℕ) → IsDistinct nat_eq xs → IsDistinct nat_eq ys → ((d : ℕ) → has xs d ≡ true → has ys d ≡ false) → IsDistinct nat_eq (xs ++ ys)
+pub distinct-append : (xs ys : List ℕ) → IsDistinct nat_eq xs → IsDistinct nat_eq ys → ((d : ℕ) → has xs d ≡ true → has ys d ≡ false) → IsDistinct nat_eq (xs ++ ys)
 unfolding IsDistinct
 distinct-append [] ys dx dy apart = dy
 distinct-append (x ∷ xs) ys dx dy apart =

@@ -14,6 +14,11 @@ row rows n = slice_index_or rows n []
 abbrev pub has : List ℕ → ℕ → Bool
 has ns n = list_any (nat_eq n) ns
 
+-- Each entry of a row is one of so many nodes, and none stands there twice.
+pub record IsRow (nodes : ℕ) (list : List ℕ) : Type 0 where
+  pub distinct : IsDistinct nat_eq list
+  pub inside : (d : ℕ) → has list d ≡ true → d < nodes
+
 -- Each dependency is a node, and no node names one twice.
 pub record IsGraph (deps : List (List ℕ)) : Type 0 where
   pub distinct : (n : ℕ) → IsDistinct nat_eq (row deps n)

@@ -71,15 +71,39 @@ impl Edges {
         let deps = replace_all(alloc, &given, &origin, &places)?;
         drop(given);
         drop(places);
+        let edges = Edges::with_users(alloc, deps, acyclic)?;
+        Ok(Numbered { edges, origin })
+    }
+
+    /// The graph in which each node depends on the nodes of its row, which stand before it already:
+    /// the nodes keep their numbers, and none is cyclic.
+    ///
+    /// It fails where the allocator refuses memory.
+    pub fn in_order(alloc: Global, deps: Adjacency) -> Result<Edges, AllocError>
+        requires graph { IsGraph deps }
+        requires order { IsOrdered deps (length deps) }
+        ensures deps { IfOk result (λ e. e.deps ≡ deps) }
+        ensures acyclic { IfOk result (λ e. e.acyclic ≡ length deps) }
+    {
+        let nodes = deps.len();
+        Edges::with_users(alloc, deps, nodes)
+    }
+
+    /// The graph of these rows, of which so many come first and are not cyclic, with its users.
+    fn with_users(alloc: Global, deps: Adjacency, acyclic: usize) -> Result<Edges, AllocError>
+        requires graph { IsGraph deps }
+        requires order { IsOrdered deps acyclic }
+        ensures deps { IfOk result (λ e. e.deps ≡ deps) }
+        ensures acyclic { IfOk result (λ e. e.acyclic ≡ acyclic) }
+    {
         let users = users_of(alloc, &deps)?;
         let ready = ready_of(alloc, &deps)?;
-        let edges = Edges {
+        Ok(Edges {
             deps,
             users,
             ready,
             acyclic,
-        };
-        Ok(Numbered { edges, origin })
+        })
     }
 
     /// How many nodes there are.
@@ -102,7 +126,8 @@ impl Edges {
     /// The nodes on which `n` depends, each once, in the order in which they were given.
     pub fn deps(&self, n: NodeId) -> &[NodeId]
         requires node { n < length self.now.deps }
-        ensures { result.now ≡ row self.now.deps n }
+        ensures value { result.now ≡ row self.now.deps n }
+        ensures order { IsOrdered self.now.deps self.now.acyclic }
     {
         self.deps.row(n)
     }
@@ -134,7 +159,9 @@ impl Edges {
     ///
     /// It fails where the allocator refuses memory.
     pub fn plan(&self, alloc: Global) -> Result<Vec<Vec<usize>>, AllocError>
-        ensures { IfOk result (λ v. lists v.items ≡ take self.now.acyclic self.now.deps) }
+        ensures value { IfOk result (λ v. lists v.items ≡ take self.now.acyclic self.now.deps) }
+        ensures order { IsOrdered self.now.deps self.now.acyclic }
+        ensures graph { IsGraph self.now.deps }
     {
         let mut plan = Vec::with_capacity(alloc, self.acyclic)?;
         for n in 0..self.acyclic {

@@ -5,6 +5,7 @@
 mod adjacency;
 mod countdown;
 mod edges;
+mod graph_test;
 pub mod laws;
 mod node;
 mod numbering;

@@ -1,6 +1,6 @@
 //! A chain of many nodes: nothing recurses by its length.
-use crate::graphs::graph_of;
 use edges::{Adjacency, NodeId, Numbered};
+use fakes::graphs::graph_of;
 use std::alloc::{AllocError, Global};
 use std::test::Fail;
 
@@ -20,7 +20,7 @@ fn chain(alloc: Global, nodes: u32, start: Option<usize>) -> Result<Option<Numbe
         }
         rows.push(&list)?;
     }
-    Ok(graph_of(alloc, rows))
+    graph_of(alloc, rows)
 }
 
 #[test]

@@ -2,8 +2,6 @@
 #![tactic(auto)]
 
 #[cfg(test)]
-mod graphs;
-#[cfg(test)]
 mod large;
 #[cfg(test)]
 mod random;

@@ -1,8 +1,8 @@
 //! Pseudo-random graphs, against a plain slow test of what is cyclic.
 ghost use Rattle.std.specs.Prelude.{◌<◌};
 
-use crate::graphs::graph_of;
 use edges::{Adjacency, NodeId};
+use fakes::graphs::graph_of;
 use std::alloc::{AllocError, Global};
 use std::test::Fail;
 
@@ -88,7 +88,7 @@ fn plainly_cyclic(alloc: Global, rows: &Adjacency) -> Result<Vec<bool>, AllocErr
 fn agreed(alloc: Global, dice: &mut Dice, nodes: usize) -> Result<Option<bool>, AllocError> {
     let rows = rows(alloc, dice, nodes)?;
     let want = plainly_cyclic(alloc, &rows)?;
-    let Some(graph) = graph_of(alloc, rows) else {
+    let Some(graph) = graph_of(alloc, rows)? else {
         return Ok(None);
     };
     let mut some = false;

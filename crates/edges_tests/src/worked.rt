@@ -1,6 +1,6 @@
 //! Worked examples: what is cyclic, where each node stands, and who uses whom.
-use crate::graphs::small;
 use edges::{NodeId, Numbered};
+use fakes::graphs::small;
 use std::alloc::{AllocError, Global};
 use std::test::Fail;
 
@@ -71,6 +71,18 @@ fn what_a_cycle_depends_on_is_not_cyclic(rt: HostRuntime) -> Result<(), Fail> {
     let alloc = rt.alloc();
     let rows: [&[usize]; 4] = [&[1], &[0, 2], &[3], &[]];
     assert!(rt; stand(alloc, &rows, &[3, 2], &[0, 1])?);
+    Ok(())
+}
+
+#[test]
+fn rows_with_an_entry_twice_or_outside_are_no_graph(rt: HostRuntime) -> Result<(), Fail> {
+    let alloc = rt.alloc();
+    let twice: [&[usize]; 2] = [&[1], &[0, 1, 0]];
+    let outside: [&[usize]; 2] = [&[1, 2], &[]];
+    let same_in_two: [&[usize]; 2] = [&[1, 0], &[0, 1]];
+    assert!(rt; small(alloc, &twice)?.is_none());
+    assert!(rt; small(alloc, &outside)?.is_none());
+    assert!(rt; small(alloc, &same_in_two)?.is_some());
     Ok(())
 }
 

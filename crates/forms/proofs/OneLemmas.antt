@@ -1,20 +1,20 @@
 -- The graph of one node, which depends on none.
-use Rattle.std.proofs.Common.{◌≡◌, ◌∙◌, ℕ, zero, suc, List, [], ◌∷◌, refl, arith}
-use Rattle.board.specs.Journal.{deps, times}
-use Rattle.pool.specs.Graph.{AllDistinct, AllInside, IsAcyclic}
+use Rattle.std.proofs.Common.{◌≡◌, ◌∙◌, ◌<◌, ℕ, zero, suc, true, List, [], ◌∷◌, sym, refl, arith, true≢false}
+use Rattle.std.specs.Prelude.{nat_eq}
+use Rattle.edges.specs.Rows.{row, has, IsGraph, IsOrdered}
+use Rattle.std.specs.List.{IsDistinct}
 
-none_there : (n d : ℕ) → times d (deps ([] ∷ []) n) ≡ 0
-none_there zero d = refl
-none_there (suc n) d = refl
+none_there : (n d : ℕ) → has (row ([] ∷ []) n) d ≡ true → ⊥
+none_there zero d h = true≢false (sym h)
+none_there (suc n) d h = true≢false (sym h)
 
-pub one_distinct : AllDistinct ([] ∷ [])
-one_distinct n d = omega (arith, none_there n d)
+alone : (n : ℕ) → IsDistinct nat_eq (row ([] ∷ []) n)
+unfolding IsDistinct
+alone zero = tt
+alone (suc n) = tt
 
-pub one_inside : AllInside ([] ∷ [])
-one_inside n d some = absurd (let no_one = none_there n d in omega (arith, no_one, some))
+pub one_graph : IsGraph ([] ∷ [])
+one_graph = record { distinct = alone; inside = λ n d h. absurd (none_there n d h) }
 
-pub one_acyclic : IsAcyclic ([] ∷ [])
-one_acyclic = record {
-  rank = λ n. 0;
-  falls = λ n d some. absurd (let no_one = none_there n d in omega (arith, no_one, some));
-}
+pub one_order : IsOrdered ([] ∷ []) 1
+one_order = record { within = omega arith; after = λ n d first h. absurd (none_there n d h); behind = λ n past low. absurd (omega (arith, past, low)) }

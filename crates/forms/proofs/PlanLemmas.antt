@@ -1,19 +1,21 @@
 -- The graph of the nodes of the second form: no cycle, no dependency twice, and the nodes' values as its outcomes.
-use Rattle.std.proofs.Common.{◌≡◌, ◌≢◌, ◌∙◌, ◌<◌, ◌≤◌, ◌+◌, ℕ, zero, suc, List, [], ◌∷◌, ◌++◌, map, length, get_or, take, drop, true, false, Contains, ap, sym, refl, subst, arith, add-one, drop-cons, inl, inr, Option, Some}
-use Rattle.std.specs.Prelude.{unwrap_or}
+use Rattle.std.proofs.Common.{◌≡◌, ◌≢◌, ◌∙◌, ◌<◌, ◌≤◌, ◌+◌, ℕ, zero, suc, List, [], ◌∷◌, ◌++◌, map, length, get_or, take, drop, true, false, Contains, ap, sym, refl, subst, arith, add-one, drop-cons, inl, inr}
+use Rattle.std.specs.Prelude.{nat_eq}
+use Rattle.std.proofs.lemmas.Map.Keys.{IsDistinct-cons}
 use mathlib.Core.Logic.{dite}
 use native.Mathlib.Decide.{ℕ_discrete}
 use Rattle.std.proofs.lemmas.Bool.{false≢true}
 use Rattle.std.proofs.lemmas.List.{get_or-map, length-map, take_more}
 use Rattle.std.specs.Borrow.{Bor}
-use Rattle.std.specs.List.{list_any}
+use Rattle.std.specs.List.{list_any, IsDistinct}
 use Rattle.std.specs.Str.{bytes_eq}
 use Rattle.text_forms.specs.Targets.{Target}
 use Rattle.board.specs.Journal.{times, deps}
 use Rattle.board.proofs.Counts.{times_here, times_else}
 use Rattle.pool.proofs.Places.{at_map, deps_inside}
-use Rattle.pool.specs.Graph.{AllDistinct, AllInside, IsAcyclic}
-use Rattle.pool.specs.Outcomes.{AreOutcomes}
+use Rattle.pool.proofs.Plans.{has_times}
+use Rattle.edges.specs.Rows.{row, has, IsGraph, IsOrdered}
+use Rattle.edges.proofs.Tests.{isnt, none_any}
 use Rattle.workspace.specs.Labels.{relative_name}
 use Rattle.forms.specs.NodePlan.{AreOnce, place_named, places_named, plan_of}
 use Rattle.forms.specs.NodeValues.{AreClosed, AreValues, are_named_in, listed_text, values_at, values_of}
@@ -98,6 +100,17 @@ places_once ts (d ∷ ds) once placed p =
         let is : bytes_eq d found.0 ≡ true = subst (λ (x : List ℕ). bytes_eq d x ≡ true) same (same_bytes d) in
         absurd (false≢true (sym (parts once).0 ∙ any_in (bytes_eq d) ds found.0 found.1 is)))
 
+-- numbers of which none stands twice
+distinct_of : (xs : List ℕ) → ((x : ℕ) → times x xs ≤ 1) → IsDistinct nat_eq xs
+unfolding IsDistinct
+distinct_of [] single = tt
+distinct_of (y ∷ ys) single =
+    IsDistinct-cons nat_eq y ys
+    (none_any (nat_eq y) ys (isnt (has ys y) (λ h. let some = has_times ys y h in let here = times_here y ys in let one = single y in omega (arith, some, here, one))))
+    (distinct_of ys (λ x. dite (ℕ_discrete x y)
+    (λ e. subst (λ (k : ℕ). times k ys ≤ 1) (sym e) (let here = times_here y ys in let one = single y in omega arith))
+    (λ ne. let t = times_else x y ys ne in let one = single x in omega arith)))
+
 module _ (ts : List Target) (closed : AreClosed [] ts) where
   plan_at : (n : ℕ) (t : Target) → n < length ts → t ≡ get_or ts n t → deps (plan_of ts) n ≡ places_named ts t.deps
   plan_at n t lt is = at_map (λ (u : Target). places_named ts u.deps) ts n t lt is
@@ -124,23 +137,33 @@ module _ (ts : List Target) (closed : AreClosed [] ts) where
       let found = image (λ x. place_named x ts) t.0.deps p here in
       (subst (λ (k : ℕ). k < n) (sym found.2) (below n t.0 lt is found.0 found.1), lt)
 
-  pub plan_acyclic : IsAcyclic (plan_of ts)
-  plan_acyclic = record { rank = λ n. n; falls = λ n p some. (edge n p some).0 }
-
-  pub plan_inside : AllInside (plan_of ts)
+  plan_inside : (n p : ℕ) → 0 < times p (deps (plan_of ts) n) → p < length (plan_of ts)
   plan_inside n p some =
       let lt = (edge n p some).0 in
       let lt' = (edge n p some).1 in
       let s = size in
       omega (arith, lt, lt', s)
 
-  pub plan_distinct : AreOnce ts → AllDistinct (plan_of ts)
+  plan_distinct : AreOnce ts → (n p : ℕ) → times p (deps (plan_of ts) n) ≤ 1
   plan_distinct once n p = dite (ℕ_discrete (times p (deps (plan_of ts) n)) 0) (λ z. omega arith) (λ ne.
       let lt : n < length ts = (edge n p (omega arith)).1 in
       let t = element ts n lt in
       let is = sym (t.1 t.0) in
       let own : is_once t.0.deps ≡ true = subst (λ (u : Target). is_once u.deps ≡ true) (t.1 t.0) (once n t.0 lt) in
       subst (λ (l : List ℕ). times p l ≤ 1) (sym (plan_at n t.0 lt is)) (places_once ts t.0.deps own (placed n t.0 lt is) p))
+
+  pub plan_graph : AreOnce ts → IsGraph (plan_of ts)
+  plan_graph once = record {
+    distinct = λ n. distinct_of (row (plan_of ts) n) (plan_distinct once n);
+    inside = λ n p h. plan_inside n p (has_times (row (plan_of ts) n) p h);
+  }
+
+  pub plan_order : IsOrdered (plan_of ts) (length (plan_of ts))
+  plan_order = record {
+    within = omega arith;
+    after = λ n p first h. (edge n p (has_times (row (plan_of ts) n) p h)).0;
+    behind = λ n past low. absurd (omega (arith, past, low));
+  }
 
   module _ (v : List ℕ → List ℕ) (all : AreValues v ts) where
     abbrev pub value_at : ℕ → List ℕ
@@ -160,7 +183,8 @@ module _ (ts : List Target) (closed : AreClosed [] ts) where
         let later = values_there ds (λ e has. placed e (tail_in d ds e has)) in
         λ i. one i ∷ later i
 
-    stepped : (n : ℕ) → n < length (plan_of ts) → value_at n ≡ listed_text (map value_at (deps (plan_of ts) n))
+    -- the values are the outcomes along the edges
+    pub stepped : (n : ℕ) → n < length (plan_of ts) → value_at n ≡ listed_text (map value_at (deps (plan_of ts) n))
     stepped n lt' =
         let lt : n < length ts = subst (λ (k : ℕ). n < k) size lt' in
         let t = element ts n lt in
@@ -169,10 +193,6 @@ module _ (ts : List Target) (closed : AreClosed [] ts) where
         subst (λ (u : Target). v u.name ≡ listed_text (values_at v u.deps)) (t.1 t.0) (all n t.0 lt) in
         value_there n t.0 lt is ∙ law
         ∙ ap listed_text (sym (values_there t.0.deps (placed n t.0 lt is)) ∙ ap (map value_at) (sym (plan_at n t.0 lt is)))
-
-    -- the values are the outcomes along the edges
-    pub plan_outcomes : AreOutcomes (λ n us. listed_text us) (λ n us. Unit {0}) (plan_of ts) value_at
-    plan_outcomes = record { stepped = stepped; fit = λ n lt. tt }
 
 step_of : (ns : List (Bor Target)) (i : ℕ) (n : Bor Target) → i < length ns → n ≡ get_or ns i n → drop i ns ≡ n ∷ drop (suc i) ns
 step_of ns i n lt is = drop-cons ns i n lt ∙ ap (λ (m : Bor Target). m ∷ drop (suc i) ns) (sym is)
@@ -213,8 +233,6 @@ plan_size ns =
     length-map ts (λ (u : Target). places_named ts u.deps) ∙ length-map ns (λ (t : Bor Target). t.now)
 
 -- one value more
-pub one_more : (told : ℕ → Option (List ℕ)) (us vs new : List (List ℕ)) (k : ℕ) (x : List ℕ) → k < length us → told k ≡ Some x → told k ≡ Some (get_or us k [])
+pub one_more : (us vs new : List (List ℕ)) (k : ℕ) (x : List ℕ) → k < length us → x ≡ get_or us k []
     → vs ≡ take k us → new ≡ vs ++ x ∷ [] → new ≡ take (k + 1) us
-one_more told us vs new k x lt own there before grown =
-    let same : x ≡ get_or us k [] = ap (λ (o : Option (List ℕ)). unwrap_or o []) (sym own ∙ there) in
-    grown ∙ (λ i. before i ++ same i ∷ []) ∙ sym (take_more us k [] lt)
+one_more us vs new k x lt same before grown = grown ∙ (λ i. before i ++ same i ∷ []) ∙ sym (take_more us k [] lt)

@@ -1,9 +1,9 @@
 //! The values of the nodes of the second form, found by workers: each by those of its dependencies.
 
-ghost use Rattle.std.specs.Prelude.{◌≡◌, ◌<◌, ◌++◌, [], ℕ, List, Some, IfOk, OnOk, get_or, length, map, string_bytes};
-ghost use Rattle.board.specs.Views.{told};
+ghost use Rattle.std.specs.Prelude.{◌≡◌, ◌<◌, ◌++◌, [], ℕ, List, IfOk, OnOk, get_or, length, map, string_bytes};
 ghost use Rattle.forms.specs.NodePlan.{AreOnce};
 ghost use Rattle.forms.specs.NodeValues.{AreClosed, AreValues, joined, later_texts, listed_text, values_of};
+ghost use Rattle.pool.specs.Gathered.{outcome_in};
 
 use crate::plan::graph_of;
 use plain::Text;
@@ -56,12 +56,23 @@ struct Listing {
 
 impl Analyse<Text> for Listing {
     ghost use Rattle.forms.specs.NodeValues.{listed_text};
+    ghost use Rattle.std.specs.Prelude.{[]};
 
     ghost nodes = { λ l. l.nodes };
 
     ghost step = { λ l n us. listed_text us };
 
     ghost fits = { λ l n us. Unit {0} };
+
+    ghost cycle = { λ l. [] };
+
+    // No node is cyclic.
+    fn cyclic(&self, alloc: Global) -> Result<Text, NoMemory> {
+        match Text::new(alloc, "") {
+            Ok(none) => Ok(none),
+            Err(_) => Err(NoMemory),
+        }
+    }
 
     fn analyse_one(&self, alloc: Global, _n: NodeId, values: &[&Text]) -> Result<Text, NoMemory> {
         match listed(alloc, values) {
@@ -73,10 +84,10 @@ impl Analyse<Text> for Listing {
 
 /// The values that a run found, in the order of the nodes.
 fn found(alloc: Global, gathered: &Gathered<Text>, nodes: usize) -> Result<Vec<Text>, AllocError>
-    requires { length gathered.now.known ≡ nodes }
+    requires { gathered.now.nodes ≡ nodes }
     ensures len { IfOk result (λ r. length r.items ≡ nodes) }
     ensures values { IfOk result (λ r. (us : List (List ℕ)) → length us ≡ nodes
-        → ((k : ℕ) → k < nodes → told gathered.now k ≡ Some (get_or us k [])) → r.items ≡ us) }
+        → ((k : ℕ) → k < nodes → outcome_in gathered.now k ≡ get_or us k []) → r.items ≡ us) }
 {
     let mut values = Vec::new(alloc);
     for k in 0..nodes {

@@ -9,8 +9,9 @@ ghost use Rattle.report.specs.Answer.{answer_text};
 
 use crate::answer::{Instance, done_text};
 use crate::first::FirstWorkspace;
+use edges::{Adjacency, Edges, NodeId};
 use plain::Text;
-use pool::{Analyse, Gate, Graph, NoMemory, NodeId, Refused, run};
+use pool::{Analyse, Gate, NoMemory, Refused, run};
 use std::alloc::{AllocError, Global};
 use std::sync::Wait;
 use std::thread::Threads;
@@ -34,12 +35,23 @@ fn block(alloc: Global, target: &OneTarget) -> Result<Text, AllocError>
 
 impl Analyse<Text> for OneTarget<'_> {
     ghost use Rattle.forms.specs.OneTarget.{block_text};
+    ghost use Rattle.std.specs.Prelude.{[]};
 
     ghost nodes = { λ t. 1 };
 
     ghost step = { λ t n us. block_text t };
 
     ghost fits = { λ t n us. Unit {0} };
+
+    ghost cycle = { λ t. [] };
+
+    // The node is not cyclic.
+    fn cyclic(&self, alloc: Global) -> Result<Text, NoMemory> {
+        match Text::new(alloc, "") {
+            Ok(none) => Ok(none),
+            Err(_) => Err(NoMemory),
+        }
+    }
 
     fn analyse_one(&self, alloc: Global, _n: NodeId, _values: &[&Text]) -> Result<Text, NoMemory> {
         match block(alloc, self) {
@@ -49,23 +61,14 @@ impl Analyse<Text> for OneTarget<'_> {
     }
 }
 
-/// One node, which depends on none.
-fn one_list(alloc: Global) -> Result<Vec<Vec<usize>>, AllocError>
-    ensures { IfOk result (λ v. map (λ l. l.items) v.items ≡ [] ∷ []) }
+/// The graph of one node, which depends on none.
+fn one_node(alloc: Global) -> Result<Edges, AllocError>
+    ensures deps { IfOk result (λ g. g.deps ≡ [] ∷ []) }
+    ensures acyclic { IfOk result (λ g. g.acyclic ≡ 1) }
 {
-    let mut plan = Vec::new(alloc);
-    plan.push(Vec::new(alloc))?;
-    Ok(plan)
-}
-
-/// The graph of one node.
-fn one_node(alloc: Global) -> Result<Graph, NoMemory>
-    ensures { IfOk result (λ g. g.plan ≡ [] ∷ []) }
-{
-    match one_list(alloc) {
-        Ok(plan) => Graph::of(alloc, plan),
-        Err(_) => Err(NoMemory),
-    }
+    let mut rows = Adjacency::with_capacity(alloc, 1, 0)?;
+    rows.push(&[])?;
+    Edges::in_order(alloc, rows)
 }
 
 /// The lines of the target's block, as one of so many workers finds them.

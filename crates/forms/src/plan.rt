@@ -1,12 +1,13 @@
-//! The graph of the nodes of the second form: for each node the places of its dependencies among the nodes.
+//! The graph of the nodes of the second form: for each node the places of its dependencies among the nodes, which stand
+//! before it.
 
-ghost use Rattle.std.specs.Prelude.{◌≡◌, [], IfOk, map};
+ghost use Rattle.std.specs.Prelude.{◌≡◌, [], IfOk, length, map};
 ghost use Rattle.forms.specs.NodePlan.{AreOnce, place_named, places_named, plan_of};
 ghost use Rattle.forms.specs.NodeValues.{AreClosed};
 
 use crate::second::is_named;
+use edges::{Adjacency, Edges, NodeId};
 use plain::Text;
-use pool::{Graph, NoMemory};
 use std::alloc::{AllocError, Global};
 use text_forms::TargetForm;
 
@@ -27,36 +28,35 @@ fn places_named(
     alloc: Global,
     nodes: &[&TargetForm],
     deps: &[Text],
-) -> Result<Vec<usize>, AllocError>
+) -> Result<Vec<NodeId>, AllocError>
     ensures { IfOk result (λ v. v.items ≡ places_named (map (λ t. t.now) nodes.now) deps.now) }
 {
     let mut places = Vec::new(alloc);
     for dep in deps {
-        places.push(place_named(nodes, dep.as_str()))?;
+        places.push(NodeId::of(place_named(nodes, dep.as_str())))?;
     }
     Ok(places)
 }
 
 /// For each node the places of its dependencies.
-fn plan_of(alloc: Global, nodes: &[&TargetForm]) -> Result<Vec<Vec<usize>>, AllocError>
-    ensures { IfOk result (λ v. map (λ l. l.items) v.items ≡ plan_of (map (λ t. t.now) nodes.now)) }
+fn plan_of(alloc: Global, nodes: &[&TargetForm]) -> Result<Adjacency, AllocError>
+    ensures { IfOk result (λ a. a ≡ plan_of (map (λ t. t.now) nodes.now)) }
 {
-    let mut plan = Vec::new(alloc);
+    let mut plan = Adjacency::with_capacity(alloc, 0, 0)?;
     for node in nodes {
         let places = places_named(alloc, nodes, node.deps())?;
-        plan.push(places)?;
+        plan.push(places.as_slice())?;
     }
     Ok(plan)
 }
 
 /// The graph of the nodes.
-pub(crate) fn graph_of(alloc: Global, nodes: &[&TargetForm]) -> Result<Graph, NoMemory>
+pub(crate) fn graph_of(alloc: Global, nodes: &[&TargetForm]) -> Result<Edges, AllocError>
     requires closed { AreClosed [] (map (λ t. t.now) nodes.now) }
     requires once { AreOnce (map (λ t. t.now) nodes.now) }
-    ensures { IfOk result (λ g. g.plan ≡ plan_of (map (λ t. t.now) nodes.now)) }
+    ensures deps { IfOk result (λ g. g.deps ≡ plan_of (map (λ t. t.now) nodes.now)) }
+    ensures acyclic { IfOk result (λ g. g.acyclic ≡ length g.deps) }
 {
-    match plan_of(alloc, nodes) {
-        Ok(plan) => Graph::of(alloc, plan),
-        Err(_) => Err(NoMemory),
-    }
+    let plan = plan_of(alloc, nodes)?;
+    Edges::in_order(alloc, plan)
 }

@@ -1,6 +1,5 @@
-pub mod Ascending
 pub mod Places
+pub mod Plans
 pub mod Settles
 pub mod Outcomes
 pub mod Gathers
-pub mod Numbers

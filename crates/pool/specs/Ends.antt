@@ -10,14 +10,14 @@ use Rattle.pool.specs.declared.worker.Stop.TheVariants as S
 use Rattle.pool.specs.declared.worker.Ending.{Ending}
 use Rattle.pool.specs.declared.worker.Ending.TheVariants as E
 
--- each of these is an end of a shelf for the nodes of the board, of which `nodes` tells the number
-abbrev pub AreEnds : {E : Type 0} → (E → ℕ) → BoardView → List E → Type 0
-AreEnds nodes b ends = All (λ e. nodes e ≡ length b.plan) ends
+-- each of these is an end of a shelf for so many nodes, as `nodes` tells
+abbrev pub AreEnds : {E : Type 0} → (E → ℕ) → ℕ → List E → Type 0
+AreEnds nodes count ends = All (λ e. nodes e ≡ count) ends
 
--- With these ends and passes workers can run: 1 to 64 ends of a shelf for the board's nodes, and all passes of the board,
+-- With these ends and passes workers can run: 1 to 64 ends of a shelf for so many nodes, and all passes of the board,
 -- one more than there are ends, of which none has done anything.
-pub record CanRun {E V : Type 0} (nodes : E → ℕ) (b : BoardView) (ends : List E) (passes : List (PassView V)) : Type 0 where
-  pub shelves : AreEnds nodes b ends
+pub record CanRun {E V : Type 0} (nodes : E → ℕ) (graph : ℕ) (b : BoardView) (ends : List E) (passes : List (PassView V)) : Type 0 where
+  pub shelves : AreEnds nodes graph ends
   pub some : 0 < length ends
   pub most : length ends < 65
   pub count : length ends + 1 ≡ length passes

@@ -1,5 +1,3 @@
-pub mod Graph
-pub mod Outcomes
+pub mod Gathered
 pub mod Settled
 pub mod Ends
-pub mod Numbers

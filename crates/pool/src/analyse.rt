@@ -1,21 +1,30 @@
 //! What the work on one node is.
 ghost use Rattle.std.specs.Prelude.{◌≡◌, ◌<◌, ℕ, List, map, IfOk};
 
-use crate::node::NodeId;
 use board::NoMemory;
+use edges::NodeId;
 use std::alloc::Global;
 
 /// How the outcome of a node comes from the outcomes of its dependencies.
 ///
 /// An implementation says in ghost members how many nodes there are, `nodes`; what the outcome is,
-/// `step`, a function of the node and of its dependencies' outcomes, in their order; and of which
-/// outcomes this is promised, `fits`. A call is safe for all outcomes.
+/// `step`, a function of the node and of its dependencies' outcomes, in their order; of which
+/// outcomes this is promised, `fits`; and what the outcome of every cyclic node is, `cycle`. A call
+/// is safe for all outcomes.
 pub trait Analyse<V>: Sync {
     ghost nodes: { Self → ℕ };
 
     ghost step: { Self → ℕ → List V → V };
 
     ghost fits: { Self → ℕ → List V → Type 0 };
+
+    ghost cycle: { Self → V };
+
+    /// The outcome of a cyclic node. No worker is asked for it.
+    ///
+    /// `NoMemory` comes where the allocator refuses memory.
+    fn cyclic(&self, alloc: Global) -> Result<V, NoMemory>
+        ensures cycle { IfOk result (λ v. v ≡ cycle self.now) };
 
     /// The outcome of the node, where `values` are the outcomes of its dependencies, in order.
     ///

@@ -1,5 +1,5 @@
 //! What a caller may have done at the work on each node.
-use crate::node::NodeId;
+use edges::NodeId;
 
 /// Calls that a worker makes round its work on a node: `enter` before the node is analysed, `leave`
 /// after its outcome was published.

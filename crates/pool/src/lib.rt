@@ -1,4 +1,5 @@
 //! Workers that find the outcome of every node of a graph, each node after its dependencies.
+//! Cyclic nodes have their outcome without a worker.
 //!
 //! [`run`] starts up to 64 workers in threads of their own. They take the numbers of nodes from a
 //! [`Shelf`], and do what [`Analyse`] says on each, over a board that all of them share. Whenever
@@ -9,22 +10,15 @@
 mod analyse;
 mod gate;
 mod gathered;
-mod graph;
 mod idle;
-mod known;
-mod node;
 mod running;
-mod shelf;
-mod steal;
 mod threads;
 mod worker;
 
 pub use analyse::Analyse;
 pub use board::NoMemory;
+pub use edges::{Edges, NodeId};
 pub use gate::{Gate, NoGate};
 pub use gathered::Gathered;
-pub use graph::Graph;
-pub use node::NodeId;
 pub use running::{Refused, run, run_on};
-pub use shelf::{LockShelf, Shelf};
-pub use steal::StealShelf;
+pub use shelves::{LockShelf, Shelf, StealShelf};

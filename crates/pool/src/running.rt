@@ -1,22 +1,19 @@
 //! A run: the board of a graph, the first nodes on the shelf, the workers, and what they found.
-ghost use Rattle.std.specs.Prelude.{◌≡◌, ◌+◌, ◌<◌, ◌≤◌, ℕ, length, max, IfOk, vec_len};
+ghost use Rattle.std.specs.Prelude.{◌≡◌, ◌+◌, ◌<◌, ◌≤◌, ℕ, length, max, take, IfOk, vec_len};
 ghost use Rattle.std.specs.List.{All};
-ghost use Rattle.board.specs.Views.{IsNew, told};
-ghost use Rattle.pool.specs.Outcomes.{HasOutcomes};
-ghost use Rattle.pool.specs.Settled.{Settled};
+ghost use Rattle.board.specs.Views.{IsNew};
+ghost use Rattle.pool.specs.Gathered.{HasOutcomes};
 ghost use Rattle.pool.specs.Ends.{AreEnds, CanRun, IsGathering};
 
 use crate::analyse::Analyse;
 use crate::gate::Gate;
 use crate::gathered::Gathered;
-use crate::graph::Graph;
 use crate::idle::Idle;
-use crate::node::NodeId;
-use crate::shelf::Shelf;
-use crate::steal::StealShelf;
 use crate::threads::in_threads;
 use crate::worker::Site;
 use board::{Board, NoMemory, Pass};
+use edges::Edges;
+use shelves::{Shelf, StealShelf};
 use std::alloc::Global;
 use std::sync::Wait;
 use std::thread::Threads;
@@ -33,14 +30,15 @@ pub enum Refused {
 /// The outcome of every node of the graph, by so many workers, from 1 to 64, with a deque each.
 ///
 /// Whenever it answers `Ok`, the outcomes are those along edges: whatever the number of workers,
-/// whichever of them ran which node, and whatever the gate does. No more workers start than there
-/// are nodes, but one always does. `NoMemory` comes where the allocator refuses memory, also to a
-/// worker; `NoThread` where a thread was refused, or the memory to start it. In either case all
-/// workers are joined, and nothing is kept.
+/// whichever of them ran which node, and whatever the gate does. Cyclic nodes have theirs without a
+/// worker. No more workers start than there are nodes that are not cyclic, but one always does.
+/// `NoMemory` comes where the allocator refuses memory, also to a worker; `NoThread` where a thread
+/// was refused, or the memory to start it. In either case all workers are joined, and nothing is
+/// kept.
 pub fn run<V, A, G, R>(
     rt: &R,
     alloc: Global,
-    graph: &Graph,
+    graph: &Edges,
     analyse: &A,
     workers: usize,
     gate: &G,
@@ -51,12 +49,13 @@ where
     G: Gate,
     R: Threads + Wait + Sync,
     requires workers { (0 < workers) × (workers < 65) }
-    requires nodes { A.nodes analyse.now ≡ length graph.now.plan }
-    ensures nodes { IfOk result (λ g. length g.known ≡ length graph.now.plan) }
-    ensures outcomes { IfOk result
-        (HasOutcomes (A.step analyse.now) (A.fits analyse.now) graph.now.plan) }
+    requires nodes { A.nodes analyse.now ≡ length graph.now.deps }
+    ensures nodes { IfOk result (λ g. g.nodes ≡ length graph.now.deps) }
+    ensures closed { IfOk result (λ g. length g.closed.known ≡ graph.now.acyclic) }
+    ensures outcomes { let a = analyse.now in IfOk result
+        (HasOutcomes (A.cycle a) (A.step a) (A.fits a) graph.now.deps) }
 {
-    let workers = useful_workers(workers, graph.nodes());
+    let workers = useful_workers(workers, graph.acyclic());
     match StealShelf::ends(alloc, workers, graph.nodes()) {
         Ok(ends) => run_on(rt, alloc, graph, analyse, ends, gate),
         Err(_) => Err(Refused::NoMemory),
@@ -66,11 +65,11 @@ where
 /// The outcome of every node of the graph, by one worker for each of these ends of a shelf.
 ///
 /// It promises what [`run`] does, for every shelf and 1 to 64 ends of it. Where there are more ends
-/// than nodes, it lets those at the back go.
+/// than nodes that are not cyclic, it lets those at the back go.
 pub fn run_on<V, A, S, G, R>(
     rt: &R,
     alloc: Global,
-    graph: &Graph,
+    graph: &Edges,
     analyse: &A,
     mut ends: Vec<S>,
     gate: &G,
@@ -82,21 +81,25 @@ where
     G: Gate,
     R: Threads + Wait + Sync,
     requires workers { (0 < vec_len ends) × (vec_len ends < 65) }
-    requires shelves { All (λ e. S.nodes e ≡ length graph.now.plan) ends.items }
-    requires nodes { A.nodes analyse.now ≡ length graph.now.plan }
-    ensures nodes { IfOk result (λ g. length g.known ≡ length graph.now.plan) }
-    ensures outcomes { IfOk result
-        (HasOutcomes (A.step analyse.now) (A.fits analyse.now) graph.now.plan) }
+    requires shelves { AreEnds S.nodes (length graph.now.deps) ends.items }
+    requires nodes { A.nodes analyse.now ≡ length graph.now.deps }
+    ensures nodes { IfOk result (λ g. g.nodes ≡ length graph.now.deps) }
+    ensures closed { IfOk result (λ g. length g.closed.known ≡ graph.now.acyclic) }
+    ensures outcomes { let a = analyse.now in IfOk result
+        (HasOutcomes (A.cycle a) (A.step a) (A.fits a) graph.now.deps) }
 {
     keep_useful(graph, &mut ends);
     let Ok(()) = spread(graph, &mut ends) else {
         return Err(Refused::NoMemory);
     };
-    let Ok((board, passes)) = Board::new(alloc, graph.plan(), ends.len() + 1) else {
+    let Ok(cycle) = analyse.cyclic(alloc) else {
+        return Err(Refused::NoMemory);
+    };
+    let Ok((board, passes)) = open(alloc, graph, ends.len() + 1) else {
         return Err(Refused::NoMemory);
     };
     let passes = by_workers(rt, alloc, &board, graph, analyse, gate, ends, passes)?;
-    Ok(gather(board, graph, analyse, passes))
+    Ok(gather(board, graph, analyse, passes, cycle))
 }
 
 /// How many of so many workers can be of use for so many nodes: no more than there are nodes, but
@@ -110,33 +113,49 @@ fn useful_workers(workers: usize, nodes: usize) -> usize
     workers.min(nodes.max(1))
 }
 
-/// Lets the ends go that are more than there are nodes, but keeps one.
-fn keep_useful<S: Shelf>(graph: &Graph, ends: &mut Vec<S>)
+/// Lets the ends go that are more than there are nodes that are not cyclic, but keeps one.
+fn keep_useful<S: Shelf>(graph: &Edges, ends: &mut Vec<S>)
     requires some { 0 < vec_len ends.old }
-    requires shelves { All (λ e. S.nodes e ≡ length graph.now.plan) ends.old.items }
+    requires shelves { AreEnds S.nodes (length graph.now.deps) ends.old.items }
     ensures some { 0 < vec_len ends.new }
     ensures most { vec_len ends.new ≤ vec_len ends.old }
-    ensures few { vec_len ends.new ≤ max 1 (length graph.now.plan) }
-    ensures shelves { All (λ e. S.nodes e ≡ length graph.now.plan) ends.new.items }
+    ensures few { vec_len ends.new ≤ max 1 graph.now.acyclic }
+    ensures shelves { AreEnds S.nodes (length graph.now.deps) ends.new.items }
 {
-    ends.truncate(useful_workers(ends.len(), graph.nodes()));
+    ends.truncate(useful_workers(ends.len(), graph.acyclic()));
 }
 
 /// Puts the nodes that depend on none over the ends in turn.
-fn spread<S: Shelf>(graph: &Graph, ends: &mut Vec<S>) -> Result<(), NoMemory>
+fn spread<S: Shelf>(graph: &Edges, ends: &mut Vec<S>) -> Result<(), NoMemory>
     requires some { 0 < vec_len ends.old }
-    requires shelves { All (λ e. S.nodes e ≡ length graph.now.plan) ends.old.items }
+    requires shelves { AreEnds S.nodes (length graph.now.deps) ends.old.items }
     ensures size { vec_len ends.new ≡ vec_len ends.old }
-    ensures shelves { All (λ e. S.nodes e ≡ length graph.now.plan) ends.new.items }
+    ensures shelves { AreEnds S.nodes (length graph.now.deps) ends.new.items }
 {
+    let ready = graph.ready();
     let mut next = 0;
-    for n in 0..graph.nodes() {
-        if graph.deps(n).is_empty() {
-            ends[next].put(NodeId::of(n))?;
-            next = if next + 1 < ends.len() { next + 1 } else { 0 };
-        }
+    for node in ready {
+        ends[next].put(*node)?;
+        next = if next + 1 < ends.len() { next + 1 } else { 0 };
     }
     Ok(())
+}
+
+/// A board for the nodes that are not cyclic, and so many passes of it.
+fn open<V: Drop>(
+    alloc: Global,
+    graph: &Edges,
+    passes: usize,
+) -> Result<(Board<V>, Vec<Pass<V>>), NoMemory>
+    requires some { 0 < passes }
+    ensures plan { IfOk result (λ t. t.0.plan ≡ take graph.now.acyclic graph.now.deps) }
+    ensures count { IfOk result (λ t. (t.0.passes ≡ passes) × (length t.1.items ≡ passes)) }
+    ensures new { IfOk result (λ t. All (IsNew t.0) t.1.items) }
+{
+    match graph.plan(alloc) {
+        Ok(plan) => Board::new(alloc, &plan, passes),
+        Err(_) => Err(NoMemory),
+    }
 }
 
 /// All passes of the board, after workers at these ends have ended. The last pass is run's own.
@@ -144,7 +163,7 @@ fn by_workers<V, A, S, G, R>(
     rt: &R,
     alloc: Global,
     board: &Board<V>,
-    graph: &Graph,
+    graph: &Edges,
     analyse: &A,
     gate: &G,
     ends: Vec<S>,
@@ -156,9 +175,9 @@ where
     S: Shelf + Send,
     G: Gate,
     R: Threads + Wait + Sync,
-    requires graph { graph.now.plan ≡ board.now.plan }
-    requires nodes { A.nodes analyse.now ≡ length board.now.plan }
-    requires run { CanRun S.nodes board.now ends.items passes.items }
+    requires plan { board.now.plan ≡ take graph.now.acyclic graph.now.deps }
+    requires nodes { A.nodes analyse.now ≡ length graph.now.deps }
+    requires run { CanRun S.nodes (length graph.now.deps) board.now ends.items passes.items }
     ensures { IfOk result
         (λ v. IsGathering (A.step analyse.now) (A.fits analyse.now) board.now v.items) }
 {
@@ -175,20 +194,23 @@ where
     in_threads(&site, ends, passes)
 }
 
-/// What all passes found, together.
+/// What all passes found, together, and the outcome of cyclic nodes.
 fn gather<V, A: Analyse<V>>(
     board: Board<V>,
-    graph: &Graph,
+    graph: &Edges,
     analyse: &A,
     passes: Vec<Pass<V>>,
+    cycle: V,
 ) -> Gathered<V>
-    requires graph { graph.now.plan ≡ board.plan }
+    requires plan { board.plan ≡ take graph.now.acyclic graph.now.deps }
     requires all { IsGathering (A.step analyse.now) (A.fits analyse.now) board passes.items }
-    ensures nodes { length result.known ≡ length graph.now.plan }
-    ensures settled { (n : ℕ) → n < length graph.now.plan →
-        Settled (A.step analyse.now) (A.fits analyse.now) graph.now.plan (told result) n }
+    requires cycle { cycle ≡ A.cycle analyse.now }
+    ensures nodes { result.nodes ≡ length graph.now.deps }
+    ensures closed { length result.closed.known ≡ graph.now.acyclic }
+    ensures outcomes { let a = analyse.now in
+        HasOutcomes (A.cycle a) (A.step a) (A.fits a) graph.now.deps result }
 {
     let _analyse = analyse;
-    let _graph = graph;
-    Gathered::of(board.close(passes))
+    let acyclic = graph.acyclic();
+    Gathered::of(board.close(passes), cycle, acyclic, graph.nodes())
 }

@@ -10,9 +10,9 @@ ghost use Rattle.pool.specs.Ends.{AreEnds, CanRun, EndingSays, EndedWell, IsFine
 use crate::analyse::Analyse;
 use crate::gate::Gate;
 use crate::running::Refused;
-use crate::shelf::Shelf;
 use crate::worker::{Ending, Site, run_worker};
 use board::{Board, Pass};
+use shelves::Shelf;
 use std::sync::Wait;
 use std::thread;
 use std::thread::{Promise, PromisedHandle, Scope, Threads};
@@ -46,7 +46,7 @@ where
     S: Shelf + Send + 's,
     G: Gate,
     R: Threads + Wait + Sync,
-    requires shelf { S.nodes end ≡ length site.now.board.now.plan }
+    requires shelf { S.nodes end ≡ length site.now.graph.now.deps }
     requires pass { IsNew site.now.board.now pass }
     ensures { IfSome result (λ h. (h.promise.board.now ≡ site.entry.now.board.now)
         × (h.promise.analyse.now ≡ site.entry.now.analyse.now)) }
@@ -59,7 +59,7 @@ where
         .spawn_with(
             duty,
             move || -> (Pass<V>, Ending)
-                requires shelf { S.nodes end ≡ length site.now.board.now.plan }
+                requires shelf { S.nodes end ≡ length site.now.graph.now.deps }
                 requires pass { IsNew site.now.board.now pass }
                 ensures { let a = site.entry.now.analyse.now in
                     IsSound (A.step a) (A.fits a) site.entry.now.board.now result.0
@@ -85,7 +85,7 @@ where
     S: Shelf + Send + 's,
     G: Gate,
     R: Threads + Wait + Sync,
-    requires ends { AreEnds S.nodes site.now.board.now ends.items }
+    requires ends { AreEnds S.nodes (length site.now.graph.now.deps) ends.items }
     requires count { vec_len ends ≡ vec_len passes }
     requires passes { All (IsNew site.now.board.now) passes.items }
     requires own { IsPassOf site.now.board.now own.old }
@@ -172,7 +172,8 @@ where
     S: Shelf + Send + 's,
     G: Gate,
     R: Threads + Wait + Sync,
-    requires { CanRun S.nodes site.now.board.now ends.items passes.items }
+    requires { CanRun S.nodes (length site.now.graph.now.deps) site.now.board.now
+        ends.items passes.items }
     ensures { let a = site.entry.now.analyse.now in IfOk result
         (λ v. IsGathering (A.step a) (A.fits a) site.entry.now.board.now v.items) }
 {
@@ -212,7 +213,8 @@ where
     S: Shelf + Send,
     G: Gate,
     R: Threads + Wait + Sync,
-    requires { CanRun S.nodes site.now.board.now ends.items passes.items }
+    requires { CanRun S.nodes (length site.now.graph.now.deps) site.now.board.now
+        ends.items passes.items }
     ensures { let a = site.entry.now.analyse.now in IfOk result
         (λ v. IsGathering (A.step a) (A.fits a) site.entry.now.board.now v.items) }
 {
@@ -220,7 +222,8 @@ where
         thread::scope_env(),
         site.rt,
         |scope| -> Result<Vec<Pass<V>>, Refused>
-            requires { CanRun S.nodes site.now.board.now ends.items passes.items }
+            requires { CanRun S.nodes (length site.now.graph.now.deps) site.now.board.now
+                ends.items passes.items }
             ensures { let a = site.entry.now.analyse.now in IfOk result
                 (λ v. IsGathering (A.step a) (A.fits a) site.entry.now.board.now v.items) }
         { in_scope(scope, site, ends, passes) },

@@ -1,33 +1,36 @@
 //! One worker: what it does with a node, and its turns until no node is left.
-ghost use Rattle.std.specs.Prelude.{◌≡◌, ◌≢◌, ◌<◌, ℕ, length, map, Some, None, true, false, IfOk, IfErr, IfSome, IfNone, OnOk};
+ghost use Rattle.std.specs.Prelude.{◌≡◌, ◌≢◌, ◌<◌, ◌≤◌, ℕ, length, map, take, Some, None};
+ghost use Rattle.std.specs.Prelude.{true, false, IfOk, IfErr, IfSome, IfNone, OnOk};
+ghost use Rattle.std.specs.Bool.{OnTrue};
 ghost use Rattle.board.specs.Journal.{times, deps};
 ghost use Rattle.board.specs.Views.{IsPassOf, IsHeld, IsUnsent, Keeps, knows};
+ghost use Rattle.edges.specs.Rows.{has};
 ghost use Rattle.pool.specs.Settled.{Knows, Stepped, IsSound};
 ghost use Rattle.pool.specs.Ends.{StopSays, EndingSays, OnlyLooked, times_sent};
 
 use crate::analyse::Analyse;
 use crate::gate::Gate;
-use crate::graph::Graph;
 use crate::idle::{Idle, Rest};
-use crate::node::NodeId;
-use crate::shelf::Shelf;
 use board::{Board, NoMemory, Pass, Published, Readiness};
 use crossbeam_utils::Backoff;
+use edges::{Edges, NodeId};
+use shelves::Shelf;
 use std::alloc::Global;
 use std::sync::Wait;
 
-/// What all workers of a run share. The board is that of the graph, and `analyse` has its nodes.
+/// What all workers of a run share. The board is that of the graph's nodes that are not cyclic, and
+/// `analyse` has all its nodes.
 #[derive(Drop)]
 pub struct Site<'s, V, A: Analyse<V>, G, R> {
     pub rt: &'s R,
     pub alloc: Global,
     pub board: &'s Board<V>,
-    pub graph: &'s Graph,
+    pub graph: &'s Edges,
     pub analyse: &'s A,
     pub gate: &'s G,
     pub idle: &'s Idle,
-    ghost plan: { graph.now.plan ≡ board.now.plan },
-    ghost nodes: { A.nodes analyse.now ≡ length board.now.plan },
+    ghost plan: { board.now.plan ≡ take graph.now.acyclic graph.now.deps },
+    ghost nodes: { A.nodes analyse.now ≡ length graph.now.deps },
 }
 
 /// Why a worker gave up on a node.
@@ -85,12 +88,12 @@ fn read_all<'b, V, R: Wait>(
     alloc: Global,
     board: &'b Board<V>,
     pass: &mut Pass<V>,
-    list: &[usize],
+    list: &[NodeId],
     n: usize,
 ) -> Result<Vec<&'b V>, Stop>
     requires pass { IsPassOf board.now pass.old }
-    requires inside { (d : ℕ) → 0 < times d list.now → d < length board.now.plan }
-    requires others { times n list.now ≡ 0 }
+    requires node { n < length board.now.plan }
+    requires before { (d : ℕ) → has list.now d ≡ true → d < n }
     ensures of { IsPassOf board.entry.now pass.new }
     ensures keeps { Keeps (knows pass.old) (knows pass.new) }
     ensures fresh { knows pass.new n ≡ knows pass.old n }
@@ -102,7 +105,7 @@ fn read_all<'b, V, R: Wait>(
         return Err(Stop::NoMemory);
     };
     for d in list {
-        let Some(value) = wait_for(rt, board, pass, *d) else {
+        let Some(value) = wait_for(rt, board, pass, d.number()) else {
             return Err(Stop::Halted);
         };
         values.push_reserved(value);
@@ -127,9 +130,9 @@ fn outcome_of<V, A: Analyse<V>, G: Gate, R: Wait>(
         (λ v. Stepped (A.step a) (A.fits a) site.now.board.now.plan (knows pass.new) n v) }
     ensures err { IfErr result (λ e. StopSays e pass.new.journal) }
 {
-    let list = site.graph.deps(n);
-    let values = read_all(site.rt, site.alloc, site.board, pass, list, n)?;
     let node = NodeId::of(n);
+    let list = site.graph.deps(node);
+    let values = read_all(site.rt, site.alloc, site.board, pass, list, n)?;
     site.gate.enter(node);
     match site
         .analyse
@@ -141,20 +144,20 @@ fn outcome_of<V, A: Analyse<V>, G: Gate, R: Wait>(
 }
 
 /// Delivers a published node to one user, and puts that on the shelf if it can be started now. True
-/// says that it can.
+/// says that it can. A cyclic user runs on no board, and is left out.
 fn deliver_one<V, S: Shelf>(
     board: &Board<V>,
+    acyclic: usize,
     shelf: &mut S,
     pass: &mut Pass<V>,
     published: &mut Published,
-    user: usize,
+    user: NodeId,
 ) -> Result<bool, NoMemory>
-    requires shelf { S.nodes shelf.old ≡ length board.now.plan }
-    requires user { user < length board.now.plan }
+    requires nodes { (acyclic ≡ length board.now.plan) × (acyclic ≤ S.nodes shelf.old) }
     requires pass { IsPassOf board.now pass.old }
     requires held { IsHeld pass.old published.old.node }
     requires first { times_sent pass.old published.old.node user ≡ 0 }
-    requires edge { 0 < times published.old.node (deps board.now.plan user) }
+    requires edge { user < acyclic → 0 < times published.old.node (deps board.now.plan user) }
     ensures of { IsPassOf board.now pass.new }
     ensures shelf { S.nodes shelf.new ≡ S.nodes shelf.old }
     ensures same { published.new ≡ published.old }
@@ -162,12 +165,15 @@ fn deliver_one<V, S: Shelf>(
     ensures memory { pass.new.memory ≡ pass.old.memory }
     ensures finished { pass.new.journal.finished ≡ pass.old.journal.finished }
     ensures set { pass.new.journal.set ≡ pass.old.journal.set }
-    ensures sent { 0 < times_sent pass.new published.old.node user }
+    ensures sent { user < acyclic → 0 < times_sent pass.new published.old.node user }
     ensures others { let n = published.old.node in
         (u : ℕ) → u ≢ user → times_sent pass.new n u ≡ times_sent pass.old n u }
 {
-    match board.deliver(pass, published, user) {
-        Readiness::Ready => shelf.put(NodeId::of(user))?,
+    if user.number() >= acyclic {
+        return Ok(false);
+    }
+    match board.deliver(pass, published, user.number()) {
+        Readiness::Ready => shelf.put(user)?,
         Readiness::Waiting => return Ok(false),
     }
     Ok(true)
@@ -178,15 +184,15 @@ fn deliver_one<V, S: Shelf>(
 /// For each of these but one it wakes a worker: the one is for this worker, which looks next.
 fn deliver_all<V, S: Shelf>(
     board: &Board<V>,
-    graph: &Graph,
+    graph: &Edges,
     idle: &Idle,
     shelf: &mut S,
     pass: &mut Pass<V>,
     published: &mut Published,
     n: usize,
 ) -> Result<(), NoMemory>
-    requires graph { graph.now.plan ≡ board.now.plan }
-    requires shelf { S.nodes shelf.old ≡ length board.now.plan }
+    requires graph { board.now.plan ≡ take graph.now.acyclic graph.now.deps }
+    requires shelf { S.nodes shelf.old ≡ length graph.now.deps }
     requires pass { IsPassOf board.now pass.old }
     requires node { (n < length board.now.plan) × (published.old.node ≡ n) }
     requires held { IsHeld pass.old n × IsUnsent pass.old n }
@@ -200,10 +206,11 @@ fn deliver_all<V, S: Shelf>(
     ensures whole { OnOk result
         ((u : ℕ) → 0 < times n (deps board.now.plan u) → 0 < times_sent pass.new n u) }
 {
-    let users = graph.users(n);
+    let acyclic = graph.acyclic();
+    let users = graph.users(NodeId::of(n));
     let mut has_next = false;
     for user in users {
-        if deliver_one(board, shelf, pass, published, *user)? {
+        if deliver_one(board, acyclic, shelf, pass, published, *user)? {
             if has_next {
                 idle.wake_one();
             }
@@ -222,7 +229,7 @@ fn complete<V: Drop, A: Analyse<V>, S: Shelf, G: Gate, R: Wait>(
     n: usize,
     value: V,
 ) -> Result<(), NoMemory>
-    requires shelf { S.nodes shelf.old ≡ length site.now.board.now.plan }
+    requires shelf { S.nodes shelf.old ≡ length site.now.graph.now.deps }
     requires node { n < length site.now.board.now.plan }
     requires started { (0 < times n pass.old.journal.started) × (knows pass.old n ≡ None) }
     requires pass { let a = site.now.analyse.now in
@@ -263,7 +270,7 @@ fn work<V: Drop, A: Analyse<V>, S: Shelf, G: Gate, R: Wait>(
     pass: &mut Pass<V>,
     n: usize,
 ) -> Result<(), Stop>
-    requires shelf { S.nodes shelf.old ≡ length site.now.board.now.plan }
+    requires shelf { S.nodes shelf.old ≡ length site.now.graph.now.deps }
     requires node { n < length site.now.board.now.plan }
     requires started { (0 < times n pass.old.journal.started) × (knows pass.old n ≡ None) }
     requires pass { let a = site.now.analyse.now in
@@ -281,6 +288,30 @@ fn work<V: Drop, A: Analyse<V>, S: Shelf, G: Gate, R: Wait>(
     }
 }
 
+/// Starts a node of the graph, if it is not cyclic and can be started now. True says that this pass
+/// has it.
+fn begin<V, A: Analyse<V>, G: Gate, R: Wait>(
+    site: &Site<V, A, G, R>,
+    pass: &mut Pass<V>,
+    n: usize,
+) -> bool
+    requires pass { let a = site.now.analyse.now in
+        IsSound (A.step a) (A.fits a) site.now.board.now pass.old }
+    ensures pass { let a = site.now.analyse.now in
+        IsSound (A.step a) (A.fits a) site.now.board.now pass.new }
+    ensures set { pass.new.journal.set ≡ pass.old.journal.set }
+    ensures started { OnTrue result ((n < length site.now.board.now.plan)
+        × (0 < times n pass.new.journal.started) × (knows pass.new n ≡ None)) }
+{
+    if n >= site.graph.acyclic() {
+        return false;
+    }
+    match site.board.start(pass, n) {
+        Ok(()) => true,
+        Err(_) => false,
+    }
+}
+
 /// Takes nodes from the shelf and works on those that can be started, until no node is left, the
 /// halt is seen, or memory is refused. In the last case it sets the halt.
 pub fn run_worker<V: Drop, A: Analyse<V>, S: Shelf, G: Gate, R: Wait>(
@@ -288,7 +319,7 @@ pub fn run_worker<V: Drop, A: Analyse<V>, S: Shelf, G: Gate, R: Wait>(
     mut shelf: S,
     mut pass: Pass<V>,
 ) -> (Pass<V>, Ending)
-    requires shelf { S.nodes shelf ≡ length site.now.board.now.plan }
+    requires shelf { S.nodes shelf ≡ length site.now.graph.now.deps }
     requires pass { let a = site.now.analyse.now in
         IsSound (A.step a) (A.fits a) site.now.board.now pass }
     requires unset { pass.journal.set ≡ false }
@@ -310,10 +341,10 @@ pub fn run_worker<V: Drop, A: Analyse<V>, S: Shelf, G: Gate, R: Wait>(
             continue;
         };
         let n = node.number();
-        let Ok(()) = site.board.start(&mut pass, n) else {
+        if !begin(site, &mut pass, n) {
             rest.pause();
             continue;
-        };
+        }
         rest.end();
         match work(site, &mut shelf, &mut pass, n) {
             Ok(()) => {}

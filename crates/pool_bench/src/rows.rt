@@ -3,8 +3,9 @@ ghost use Rattle.std.specs.Prelude.{◌≡◌, length, IfSome};
 
 use crate::work::Busy;
 use board::Board;
+use edges::{Edges, Numbered};
 use fakes::graphs::layers;
-use pool::{Gathered, Graph, NoGate, NodeId, run};
+use pool::{Gathered, NoGate, NodeId, run};
 use std::alloc::{AllocError, Global};
 use std::io;
 use std::rt::Clock;
@@ -21,7 +22,7 @@ pub struct Row {
     pub nodes: usize,
 }
 
-fn graph_of(alloc: Global, row: &Row) -> Result<Option<Graph>, AllocError> {
+fn graph_of(alloc: Global, row: &Row) -> Result<Option<Numbered>, AllocError> {
     layers(alloc, row.nodes, row.width, row.degree)
 }
 
@@ -29,11 +30,11 @@ fn graph_of(alloc: Global, row: &Row) -> Result<Option<Graph>, AllocError> {
 fn run_by<R: Threads + Wait + Sync>(
     rt: &R,
     alloc: Global,
-    graph: &Graph,
+    graph: &Edges,
     workers: usize,
     steps: u64,
 ) -> Option<Gathered<u64>>
-    ensures { IfSome result (λ g. length g.known ≡ length graph.now.plan) }
+    ensures { IfSome result (λ g. g.nodes ≡ length graph.now.deps) }
 {
     if workers == 0 || workers > 64 {
         return None;
@@ -47,7 +48,7 @@ fn run_by<R: Threads + Wait + Sync>(
 
 /// Whether both have the same outcome for each of so many nodes.
 fn are_same(one: &Gathered<u64>, other: &Gathered<u64>, nodes: usize) -> bool
-    requires { (nodes ≡ length one.now.known) × (nodes ≡ length other.now.known) }
+    requires { (nodes ≡ one.now.nodes) × (nodes ≡ other.now.nodes) }
 {
     for n in 0..nodes {
         let node = NodeId::of(n);
@@ -64,25 +65,27 @@ pub fn agree<R: Threads + Wait + Sync>(rt: &R, alloc: Global, row: &Row) -> io::
         return Ok(false);
     };
     let (Some(one), Some(four)) = (
-        run_by(rt, alloc, &graph, 1, 0),
-        run_by(rt, alloc, &graph, 4, 0),
+        run_by(rt, alloc, &graph.edges, 1, 0),
+        run_by(rt, alloc, &graph.edges, 4, 0),
     ) else {
         return Ok(false);
     };
-    Ok(are_same(&one, &four, graph.nodes()))
+    Ok(are_same(&one, &four, graph.edges.nodes()))
 }
 
 /// How many nanoseconds it takes to open a board of the graph for so many workers, and to close it.
 fn open_and_close<R: Clock>(
     rt: &R,
     alloc: Global,
-    graph: &Graph,
+    graph: &Edges,
     workers: usize,
 ) -> io::Result<(u128, u128)> {
     let start = Instant::now(rt)?;
-    let Ok((board, passes)) = Board::<u64>::new(alloc, graph.plan(), workers.min(64) + 1) else {
+    let plan = graph.plan(alloc)?;
+    let Ok((board, passes)) = Board::<u64>::new(alloc, &plan, workers.min(64) + 1) else {
         return Ok((0, 0));
     };
+    drop(plan);
     let opened = start.elapsed(rt)?.as_nanos();
     let start = Instant::now(rt)?;
     let closed = board.close(passes);
@@ -103,10 +106,10 @@ pub fn time_row<R: Print + Clock + CpuClock + Threads + Wait + Sync>(
     let Some(graph) = graph_of(alloc, row)? else {
         return println!(rt; "no graph");
     };
-    let (opened, closed) = open_and_close(rt, alloc, &graph, workers)?;
+    let (opened, closed) = open_and_close(rt, alloc, &graph.edges, workers)?;
     let used = rt.process_cpu_time()?;
     let start = Instant::now(rt)?;
-    let gathered = run_by(rt, alloc, &graph, workers, steps);
+    let gathered = run_by(rt, alloc, &graph.edges, workers, steps);
     let wall = start.elapsed(rt)?.as_nanos();
     let used = rt.process_cpu_time()?.saturating_sub(used).as_nanos();
     let answer = if gathered.is_some() {

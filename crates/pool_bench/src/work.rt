@@ -24,6 +24,12 @@ impl Analyse<u64> for Busy {
 
     ghost fits = { λ b n us. ⊥ };
 
+    ghost cycle = { λ b. 0 };
+
+    fn cyclic(&self, _alloc: Global) -> Result<u64, NoMemory> {
+        Ok(0)
+    }
+
     fn analyse_one(&self, _alloc: Global, n: NodeId, values: &[&u64]) -> Result<u64, NoMemory> {
         let mut sum = n.number() as u64;
         for value in values {

@@ -6,10 +6,10 @@ mod analysers;
 #[cfg(test)]
 mod pair;
 #[cfg(test)]
+mod passing_on;
+#[cfg(test)]
 mod random;
 #[cfg(test)]
 mod runs;
-#[cfg(test)]
-mod shelves;
 #[cfg(test)]
 mod texts;

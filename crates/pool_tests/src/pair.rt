@@ -1,38 +1,31 @@
 //! What a caller can say of a run: the text of the second of two nodes.
-ghost use Rattle.std.specs.Prelude.{◌≡◌, [], ◌∷◌, Some, IfOk, IfSome, map};
-ghost use Rattle.board.specs.Views.{told};
+ghost use Rattle.std.specs.Prelude.{◌≡◌, [], ◌∷◌, length, IfOk, IfSome};
+ghost use Rattle.pool.specs.Gathered.{outcome_in};
 ghost use Rattle.pool_tests.specs.Examples.{bracketed};
 
 use crate::analysers::{Nesting, Text};
-use pool::{Gathered, Graph, NoGate, run};
+use edges::Adjacency;
+use pool::{Edges, Gathered, NoGate, NodeId, run};
 use std::alloc::{AllocError, Global};
 use std::sync::Wait;
 use std::test::Fail;
 use std::thread::Threads;
 
-fn plan_of_two(alloc: Global) -> Result<Vec<Vec<usize>>, AllocError>
-    ensures { IfOk result (λ v. map (λ l. l.items) v.items ≡ [] ∷ (0 ∷ []) ∷ []) }
-{
-    let mut plan = Vec::new(alloc);
-    plan.push(Vec::new(alloc))?;
-    let mut list = Vec::new(alloc);
-    list.push(0usize)?;
-    plan.push(list)?;
-    Ok(plan)
-}
-
 /// Node 0, and node 1 that depends on it.
-fn two(alloc: Global, plan: Vec<Vec<usize>>) -> Option<Graph>
-    requires { map (λ l. l.items) plan.items ≡ [] ∷ (0 ∷ []) ∷ [] }
-    ensures { IfSome result (λ g. g.plan ≡ [] ∷ (0 ∷ []) ∷ []) }
+fn two(alloc: Global) -> Result<Edges, AllocError>
+    ensures { IfOk result (λ g. g.deps ≡ [] ∷ (0 ∷ []) ∷ []) }
 {
-    Graph::of(alloc, plan).ok()
+    let mut rows = Adjacency::with_capacity(alloc, 2, 1)?;
+    rows.push(&[])?;
+    rows.push(&[NodeId::of(0)])?;
+    Edges::in_order(alloc, rows)
 }
 
 /// The texts of both, by two workers. That of node 1 is known before they run.
-fn texts<R: Threads + Wait + Sync>(rt: &R, alloc: Global, graph: &Graph) -> Option<Gathered<Text>>
-    requires { graph.now.plan ≡ [] ∷ (0 ∷ []) ∷ [] }
-    ensures { IfSome result (λ g. told g 1 ≡ Some (bracketed (bracketed [] ∷ []))) }
+fn texts<R: Threads + Wait + Sync>(rt: &R, alloc: Global, graph: &Edges) -> Option<Gathered<Text>>
+    requires { graph.now.deps ≡ [] ∷ (0 ∷ []) ∷ [] }
+    ensures nodes { IfSome result (λ g. g.nodes ≡ length graph.now.deps) }
+    ensures text { IfSome result (λ g. outcome_in g 1 ≡ bracketed (bracketed [] ∷ [])) }
 {
     let nesting = Nesting {
         nodes: graph.nodes(),
@@ -46,13 +39,10 @@ fn texts<R: Threads + Wait + Sync>(rt: &R, alloc: Global, graph: &Graph) -> Opti
 #[test]
 fn the_text_of_the_second_of_two(rt: HostRuntime) -> Result<(), Fail> {
     let alloc = rt.alloc();
-    let plan = plan_of_two(alloc)?;
-    let Some(graph) = two(alloc, plan) else {
-        panic!(rt; "no graph")
-    };
+    let graph = two(alloc)?;
     let Some(gathered) = texts(&rt, alloc, &graph) else {
         panic!(rt; "no answer")
     };
-    assert!(rt; gathered.closed().get(1).is_some());
+    assert!(rt; gathered.outcome(NodeId::of(1)).as_bytes() == b"[[]]".as_slice());
     Ok(())
 }

@@ -3,12 +3,13 @@
 ghost use Rattle.std.specs.Prelude.{◌≡◌, ◌<◌, length, IfOk, IfSome};
 ghost use Rattle.std.specs.List.{All};
 
-use crate::analysers::{Mixing, Refusing};
+use crate::analysers::{CYCLE, Mixing, Refusing};
+use edges::Numbered;
+use fakes::ends::{Watch, all_twice, all_watched};
 use fakes::gates::{Both, Counting, Meeting};
-use fakes::graphs::{apart, chain, diamond};
-use fakes::shelves::{Watch, all_twice, all_watched};
+use fakes::graphs::{apart, chain, diamond, small};
 use pool::{
-    Analyse, Gate, Gathered, Graph, LockShelf, NoGate, NodeId, Refused, Shelf, StealShelf, run_on,
+    Analyse, Edges, Gate, Gathered, LockShelf, NoGate, NodeId, Refused, Shelf, StealShelf, run_on,
 };
 use std::alloc::Global;
 use std::sync::Wait;
@@ -30,7 +31,7 @@ pub(crate) const KINDS: [Kind; 3] = [Kind::Lock, Kind::Steal, Kind::StealTwice];
 fn run_at<S, A, G, R>(
     rt: &R,
     alloc: Global,
-    graph: &Graph,
+    graph: &Edges,
     analyse: &A,
     ends: Vec<S>,
     gate: &G,
@@ -40,10 +41,10 @@ where
     A: Analyse<u64>,
     G: Gate,
     R: Threads + Wait + Sync,
-    requires ends { All (λ e. S.nodes e ≡ length graph.now.plan) ends.items }
+    requires ends { All (λ e. S.nodes e ≡ length graph.now.deps) ends.items }
     requires count { (0 < length ends.items) × (length ends.items < 65) }
-    requires nodes { A.nodes analyse.now ≡ length graph.now.plan }
-    ensures { IfSome result (λ a. IfOk a (λ g. length g.known ≡ length graph.now.plan)) }
+    requires nodes { A.nodes analyse.now ≡ length graph.now.deps }
+    ensures { IfSome result (λ a. IfOk a (λ g. g.nodes ≡ length graph.now.deps)) }
 {
     let watch = Watch::of(alloc, graph.nodes()).ok()?;
     let ends = all_watched(alloc, ends, graph.nodes(), &watch).ok()?;
@@ -59,7 +60,7 @@ where
 fn run_by<A, G, R>(
     rt: &R,
     alloc: Global,
-    graph: &Graph,
+    graph: &Edges,
     analyse: &A,
     by: (Kind, usize),
     gate: &G,
@@ -68,8 +69,8 @@ where
     A: Analyse<u64>,
     G: Gate,
     R: Threads + Wait + Sync,
-    requires { A.nodes analyse.now ≡ length graph.now.plan }
-    ensures { IfSome result (λ a. IfOk a (λ g. length g.known ≡ length graph.now.plan)) }
+    requires { A.nodes analyse.now ≡ length graph.now.deps }
+    ensures { IfSome result (λ a. IfOk a (λ g. g.nodes ≡ length graph.now.deps)) }
 {
     let (kind, workers) = by;
     if workers == 0 || workers > 64 {
@@ -97,34 +98,42 @@ where
 pub(crate) fn mix<G: Gate, R: Threads + Wait + Sync>(
     rt: &R,
     alloc: Global,
-    graph: &Graph,
+    graph: &Numbered,
     by: (Kind, usize),
     gate: &G,
 ) -> Option<Gathered<u64>>
-    ensures { IfSome result (λ g. length g.known ≡ length graph.now.plan) }
+    ensures { IfSome result (λ g. g.nodes ≡ length graph.now.edges.deps) }
 {
     let mixing = Mixing {
-        nodes: graph.nodes(),
+        names: graph.origin.as_slice(),
     };
-    match run_by(rt, alloc, graph, &mixing, by, gate)? {
+    if mixing.names.len() != graph.edges.nodes() {
+        return None;
+    }
+    match run_by(rt, alloc, &graph.edges, &mixing, by, gate)? {
         Ok(gathered) => Some(gathered),
         Err(_) => None,
     }
 }
 
-/// Whether the nodes have these outcomes, one for each, and no node was left at the end.
-pub(crate) fn has(graph: &Graph, gathered: Option<Gathered<u64>>, wanted: &[u64]) -> bool
-    requires { IfSome gathered (λ g. length g.known ≡ length graph.now.plan) }
+/// Whether the nodes have these outcomes, one for each, by the numbers that were given to them, and
+/// no node was left at the end.
+pub(crate) fn has(graph: &Numbered, gathered: Option<Gathered<u64>>, wanted: &[u64]) -> bool
+    requires { IfSome gathered (λ g. g.nodes ≡ length graph.now.edges.deps) }
 {
     let Some(gathered) = gathered else {
         return false;
     };
     let closed = gathered.closed();
-    if closed.left() != 0 || closed.halted() || graph.nodes() != wanted.len() {
+    if closed.left() != 0 || closed.halted() || graph.edges.nodes() != wanted.len() {
         return false;
     }
-    for n in 0..wanted.len() {
-        if *gathered.outcome(NodeId::of(n)) != wanted[n] {
+    for (n, name) in graph.origin.iter().enumerate() {
+        if n >= graph.edges.nodes() {
+            return false;
+        }
+        let found = *gathered.outcome(NodeId::of(n));
+        if wanted.get(name.number()).copied() != Some(found) {
             return false;
         }
     }
@@ -135,7 +144,7 @@ pub(crate) fn has(graph: &Graph, gathered: Option<Gathered<u64>>, wanted: &[u64]
 fn found_by_all<R: Threads + Wait + Sync>(
     rt: &R,
     alloc: Global,
-    graph: &Graph,
+    graph: &Numbered,
     wanted: &[u64],
 ) -> bool {
     for kind in KINDS {
@@ -186,11 +195,28 @@ fn the_empty_graph(rt: HostRuntime) -> Result<(), Fail> {
     Ok(())
 }
 
+#[test]
+fn cyclic_nodes_have_their_outcome_without_a_worker(rt: HostRuntime) -> Result<(), Fail> {
+    let alloc = rt.alloc();
+    // 1 and 2 depend on each other, 3 on these and on 0, and 4 on 0.
+    let rows: [&[usize]; 5] = [&[], &[2], &[1], &[0, 1], &[0]];
+    let Some(graph) = small(alloc, &rows)? else {
+        panic!(rt; "no graph")
+    };
+    assert!(rt; found_by_all(&rt, alloc, &graph, &[0, CYCLE, CYCLE, CYCLE, 4]));
+    let rows: [&[usize]; 1] = [&[0]];
+    let Some(graph) = small(alloc, &rows)? else {
+        panic!(rt; "no graph")
+    };
+    assert!(rt; found_by_all(&rt, alloc, &graph, &[CYCLE]));
+    Ok(())
+}
+
 /// Whether the nodes from `low` to `high` were all at work at one time, on each shelf.
 fn meet<R: Threads + Wait + Sync>(
     rt: &R,
     alloc: Global,
-    graph: &Graph,
+    graph: &Numbered,
     workers: usize,
     low: usize,
     high: usize,
@@ -240,21 +266,35 @@ fn each_node_is_entered_and_left_once(rt: HostRuntime) -> Result<(), Fail> {
     Ok(())
 }
 
-/// Whether so many workers for whom there is no memory at one node say so, on each shelf.
-fn are_refused<G: Gate, R: Threads + Wait + Sync>(
+/// A run of so many workers for whom there is no memory at one node.
+fn refuse<G: Gate, R: Threads + Wait + Sync>(
     rt: &R,
     alloc: Global,
-    graph: &Graph,
-    workers: usize,
+    graph: &Numbered,
+    by: (Kind, usize),
     at: usize,
     gate: &G,
+) -> Option<Result<Gathered<u64>, Refused>> {
+    let mixing = Mixing {
+        names: graph.origin.as_slice(),
+    };
+    if mixing.names.len() != graph.edges.nodes() {
+        return None;
+    }
+    let refusing = Refusing { mixing, at };
+    run_by(rt, alloc, &graph.edges, &refusing, by, gate)
+}
+
+/// Whether so many workers for whom there is no memory at one node say so, on each shelf.
+fn are_refused<R: Threads + Wait + Sync>(
+    rt: &R,
+    alloc: Global,
+    graph: &Numbered,
+    workers: usize,
+    at: usize,
 ) -> bool {
     for kind in KINDS {
-        let mixing = Mixing {
-            nodes: graph.nodes(),
-        };
-        let refusing = Refusing { mixing, at };
-        match run_by(rt, alloc, graph, &refusing, (kind, workers), gate) {
+        match refuse(rt, alloc, graph, (kind, workers), at, &NoGate) {
             Some(Err(Refused::NoMemory)) => {}
             _ => return false,
         }
@@ -268,9 +308,9 @@ fn a_worker_without_memory_ends_the_run(rt: HostRuntime) -> Result<(), Fail> {
     let Some(graph) = diamond(alloc)? else {
         panic!(rt; "no graph")
     };
-    assert!(rt; are_refused(&rt, alloc, &graph, 1, 0, &NoGate));
-    assert!(rt; are_refused(&rt, alloc, &graph, 2, 2, &NoGate));
-    assert!(rt; are_refused(&rt, alloc, &graph, 64, 3, &NoGate));
+    assert!(rt; are_refused(&rt, alloc, &graph, 1, 0));
+    assert!(rt; are_refused(&rt, alloc, &graph, 2, 2));
+    assert!(rt; are_refused(&rt, alloc, &graph, 64, 3));
     Ok(())
 }
 
@@ -282,25 +322,25 @@ fn the_halt_reaches_workers_that_were_refused_nothing(rt: HostRuntime) -> Result
     };
     // Each worker is at a node of its own when node 2 is refused; this one stays left, so that only
     // the halt ends the others.
-    let mixing = Mixing {
-        nodes: four.nodes(),
-    };
-    let refusing = Refusing { mixing, at: 2 };
     let gate = Meeting::of(0, 3, 4);
-    let answer = run_by(&rt, alloc, &four, &refusing, (Kind::Steal, 4), &gate);
+    let answer = refuse(&rt, alloc, &four, (Kind::Steal, 4), 2, &gate);
     assert!(rt; matches!(answer, Some(Err(Refused::NoMemory))) && gate.met());
     Ok(())
 }
 
 /// At how many ends numbers are asked for, where 64 ends are handed to a run of the graph.
-fn ends_in_use<R: Threads + Wait + Sync>(rt: &R, alloc: Global, graph: &Graph) -> Option<u64> {
+fn ends_in_use<R: Threads + Wait + Sync>(rt: &R, alloc: Global, graph: &Numbered) -> Option<u64> {
+    let nodes = graph.edges.nodes();
     let mixing = Mixing {
-        nodes: graph.nodes(),
+        names: graph.origin.as_slice(),
     };
-    let watch = Watch::of(alloc, graph.nodes()).ok()?;
-    let ends = LockShelf::ends(rt, alloc, 64, graph.nodes()).ok()?;
-    let ends = all_watched(alloc, ends, graph.nodes(), &watch).ok()?;
-    let answer = run_on(rt, alloc, graph, &mixing, ends, &NoGate);
+    if mixing.names.len() != nodes {
+        return None;
+    }
+    let watch = Watch::of(alloc, nodes).ok()?;
+    let ends = LockShelf::ends(rt, alloc, 64, nodes).ok()?;
+    let ends = all_watched(alloc, ends, nodes, &watch).ok()?;
+    let answer = run_on(rt, alloc, &graph.edges, &mixing, ends, &NoGate);
     if answer.is_ok() {
         Some(watch.ends())
     } else {
@@ -309,9 +349,10 @@ fn ends_in_use<R: Threads + Wait + Sync>(rt: &R, alloc: Global, graph: &Graph) -
 }
 
 #[test]
-fn no_more_workers_start_than_there_are_nodes(rt: HostRuntime) -> Result<(), Fail> {
+fn no_more_workers_start_than_there_are_nodes_to_run(rt: HostRuntime) -> Result<(), Fail> {
     let alloc = rt.alloc();
-    let (Some(none), Some(three)) = (apart(alloc, 0)?, apart(alloc, 3)?) else {
+    let rows: [&[usize]; 6] = [&[], &[], &[], &[4], &[3], &[4]];
+    let (Some(none), Some(three)) = (apart(alloc, 0)?, small(alloc, &rows)?) else {
         panic!(rt; "no graph")
     };
     assert!(rt; ends_in_use(&rt, alloc, &none).is_some_and(|n| n <= 1));

@@ -19,13 +19,14 @@ fn is_nested<R: Threads + Wait + Sync>(
     let Some(graph) = diamond(alloc)? else {
         return Ok(false);
     };
+    let graph = &graph.edges;
     let nesting = Nesting {
         nodes: graph.nodes(),
     };
     if graph.nodes() != 4 {
         return Ok(false);
     }
-    Ok(match run(rt, alloc, &graph, &nesting, workers, &NoGate) {
+    Ok(match run(rt, alloc, graph, &nesting, workers, &NoGate) {
         Ok(gathered) => gathered.outcome(NodeId::of(3)).as_bytes() == b"[[[]][[]]]".as_slice(),
         Err(_) => false,
     })

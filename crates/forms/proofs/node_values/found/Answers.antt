@@ -1,7 +1,6 @@
-use Rattle.std.proofs.Common.{◌≡◌, ◌∙◌, ◌+◌, ◌<◌, ℕ, List, length, ap, sym, subst}
+use Rattle.std.proofs.Common.{◌≡◌, ◌∙◌, ◌+◌, ◌<◌, ℕ, List, [], get_or, length, ap, sym, subst}
 use Rattle.std.proofs.lemmas.List.{length-append}
-use Rattle.std.specs.Prelude.{Some}
-use Rattle.board.specs.Views.{told}
+use Rattle.pool.specs.Gathered.{outcome_in}
 use Rattle.forms.proofs.PlanLemmas.{one_more}
 use Rattle.forms.proofs.node_values.found.Goals as goal
 
@@ -12,8 +11,9 @@ loop-k-preserved c =
     ap length c.in_ok-push.ensures.items ∙ length-append c.loop-k.values.items _ in (
       size ∙ ap (λ n. n + 1) c.loop-k.invariant.0,
       λ us len all.
-          let own : told c.args.gathered.now k ≡ Some c.in_ok-value.value =
-          ap (told c.args.gathered.now) (sym c.of.ensures) ∙ c.outcome.ensures.value ∙ ap (λ (x : List ℕ). Some x) (sym c.in_ok-value.ensures) in
-          one_more (told c.args.gathered.now) us c.loop-k.values.items c.push.new.self.items k c.in_ok-value.value
-          (subst (λ (n : ℕ). k < n) (sym len) c.loop-k-test.true) own (all k c.loop-k-test.true) (c.loop-k.invariant.1 us len all) c.in_ok-push.ensures.items,
+          let own : outcome_in c.args.gathered.now k ≡ c.in_ok-value.value =
+          ap (outcome_in c.args.gathered.now) (sym c.of.ensures) ∙ sym c.outcome.ensures.value ∙ sym c.in_ok-value.ensures in
+          let same : c.in_ok-value.value ≡ get_or us k [] = sym own ∙ all k c.loop-k-test.true in
+          one_more us c.loop-k.values.items c.push.new.self.items k c.in_ok-value.value
+          (subst (λ (n : ℕ). k < n) (sym len) c.loop-k-test.true) same (c.loop-k.invariant.1 us len all) c.in_ok-push.ensures.items,
     )

@@ -1,20 +1,13 @@
-use Rattle.std.proofs.Common.{List, map, subst, sym}
+use Rattle.std.proofs.Common.{List, length, map, subst, sym}
 use Rattle.text_forms.specs.Targets.{Target}
-use Rattle.pool.specs.Graph.{AllDistinct, AllInside, IsAcyclic}
-use Rattle.forms.proofs.PlanLemmas.{plan_acyclic, plan_distinct, plan_inside}
+use Rattle.edges.specs.Rows.{IsGraph, IsOrdered}
+use Rattle.forms.proofs.PlanLemmas.{plan_graph, plan_order}
 use Rattle.forms.proofs.plan.graph_of.Goals as goal
 
-pub of-requires-clause-distinct : goal.of-requires-clause-distinct
-of-requires-clause-distinct c =
+pub in_order-requires : goal.in_order-requires
+in_order-requires c =
     let ts : List Target = map (λ t. t.now) c.args.nodes.now in
-    subst AllDistinct (sym c.in-Ok.ensures) (plan_distinct ts c.requires.closed c.requires.once)
-
-pub of-requires-clause-inside : goal.of-requires-clause-inside
-of-requires-clause-inside c =
-    let ts : List Target = map (λ t. t.now) c.args.nodes.now in
-    subst AllInside (sym c.in-Ok.ensures) (plan_inside ts c.requires.closed)
-
-pub of-requires-clause-acyclic : goal.of-requires-clause-acyclic
-of-requires-clause-acyclic c =
-    let ts : List Target = map (λ t. t.now) c.args.nodes.now in
-    subst IsAcyclic (sym c.in-Ok.ensures) (plan_acyclic ts c.requires.closed)
+    record {
+      graph = subst IsGraph (sym c.in_ok-plan.ensures) (plan_graph ts c.requires.closed c.requires.once);
+      order = subst (λ p. IsOrdered p (length p)) (sym c.in_ok-plan.ensures) (plan_order ts c.requires.closed);
+    }

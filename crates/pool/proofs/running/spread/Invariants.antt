@@ -2,9 +2,9 @@ use Rattle.std.proofs.Common.{◌≡◌, ◌<◌, length, vec_len}
 use Rattle.std.specs.List.{All}
 use Rattle.pool.proofs.running.spread.Given as goal
 
-abbrev pub invariant-loop-n : goal.invariant-loop-n
-invariant-loop-n g l = record {
+abbrev pub invariant-loop-node : goal.invariant-loop-node
+invariant-loop-node g l = record {
   size : vec_len l.ends ≡ vec_len l.fn.ends;
   next : l.next < vec_len l.ends;
-  shelves : All (λ e. g.S.Shelf.nodes e ≡ length l.graph.plan) l.ends.items;
+  shelves : All (λ e. g.S.Shelf.nodes e ≡ length l.graph.deps) l.ends.items;
 }

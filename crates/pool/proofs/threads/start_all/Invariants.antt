@@ -13,7 +13,7 @@ invariant-loop-pass g l =
       whole : vec_len l.handles + into_iter_len rest ≡ vec_len l.fn.passes;
       ends : vec_len l.ends ≡ into_iter_len rest;
       room : vec_len l.fn.passes ≤ vec_capacity l.handles;
-      shelves : All (λ e. g.S.Shelf.nodes e ≡ length l.site.board.now.plan) l.ends.items;
+      shelves : All (λ e. g.S.Shelf.nodes e ≡ length l.site.graph.now.deps) l.ends.items;
       passes : All (IsNew l.site.board.now) (into_iter_items rest);
       own : l.own ≡ l.fn.own;
       promises : All (λ h. (h.promise.board.now ≡ l.site.board.now) × (h.promise.analyse.now ≡ l.site.analyse.now)) l.handles.items;

@@ -12,6 +12,6 @@ invariant-loop-user g l = record {
   memory : l.pass.memory ≡ l.initial.pass.memory;
   finished : l.pass.journal.finished ≡ l.initial.pass.journal.finished;
   set : l.pass.journal.set ≡ l.initial.pass.journal.set;
-  sent : (k : ℕ) → k < l.user-index → 0 < edge_times l.n (get_or l.users k 0) l.pass.journal.delivered;
+  sent : (k : ℕ) → k < l.user-index → get_or l.users k 0 < l.acyclic → 0 < edge_times l.n (get_or l.users k 0) l.pass.journal.delivered;
   unsent : (k : ℕ) → l.user-index ≤ k → k < length l.users → edge_times l.n (get_or l.users k 0) l.pass.journal.delivered ≡ 0;
 }

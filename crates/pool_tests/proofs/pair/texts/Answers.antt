@@ -1,12 +1,12 @@
-use Rattle.std.proofs.Common.{◌<◌, ℕ, List, length, sym, subst, arith}
+use Rattle.std.proofs.Common.{◌≡◌, ◌∙◌, ◌<◌, ◌∷◌, ℕ, List, [], sym, subst, arith}
+use Rattle.edges.proofs.Ordered.{stepped_is}
+use Rattle.pool.specs.Gathered.{HasOutcomes}
 use Rattle.pool_tests.specs.Examples.{bracketed}
-use Rattle.pool.specs.Outcomes.{AreOutcomes}
-use Rattle.pool_tests.proofs.TwoNodes.{pair_text, pair_outcomes}
+use Rattle.pool_tests.proofs.TwoNodes.{pair, pair_order, pair_text, pair_stepped}
 use Rattle.pool_tests.proofs.pair.texts.Goals as goal
 
-pub returns-in-Ok : goal.returns-in-Ok
-returns-in-Ok g c =
-    let plan : List (List ℕ) = c.args.graph.now.plan in
-    let are : AreOutcomes (λ n us. bracketed us) (λ n us. Unit {0}) plan pair_text = subst (λ (p : List (List ℕ)). AreOutcomes (λ n us. bracketed us) (λ n us. Unit {0}) p pair_text) (sym c.requires) pair_outcomes in
-    let node : 1 < length plan = subst (λ (p : List (List ℕ)). 1 < length p) (sym c.requires) (omega arith) in
-    c.in-Ok.ensures.outcomes pair_text are 1 node
+pub returns-in-Ok-clause-text : goal.returns-in-Ok-clause-text
+returns-in-Ok-clause-text g c =
+    let step : ℕ → List (List ℕ) → List ℕ = λ n us. bracketed us in
+    let found = subst (λ (p : List (List ℕ)). HasOutcomes [] step (λ n us. Unit {0}) p c.in-Ok.gathered) c.requires c.in-Ok.ensures.outcomes in
+    found (λ t apart. tt) 1 (omega arith) ∙ sym (stepped_is pair (λ n. []) step 2 pair_order.after pair_text pair_stepped 1 (omega arith))

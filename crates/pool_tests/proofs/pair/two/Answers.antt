@@ -1,13 +1,9 @@
-use Rattle.std.proofs.Common.{sym, subst}
-use Rattle.pool.specs.Graph.{AllDistinct, AllInside, IsAcyclic}
-use Rattle.pool_tests.proofs.TwoNodes.{pair_distinct, pair_inside, pair_acyclic}
+use Rattle.std.proofs.Common.{◌≡◌, ◌∷◌, [], List, ℕ, length, rules, subst, sym}
+use Rattle.edges.specs.Rows.{IsGraph, IsOrdered}
+use Rattle.pool_tests.proofs.TwoNodes.{pair, pair_graph, pair_order}
 use Rattle.pool_tests.proofs.pair.two.Goals as goal
 
-pub of-requires-clause-distinct : goal.of-requires-clause-distinct
-of-requires-clause-distinct c = subst AllDistinct (sym c.requires) pair_distinct
-
-pub of-requires-clause-inside : goal.of-requires-clause-inside
-of-requires-clause-inside c = subst AllInside (sym c.requires) pair_inside
-
-pub of-requires-clause-acyclic : goal.of-requires-clause-acyclic
-of-requires-clause-acyclic c = subst IsAcyclic (sym c.requires) pair_acyclic
+pub in_order-requires : goal.in_order-requires
+in_order-requires c =
+    let e : c.push-2.new.self ≡ pair = search rules in
+    record { graph = subst IsGraph (sym e) pair_graph; order = subst (λ (p : List (List ℕ)). IsOrdered p (length p)) (sym e) pair_order }

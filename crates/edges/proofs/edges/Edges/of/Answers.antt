@@ -21,19 +21,14 @@ renewed given deps order lent lent' places lent'' acyclic is_graph is from from'
       same = subst (IsRenumbered given order) (sym e) (new_numbers given is_graph order acyclic is places placed');
     }
 
-pub users_of-requires : goal.users_of-requires
-users_of-requires c = record {
-  graph =
-      (renewed c.args.given c.in_ok-deps.deps c.in_ok-origin.origin.items c.deref.result.now c.deref-2.result.now c.in_ok-places.places.items c.deref-3.result.now c.in_ok-origin.acyclic c.requires.graph c.in_ok-origin.ensures c.deref.ensures.value c.deref-2.ensures.value c.deref-3.ensures.value c.in_ok-places.ensures.places c.in_ok-deps.ensures).graph;
-}
-
-pub invariant_of-edges : goal.invariant_of-edges
-invariant_of-edges c =
+pub with_users-requires : goal.with_users-requires
+with_users-requires c =
     let r = renewed c.args.given c.in_ok-deps.deps c.in_ok-origin.origin.items c.deref.result.now c.deref-2.result.now c.in_ok-places.places.items c.deref-3.result.now c.in_ok-origin.acyclic c.requires.graph c.in_ok-origin.ensures c.deref.ensures.value c.deref-2.ensures.value c.deref-3.ensures.value c.in_ok-places.ensures.places c.in_ok-deps.ensures in
-    record { graph = r.graph; users_are = c.in_ok-users.ensures; ready_are = c.in_ok-ready.ensures; order = r.order_is }
+    record { graph = r.graph; order = r.order_is }
 
 pub returns : goal.returns
 returns c = record {
   same =
+      subst (IsRenumbered c.args.given c.in_ok-origin.origin.items) (sym c.in_ok-edges.ensures.deps)
       (renewed c.args.given c.in_ok-deps.deps c.in_ok-origin.origin.items c.deref.result.now c.deref-2.result.now c.in_ok-places.places.items c.deref-3.result.now c.in_ok-origin.acyclic c.requires.graph c.in_ok-origin.ensures c.deref.ensures.value c.deref-2.ensures.value c.deref-3.ensures.value c.in_ok-places.ensures.places c.in_ok-deps.ensures).same;
 }

@@ -1,6 +1,0 @@
-use Rattle.std.proofs.Common.{arith}
-use Rattle.pool.proofs.Ascending.{ascending_once}
-use Rattle.fakes.proofs.graphs.is_ascending.Goals as goal
-
-pub returns : goal.returns
-returns c = ascending_once c.args.list.now (λ k lt. c.loop-i.invariant k (let end = c.loop-i-test.false in omega arith))

@@ -1,0 +1,269 @@
+//! A shelf of deques, one a worker.
+ghost use Rattle.std.specs.Prelude.{◌≡◌, ℕ, ◌<◌, length, IfOk, IfSome, slice_index_or};
+ghost use Rattle.std.specs.List.{All};
+ghost use Rattle.crossbeam_deque.specs.Handles.{view, IsPassOf, stealer_deque, worker_view};
+ghost use Rattle.shelves.specs.Numbers.{told};
+
+use crate::known::Known;
+use crate::shelf::Shelf;
+use board::NoMemory;
+use crossbeam_deque::protocol::{Outcome, Protocol, Split};
+use crossbeam_deque::{Pass, Steal, Stealer, Worker};
+use edges::NodeId;
+use std::alloc::{AllocError, Global};
+use std::marker::{Brand, Model};
+
+/// How many numbers a new deque has room for. It grows as it fills.
+const FIRST_ROOM: usize = 64;
+
+/// How often a worker tries at one deque while others take from it at the same moment.
+const TRIES: usize = 16;
+
+/// The rule of the deques: whoever uses one knows one number of nodes, and what lies in it is below
+/// that.
+pub struct Numbers;
+
+impl Protocol<usize, Known> for Numbers {
+    ghost use Rattle.shelves.specs.Numbers.{unset, IsBelow};
+
+    ghost holds = { IsBelow };
+
+    ghost first = { unset };
+
+    ghost guest = { unset };
+}
+
+/// A step that leaves what is known. What it puts or takes is below the number of nodes.
+pub struct Moves;
+
+impl Outcome<usize, Known> for Moves {
+    ghost use Rattle.shelves.specs.Numbers.{Moved};
+
+    ghost then = { Moved };
+}
+
+/// A number of nodes, which each call picks.
+pub trait Count {
+    ghost count: { ℕ };
+}
+
+impl Count for Brand {
+    ghost count = { 0 };
+}
+
+/// The first pass of a deque learns the number of nodes, with one more pass.
+pub struct Tells<N>(N);
+
+impl<N: Count> Split<Known> for Tells<N> {
+    ghost use Rattle.shelves.specs.Numbers.{told};
+
+    ghost left = { λ v. told N.count };
+
+    ghost right = { λ v. told N.count };
+}
+
+/// One more pass that knows the same.
+pub struct Same;
+
+impl Split<Known> for Same {
+    ghost left = { λ v. v };
+
+    ghost right = { λ v. v };
+}
+
+type Own = Worker<usize, Global, Known, Numbers>;
+
+type Thief = Stealer<usize, Global, Known, Numbers>;
+
+/// The deque of another worker.
+#[derive(Drop)]
+pub struct Other {
+    thief: Thief,
+    pass: Pass<usize, Known>,
+    nodes: usize,
+    ghost own: { IsPassOf (stealer_deque thief) pass },
+    ghost knows: { view pass ≡ told nodes },
+}
+
+impl Other {
+    /// The first number of the deque; `None` where it was empty, or others were quicker every time.
+    fn steal(&mut self) -> Option<usize>
+        ensures same { self.new.nodes ≡ self.old.nodes }
+        ensures below { IfSome result (λ n. n < self.old.nodes) }
+    {
+        for _ in 0..TRIES {
+            match self.thief.steal_as::<Moves>(&mut self.pass) {
+                Steal::Success(n) => return Some(n),
+                Steal::Empty => return None,
+                Steal::Retry => {}
+            }
+        }
+        None
+    }
+}
+
+/// A worker's end of the shelf: a deque of its own, and the means to steal from those of the other
+/// workers. Seen as its number of nodes. No call of it waits.
+#[derive(Drop)]
+pub struct StealShelf {
+    own: Own,
+    others: Vec<Other>,
+    nodes: usize,
+    ghost knows: { worker_view own ≡ told nodes },
+}
+
+impl Model for StealShelf {
+    ghost use Rattle.std.specs.Prelude.{ℕ};
+
+    ghost Value = { ℕ };
+
+    ghost view = { λ s. s.nodes };
+}
+
+impl Shelf for StealShelf {
+    ghost nodes = { λ s. s };
+
+    fn put(&mut self, n: NodeId) -> Result<(), NoMemory> {
+        match self.own.push_as::<Moves>(n.number()) {
+            Ok(()) => Ok(()),
+            Err(_) => Err(NoMemory),
+        }
+    }
+
+    /// From its own deque, or else from the first of the others that has a number.
+    fn take(&mut self) -> Option<NodeId> {
+        if let Some(n) = self.own.pop_as::<Moves>() {
+            return Some(NodeId::of(n));
+        }
+        for other in self.others.iter_mut() {
+            // What another end knows of its number of nodes isn't known here, so it is tested.
+            if let Some(n) = other.steal()
+                && n < self.nodes
+            {
+                return Some(NodeId::of(n));
+            }
+        }
+        None
+    }
+}
+
+/// A deque whose first pass was told the number of nodes.
+fn open<N: Count>(alloc: Global, nodes: usize) -> Result<Own, AllocError>
+    requires { nodes ≡ N.count }
+    ensures { IfOk result (λ w. worker_view w ≡ told nodes) }
+{
+    let mut own = Own::fifo_as(alloc, FIRST_ROOM)?;
+    let _second = own.another::<Tells<N>>();
+    Ok(own)
+}
+
+/// The same, for any number.
+fn opened(alloc: Global, nodes: usize) -> Result<Own, AllocError>
+    ensures { IfOk result (λ w. worker_view w ≡ told nodes) }
+{
+    open::<Brand>(alloc, nodes)
+}
+
+/// What another worker steals from this deque with.
+fn other_end(own: &mut Own, nodes: usize) -> Result<Other, AllocError>
+    requires { worker_view own.old ≡ told nodes }
+    ensures own { worker_view own.new ≡ worker_view own.old }
+    ensures nodes { IfOk result (λ o. o.nodes ≡ nodes) }
+{
+    let thief = own.stealer()?;
+    let pass = own.another::<Same>();
+    Ok(Other { thief, pass, nodes })
+}
+
+/// What the worker `me` steals from the other workers with, by number after its own.
+fn others_of(
+    alloc: Global,
+    owns: &mut [Own],
+    me: usize,
+    nodes: usize,
+) -> Result<Vec<Other>, AllocError>
+    requires me { me < length owns.old }
+    requires few { length owns.old < 65 }
+    requires told { (k : ℕ) (w : _) → k < length owns.old →
+        worker_view (slice_index_or owns.old k w) ≡ told nodes }
+    ensures { (k : ℕ) (w : _) → k < length owns.old →
+        worker_view (slice_index_or owns.new k w) ≡ told nodes }
+{
+    let mut others = Vec::new(alloc);
+    let count = owns.len();
+    let mut at = me;
+    for _ in 1..count {
+        at = if at + 1 < count { at + 1 } else { 0 };
+        others.push(other_end(&mut owns[at], nodes)?)?;
+    }
+    Ok(others)
+}
+
+fn made(own: Own, others: Vec<Other>, nodes: usize) -> StealShelf
+    requires { worker_view own ≡ told nodes }
+    ensures { result ≡ nodes }
+{
+    StealShelf { own, others, nodes }
+}
+
+impl StealShelf {
+    /// An end for each of up to 64 workers, for a graph with so many nodes.
+    ///
+    /// `NoMemory` comes where the allocator refuses memory, and then nothing is kept.
+    pub fn ends(alloc: Global, workers: usize, nodes: usize) -> Result<Vec<StealShelf>, NoMemory>
+        requires workers { workers < 65 }
+        ensures count { IfOk result (λ v. length v.items ≡ workers) }
+        ensures nodes { IfOk result (λ v. All (λ e. e ≡ nodes) v.items) }
+    {
+        match StealShelf::ends_of(alloc, workers, nodes) {
+            Ok(ends) => Ok(ends),
+            Err(_) => Err(NoMemory),
+        }
+    }
+
+    fn ends_of(alloc: Global, workers: usize, nodes: usize) -> Result<Vec<StealShelf>, AllocError>
+        requires { workers < 65 }
+        ensures { IfOk result (λ v. (length v.items ≡ workers) × All (λ e. e ≡ nodes) v.items) }
+    {
+        let mut owns = deques(alloc, workers, nodes)?;
+        let mut links = links(alloc, owns.as_mut_slice(), nodes)?;
+        let mut ends = Vec::new(alloc);
+        for own in owns {
+            let Some(others) = links.pop() else {
+                unreachable!()
+            };
+            ends.push(made(own, others, nodes))?;
+        }
+        Ok(ends)
+    }
+}
+
+/// So many deques, which were told the number of nodes.
+fn deques(alloc: Global, workers: usize, nodes: usize) -> Result<Vec<Own>, AllocError>
+    ensures count { IfOk result (λ v. length v.items ≡ workers) }
+    ensures told { IfOk result (λ v. (k : ℕ) (w : _) → k < workers →
+        worker_view (slice_index_or v.items k w) ≡ told nodes) }
+{
+    let mut owns = Vec::new(alloc);
+    for _ in 0..workers {
+        owns.push(opened(alloc, nodes)?)?;
+    }
+    Ok(owns)
+}
+
+/// What each worker steals with, the last worker's first.
+fn links(alloc: Global, owns: &mut [Own], nodes: usize) -> Result<Vec<Vec<Other>>, AllocError>
+    requires few { length owns.old < 65 }
+    requires told { (k : ℕ) (w : _) → k < length owns.old →
+        worker_view (slice_index_or owns.old k w) ≡ told nodes }
+    ensures count { IfOk result (λ v. length v.items ≡ length owns.old) }
+    ensures told { (k : ℕ) (w : _) → k < length owns.old →
+        worker_view (slice_index_or owns.new k w) ≡ told nodes }
+{
+    let mut links = Vec::new(alloc);
+    let count = owns.len();
+    for i in 0..count {
+        links.push(others_of(alloc, owns, count - 1 - i, nodes)?)?;
+    }
+    Ok(links)
+}
