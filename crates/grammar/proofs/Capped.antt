@@ -4,7 +4,8 @@ use Rattle.std.proofs.lemmas.Bool.Decides.{leb_tells}
 use Rattle.lexer.specs.Tokens.{Token}
 use Rattle.grammar.specs.Reading.{Parse, then_read}
 use Rattle.grammar.specs.FormReading.{then_found}
-use Rattle.grammar.specs.Descent.{given}
+use Rattle.grammar.specs.Ahead.{given}
+use Rattle.grammar.specs.Descent.{}
 
 -- the second reading is the first, seen otherwise, but gives nothing where the first is too deep
 abbrev pub Capped : {A B : Type 0} → (A → ℕ) → (A → B) → ℕ → Option (A × List Token) → Option (B × List Token) → Type 0

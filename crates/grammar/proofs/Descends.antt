@@ -14,9 +14,9 @@ use Rattle.grammar.specs.Reading as R
 use Rattle.grammar.specs.Reading.{Parse, then_read}
 use Rattle.grammar.specs.FormReading.{then_found}
 use Rattle.grammar.specs.Descent as D
-use Rattle.grammar.specs.Descent.{Part, given}
+use Rattle.grammar.specs.Ahead.{given, of_level}
+use Rattle.grammar.specs.Descent.{Part}
 use Rattle.grammar.proofs.Capped.{Capped, Deep, deep_then, bind, made, stays}
-use Rattle.grammar.proofs.FrontSame.{taken}
 
 -- what is a name or an index as it is written
 abbrev pub target : Expr → Bool
@@ -92,7 +92,7 @@ join_same up up' s more more' h k o u false r a ts le = stays depth part_of r a 
 
 pub chain_step_same : (l : ℕ) (up : Parse Expr) (up' : ℕ → Parse Part) → Same up up' → (more : Expr → Parse Expr) (more' : ℕ → Part → Parse Part) → GoesOn more more' → Deepens more
     → (n : Next) (r : ℕ) (a : Expr) (ts : List Token) → depth a ≤ r
-    → Capped depth part_of r (R.chain_step l up more a ts n) (D.join_step up' (more' r) r (part_of a) (taken l n) ts)
+    → Capped depth part_of r (R.chain_step l up more a ts n) (D.join_step up' (more' r) r (part_of a) (of_level l n) ts)
 chain_step_same l up up' s more more' h k (operator o u) r a ts le = join_same up up' s more more' h k o u (operator_level o == l) r a ts le
 chain_step_same l up up' s more more' h k (dot_next u) r a ts le = stays depth part_of r a ts le
 chain_step_same l up up' s more more' h k (index_next u) r a ts le = stays depth part_of r a ts le
@@ -101,14 +101,10 @@ chain_step_same l up up' s more more' h k (if_next u) r a ts le = stays depth pa
 chain_step_same l up up' s more more' h k (assign_next u) r a ts le = stays depth part_of r a ts le
 chain_step_same l up up' s more more' h k nothing r a ts le = stays depth part_of r a ts le
 
-pub chain_same : (l : ℕ) (at : List Token → Option (Operator × List Token)) → ((ts : List Token) → at ts ≡ taken l (next ts)) → (up : Parse Expr) (up' : ℕ → Parse Part) → Same up up'
-    → (k : ℕ) → GoesOn (R.chain l up k) (λ r. D.chain at up' r k)
+pub chain_same : (l : ℕ) (up : Parse Expr) (up' : ℕ → Parse Part) → Same up up' → (k : ℕ) → GoesOn (R.chain l up k) (λ r. D.chain l up' r k)
 unfolding R.chain D.chain
-chain_same l at e up up' s zero r a ts le = stays depth part_of r a ts le
-chain_same l at e up up' s (suc k) r a ts le =
-    subst (λ x. Capped depth part_of r (R.chain_step l up (R.chain l up k) a ts (next ts)) (D.join_step up' (D.chain at up' r k) r (part_of a) x ts)) (sym (e ts))
-    (chain_step_same l up up' s (R.chain l up k) (λ r. D.chain at up' r k) (chain_same l at e up up' s k) (chain_deepens l up k) (next ts) r a ts le)
+chain_same l up up' s zero r a ts le = stays depth part_of r a ts le
+chain_same l up up' s (suc k) r a ts le = chain_step_same l up up' s (R.chain l up k) (λ r. D.chain l up' r k) (chain_same l up up' s k) (chain_deepens l up k) (next ts) r a ts le
 
-pub chained_same : (l : ℕ) (at : List Token → Option (Operator × List Token)) → ((ts : List Token) → at ts ≡ taken l (next ts)) → (up : Parse Expr) (up' : ℕ → Parse Part) → Same up up'
-    → (k : ℕ) (r : ℕ) (ts : List Token) → Capped depth part_of r (R.chained l up k ts) (then_read (up' r ts) (D.chain at up' r k))
-chained_same l at e up up' s k r ts = then_same up up' (R.chain l up k) (λ r. D.chain at up' r k) s (chain_same l at e up up' s k) (chain_deepens l up k) r ts
+pub chained_same : (l : ℕ) (up : Parse Expr) (up' : ℕ → Parse Part) → Same up up' → (k : ℕ) (r : ℕ) (ts : List Token) → Capped depth part_of r (R.chained l up k ts) (then_read (up' r ts) (D.chain l up' r k))
+chained_same l up up' s k r ts = then_same up up' (R.chain l up k) (λ r. D.chain l up' r k) s (chain_same l up up' s k) (chain_deepens l up k) r ts

@@ -19,11 +19,11 @@ use Rattle.grammar.specs.Reading as R
 use Rattle.grammar.specs.Reading.{Parse, then_read}
 use Rattle.grammar.specs.FormReading.{then_found}
 use Rattle.grammar.specs.Descent as D
-use Rattle.grammar.specs.Descent.{Part, given}
-use Rattle.grammar.specs.Ahead.{with_rest, or_at, and_at, comparison_at, sum_at, product_at, behind_if, number_at, string_at, bracket_at}
+use Rattle.grammar.specs.Descent.{Part}
+use Rattle.grammar.specs.Ahead.{given, with_rest, behind_if, number_at, string_at, bracket_at}
 use Rattle.grammar.proofs.Capped.{Capped, Deep, deep_then, bind, passes, made, stays}
-use Rattle.grammar.proofs.FrontSame.{if_of, suffix_of, not_of, minus_of, or_same, and_same, comparison_same, sum_same, product_same, if_same, suffix_same, not_same, minus_same}
-use Rattle.grammar.proofs.Descends.{part_of, row_of, left_over, right_over, Same, GoesOn, Deepens, then_same, chain_step_same, chain_deepens, chained_same}
+use Rattle.grammar.proofs.FrontSame.{if_of, suffix_of, not_of, minus_of, if_same, suffix_same, not_same, minus_same}
+use Rattle.grammar.proofs.Descends.{part_of, row_of, left_over, right_over, Same, GoesOn, Deepens, then_same, chained_same}
 use Rattle.grammar.proofs.Gathers.{onto, read_twice, after_same, add_item, add_pair, add_argument, add_clauses, entry_of, pair_of, pair_depth, items_same, pairs_same, pair_r, entry_is, pair_same, arguments_same, clauses_same}
 use Rattle.grammar.proofs.Onto.{items_are, items_are_deep, pairs_are, pairs_are_deep, positional_are, keywords_are, arguments_depth, order_is, clauses_are, conditions_depth}
 
@@ -400,25 +400,15 @@ module _ (inside : R.Row → Parse Expr) (inside' : Row → ℕ → Parse Part) 
 
   e7_same : Same (R.e7 inside most) (D.e7 inside' most)
   unfolding R.e7 D.e7
-  e7_same r ts = chained_same 7 product_at product_same (R.e8 inside most) (D.e8 inside' most) e8_same most r ts
+  e7_same r ts = chained_same 7 (R.e8 inside most) (D.e8 inside' most) e8_same most r ts
 
   e6_same : Same (R.e6 inside most) (D.e6 inside' most)
   unfolding R.e6 D.e6
-  e6_same r ts = chained_same 6 sum_at sum_same (R.e7 inside most) (D.e7 inside' most) e7_same most r ts
-
-  none_same : GoesOn (R.chain 5 (R.e6 inside most) zero) (λ r b v. Some (b, v))
-  unfolding R.chain
-  none_same r a ts le = stays depth part_of r a ts le
-
-  once_same : GoesOn (R.chain 5 (R.e6 inside most) 1) (λ r a u. D.join_step (D.e6 inside' most) (λ b v. Some (b, v)) r a (comparison_at u) u)
-  unfolding R.chain
-  once_same r a ts le =
-      subst (λ x. Capped depth part_of r (R.chain_step 5 (R.e6 inside most) (R.chain 5 (R.e6 inside most) zero) a ts (next ts)) (D.join_step (D.e6 inside' most) (λ b v. Some (b, v)) r (part_of a) x ts)) (sym (comparison_same ts))
-      (chain_step_same 5 (R.e6 inside most) (D.e6 inside' most) e6_same (R.chain 5 (R.e6 inside most) zero) (λ r b v. Some (b, v)) none_same (chain_deepens 5 (R.e6 inside most) zero) (next ts) r a ts le)
+  e6_same r ts = chained_same 6 (R.e7 inside most) (D.e7 inside' most) e7_same most r ts
 
   e5_same : Same (R.e5 inside most) (D.e5 inside' most)
   unfolding R.e5 D.e5
-  e5_same r ts = then_same (R.e6 inside most) (D.e6 inside' most) (R.chain 5 (R.e6 inside most) 1) (λ r a u. D.join_step (D.e6 inside' most) (λ b v. Some (b, v)) r a (comparison_at u) u) e6_same once_same (chain_deepens 5 (R.e6 inside most) 1) r ts
+  e5_same r ts = chained_same 5 (R.e6 inside most) (D.e6 inside' most) e6_same 1 r ts
 
   e4_same : Same (R.e4 inside most) (D.e4 inside' most)
   unfolding R.e4 D.e4
@@ -426,11 +416,11 @@ module _ (inside : R.Row → Parse Expr) (inside' : Row → ℕ → Parse Part) 
 
   e3_same : Same (R.e3 inside most) (D.e3 inside' most)
   unfolding R.e3 D.e3
-  e3_same r ts = chained_same 3 and_at and_same (R.e4 inside most) (D.e4 inside' most) e4_same most r ts
+  e3_same r ts = chained_same 3 (R.e4 inside most) (D.e4 inside' most) e4_same most r ts
 
   e2_same : Same (R.e2 inside most) (D.e2 inside' most)
   unfolding R.e2 D.e2
-  e2_same r ts = chained_same 2 or_at or_same (R.e3 inside most) (D.e3 inside' most) e3_same most r ts
+  e2_same r ts = chained_same 2 (R.e3 inside most) (D.e3 inside' most) e3_same most r ts
 
   else_same : (r : ℕ) (a c : Expr) (o : Option (List Token)) → Capped depth part_of r (R.else_step inside most a c o) (D.else_step inside' most r (part_of a) (part_of c) o)
   else_same r a c None = refl

@@ -17,7 +17,8 @@ use Rattle.grammar.specs.Reading.{if_last}
 use Rattle.grammar.specs.FormReading as F
 use Rattle.grammar.specs.FormReading.{then_found, Then, ended, assigned, increased, listing, other, then_at}
 use Rattle.grammar.specs.Descent as D
-use Rattle.grammar.specs.Descent.{given, if_all}
+use Rattle.grammar.specs.Ahead.{given}
+use Rattle.grammar.specs.Descent.{if_all}
 use Rattle.grammar.specs.TreeView as V
 use Rattle.grammar.specs.FormDescent as FD
 use Rattle.grammar.proofs.Capped.{Capped, either_way}

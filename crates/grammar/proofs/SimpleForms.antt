@@ -18,7 +18,7 @@ use Rattle.grammar.specs.FormReading as F
 use Rattle.grammar.specs.FormReading.{then_found, Then, ended, assigned, increased, listing, other, then_at, names_to, lead}
 use Rattle.grammar.specs.Descent as D
 use Rattle.grammar.specs.Descent.{if_all}
-use Rattle.grammar.specs.Ahead.{is_done}
+use Rattle.grammar.specs.Ahead.{given, is_done}
 use Rattle.grammar.specs.FormDescent as FD
 use Rattle.grammar.specs.FormDescent.{opening_at, behind_assign, behind_add}
 use Rattle.grammar.proofs.CappedForms.{CappedO, DeepO, deep_found, is_so, found, found_whole}
@@ -148,15 +148,15 @@ module _ (n : ℕ) where
       found depth part_of 200 simple_depth bare_simple 200 (R.read n R.whole ts) (D.read n Whole 200 ts) (λ r. F.target_step (R.read n) n r.0 r.1 (then_at r.1)) (λ p. FD.target_step n p.0 p.1 (is_done p.1)) (read_same n Whole 200 ts)
       (λ a u le. target_same a le u) (λ a u lt. target_step_deep a lt u (then_at u))
 
-  pass_same : (u : List Token) → CappedO simple_depth bare_simple 200 (F.simple_word (R.read n) n Pass u) (D.given (is_done u) passes)
+  pass_same : (u : List Token) → CappedO simple_depth bare_simple 200 (F.simple_word (R.read n) n Pass u) (given (is_done u) passes)
   pass_same [] = is_so simple_depth bare_simple 200 W.passes (Prim.omega arith)
   pass_same (t ∷ u) = refl
 
-  break_same : (u : List Token) → CappedO simple_depth bare_simple 200 (F.simple_word (R.read n) n Break u) (D.given (is_done u) breaks)
+  break_same : (u : List Token) → CappedO simple_depth bare_simple 200 (F.simple_word (R.read n) n Break u) (given (is_done u) breaks)
   break_same [] = is_so simple_depth bare_simple 200 W.breaks (Prim.omega arith)
   break_same (t ∷ u) = refl
 
-  continue_same : (u : List Token) → CappedO simple_depth bare_simple 200 (F.simple_word (R.read n) n Continue u) (D.given (is_done u) continues)
+  continue_same : (u : List Token) → CappedO simple_depth bare_simple 200 (F.simple_word (R.read n) n Continue u) (given (is_done u) continues)
   continue_same [] = is_so simple_depth bare_simple 200 W.continues (Prim.omega arith)
   continue_same (t ∷ u) = refl
 

@@ -1,8 +1,8 @@
 -- What is left of a logical line, and what is taken from its front.
-use Rattle.std.specs.Prelude.{◌≡◌, ℕ, Bool, true, false, List, [], ◌∷◌, map, Option, Some, None, Result, Ok, Err}
+use Rattle.std.specs.Prelude.{◌≡◌, ◌≤◌, ◌==◌, ℕ, Bool, true, false, List, [], ◌∷◌, map, Option, Some, None, Result, Ok, Err}
 use Rattle.lexer.specs.declared.token.Token as found
-use Rattle.lexer.specs.declared.token.Word.TheVariants.{And, If, In, Not, Or}
-use Rattle.lexer.specs.declared.token.Mark.TheVariants.{OpenParen, OpenBracket, Dot, Assign, Equal, NotEqual, Less, Greater, LessEqual, GreaterEqual, Plus, Minus, Star, FloorDivide, Percent}
+use Rattle.lexer.specs.declared.token.Word.TheVariants.{If, Not}
+use Rattle.lexer.specs.declared.token.Mark.TheVariants.{OpenParen, OpenBracket, Dot, Assign, Minus}
 use Rattle.lexer.specs.declared.layout.Bracket.{Bracket}
 use Rattle.grammar.specs.declared.ahead.Suffix.{Suffix}
 use Rattle.grammar.specs.declared.ahead.Suffix.TheVariants as suffix
@@ -11,10 +11,11 @@ use Rattle.grammar.specs.declared.ahead.Stop.TheVariants as stop
 use Rattle.lexer.specs.Layout.{opening}
 use Rattle.lexer.specs.Tokens.{Token, name, number, string, word, mark}
 use Rattle.lexer.specs.Seen.{token_seen}
-use Rattle.grammar.specs.Tree.{Operator, either, both, equal, not_equal, less, greater, less_equal, greater_equal, within, not_within, add, subtract, multiply, divide, remainder}
+use Rattle.grammar.specs.Tree.{Operator}
+use Rattle.grammar.specs.Levels.{operator_level}
 use Rattle.grammar.specs.declared.ahead.Head as heads
 use Rattle.grammar.specs.declared.ahead.Head.TheVariants as h
-use Rattle.grammar.specs.Front.{Head, for_head, if_head, no_head}
+use Rattle.grammar.specs.Front.{Next, operator, next, Head, for_head, if_head, no_head}
 
 -- the program's tokens without their places
 abbrev pub tokens_seen : List ℕ → List found.Token → List Token
@@ -41,36 +42,23 @@ Reads view o (Ok x) new = o ≡ Some (view x, new)
 Reads view o (Err stop.NoForm) new = o ≡ None
 Reads view o (Err stop.NoMemory) new = Unit {0}
 
--- the operators of each level (Starlark specification, "Binary operators": precedence)
-unfoldable pub or_at : List Token → Option (Operator × List Token)
-or_at (word Or ∷ ts) = Some (either, ts)
-or_at _ = None
+-- something, where a test holds
+abbrev pub given : {A : Type 0} → Bool → A → Option A
+given true a = Some a
+given false a = None
 
-unfoldable pub and_at : List Token → Option (Operator × List Token)
-and_at (word And ∷ ts) = Some (both, ts)
-and_at _ = None
+-- the operator that comes next, if one does
+abbrev pub operator_of : Next → Option (Operator × List Token)
+operator_of (operator o u) = Some (o, u)
+operator_of _ = None
 
-unfoldable pub comparison_at : List Token → Option (Operator × List Token)
-comparison_at (mark Equal ∷ ts) = Some (equal, ts)
-comparison_at (mark NotEqual ∷ ts) = Some (not_equal, ts)
-comparison_at (mark Less ∷ ts) = Some (less, ts)
-comparison_at (mark Greater ∷ ts) = Some (greater, ts)
-comparison_at (mark LessEqual ∷ ts) = Some (less_equal, ts)
-comparison_at (mark GreaterEqual ∷ ts) = Some (greater_equal, ts)
-comparison_at (word In ∷ ts) = Some (within, ts)
-comparison_at (word Not ∷ word In ∷ ts) = Some (not_within, ts)
-comparison_at _ = None
+-- an operator of a level, if it comes next (Starlark specification, "Binary operators": precedence)
+abbrev pub of_level : ℕ → Next → Option (Operator × List Token)
+of_level l (operator o u) = given (operator_level o == l) (o, u)
+of_level l _ = None
 
-unfoldable pub sum_at : List Token → Option (Operator × List Token)
-sum_at (mark Plus ∷ ts) = Some (add, ts)
-sum_at (mark Minus ∷ ts) = Some (subtract, ts)
-sum_at _ = None
-
-unfoldable pub product_at : List Token → Option (Operator × List Token)
-product_at (mark Star ∷ ts) = Some (multiply, ts)
-product_at (mark FloorDivide ∷ ts) = Some (divide, ts)
-product_at (mark Percent ∷ ts) = Some (remainder, ts)
-product_at _ = None
+abbrev pub operator_at : ℕ → List Token → Option (Operator × List Token)
+operator_at l ts = of_level l (next ts)
 
 -- the operators before a part (Starlark specification, "Unary operators")
 unfoldable pub behind_not : List Token → Option (List Token)
@@ -85,13 +73,14 @@ unfoldable pub behind_if : List Token → Option (List Token)
 behind_if (word If ∷ ts) = Some ts
 behind_if _ = None
 
--- no sign comes next
-abbrev pub Unsigned : List Token → Type 0
-Unsigned ts = (behind_not ts ≡ None) × (behind_minus ts ≡ None)
-
 -- no operator comes next
 abbrev pub Ends : List Token → Type 0
-Ends ts = (product_at ts ≡ None) × (sum_at ts ≡ None) × (comparison_at ts ≡ None) × (and_at ts ≡ None) × (or_at ts ≡ None) × (behind_if ts ≡ None)
+Ends ts = (l : ℕ) → operator_at l ts ≡ None
+
+-- `not` was passed by before an expression of a level that may have it, or it doesn't come next there
+abbrev pub Negates : ℕ → Bool → List Token → List Token → Type 0
+Negates l true old new = (l ≤ 4) × (behind_not old ≡ Some new)
+Negates l false old new = (l ≤ 4 → behind_not old ≡ None) × (new ≡ old)
 
 -- how an expression goes on: with a field, an index or a call
 unfoldable pub suffix_at : List Token → Option (Suffix × List Token)

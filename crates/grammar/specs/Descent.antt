@@ -1,6 +1,6 @@
 -- Reading an expression that is at most so deep: the tree without brackets alone, with its depth. A part that would be
 -- too deep is refused before it is read.
-use Rattle.std.specs.Prelude.{ℕ, zero, suc, ◌-◌, max, Bool, true, false, ◌&&◌, nat_lt, List, [], ◌∷◌, ◌++◌, length, Option, Some, None}
+use Rattle.std.specs.Prelude.{ℕ, zero, suc, ◌+◌, ◌-◌, max, Bool, true, false, ◌&&◌, ◌==◌, nat_lt, nat_le, List, [], ◌∷◌, ◌++◌, length, Option, Some, None}
 use Rattle.lexer.specs.declared.layout.Bracket.{Bracket}
 use Rattle.lexer.specs.declared.layout.Bracket.TheVariants.{Round, Square, Curly}
 use Rattle.grammar.specs.declared.ahead.Suffix.{Suffix}
@@ -13,7 +13,7 @@ use Rattle.grammar.specs.Bare.{Tree, named, numeral, quoted, tuple, listing, dic
 use Rattle.grammar.specs.Front.{name_at, behind_close, behind_comma, behind_colon, behind_else, is_for, Head, for_head, if_head, no_head, head_at}
 use Rattle.grammar.specs.Reading.{Parse, then_read}
 use Rattle.grammar.specs.FormReading.{then_found}
-use Rattle.grammar.specs.Ahead.{or_at, and_at, comparison_at, sum_at, product_at, behind_not, behind_minus, behind_if, suffix_at, named_at, number_at, string_at, bracket_at, with_rest, is_done}
+use Rattle.grammar.specs.Ahead.{given, operator_at, behind_not, behind_minus, behind_if, suffix_at, named_at, number_at, string_at, bracket_at, with_rest, is_done}
 use Rattle.grammar.specs.TreeView.{trees_of, entries_of, keywords_of, rests_of}
 
 -- an expression that was read: its tree, its depth, and whether it is a name or an index as it is written
@@ -42,10 +42,6 @@ pub record Arguments : Type 0 where
 pub record Conditions : Type 0 where
   pub clauses : List (Rest → Rest)
   pub depth : ℕ
-
-abbrev pub given : {A : Type 0} → Bool → A → Option A
-given true a = Some a
-given false a = None
 
 -- a tree over parts of a depth, where that leaves room
 abbrev pub over : ℕ → Bool → Tree → ℕ → Option Part
@@ -145,9 +141,9 @@ join_step up more r a None ts = Some (a, ts)
 join_step up more r a (Some p) ts = then_read (up (r - 1) p.1) (λ b v. then_found (operated r p.0 a b) (λ c. more c v))
 
 -- goes on with operators of a level, at most so many
-unfoldable pub chain : (List Token → Option (Operator × List Token)) → (ℕ → Parse Part) → ℕ → ℕ → Part → Parse Part
-chain at up r zero a ts = Some (a, ts)
-chain at up r (suc k) a ts = join_step up (chain at up r k) r a (at ts) ts
+unfoldable pub chain : ℕ → (ℕ → Parse Part) → ℕ → ℕ → Part → Parse Part
+chain l up r zero a ts = Some (a, ts)
+chain l up r (suc k) a ts = join_step up (chain l up r k) r a (operator_at l ts) ts
 
 -- things with commas and the closing bracket behind them, one after the other
 abbrev pub after_one : {S : Type 0} → (S → Parse S) → S → Option (List Token) → Option (List Token) → Option (S × List Token)
@@ -282,22 +278,22 @@ module _ (inside : Row → ℕ → Parse Part) (most : ℕ) where
   e8 r ts = sign_step opposite Opposed e9 r ts (behind_minus ts)
 
   unfoldable pub e7 : ℕ → Parse Part
-  e7 r ts = then_read (e8 r ts) (chain product_at e8 r most)
+  e7 r ts = then_read (e8 r ts) (chain 7 e8 r most)
 
   unfoldable pub e6 : ℕ → Parse Part
-  e6 r ts = then_read (e7 r ts) (chain sum_at e7 r most)
+  e6 r ts = then_read (e7 r ts) (chain 6 e7 r most)
 
   unfoldable pub e5 : ℕ → Parse Part
-  e5 r ts = then_read (e6 r ts) (λ a u. join_step e6 (λ b v. Some (b, v)) r a (comparison_at u) u)
+  e5 r ts = then_read (e6 r ts) (chain 5 e6 r 1)
 
   unfoldable pub e4 : ℕ → Parse Part
   e4 r ts = sign_step negation Negated e5 r ts (behind_not ts)
 
   unfoldable pub e3 : ℕ → Parse Part
-  e3 r ts = then_read (e4 r ts) (chain and_at e4 r most)
+  e3 r ts = then_read (e4 r ts) (chain 3 e4 r most)
 
   unfoldable pub e2 : ℕ → Parse Part
-  e2 r ts = then_read (e3 r ts) (chain or_at e3 r most)
+  e2 r ts = then_read (e3 r ts) (chain 2 e3 r most)
 
   abbrev pub else_step : ℕ → Part → Part → Option (List Token) → Option (Part × List Token)
   else_step r a c None = None
@@ -310,21 +306,32 @@ module _ (inside : Row → ℕ → Parse Part) (most : ℕ) where
   unfoldable pub e1 : ℕ → Parse Part
   e1 r ts = then_read (e2 r ts) (λ a u. if_step r a u (behind_if u))
 
-  -- an expression whose first part was read already, with its fields, indexes and calls
-  unfoldable pub e6_on : ℕ → Part → Parse Part
-  e6_on r a u = then_read (chain product_at e8 r most a u) (chain sum_at e7 r most)
+  -- the levels by their numbers, from 2 on (`operator_level`, `sign_level`)
+  abbrev pub level : ℕ → ℕ → Parse Part
+  level (suc (suc zero)) = e2
+  level (suc (suc (suc zero))) = e3
+  level (suc (suc (suc (suc zero)))) = e4
+  level (suc (suc (suc (suc (suc zero))))) = e5
+  level (suc (suc (suc (suc (suc (suc zero)))))) = e6
+  level (suc (suc (suc (suc (suc (suc (suc zero))))))) = e7
+  level _ = e8
 
-  unfoldable pub e5_on : ℕ → Part → Parse Part
-  e5_on r a u = then_read (e6_on r a u) (λ b v. join_step e6 (λ c t. Some (c, t)) r b (comparison_at v) v)
+  -- how many operators of a level may follow one another: comparisons are not chained
+  abbrev pub in_a_row : ℕ → ℕ
+  in_a_row l = elim (l == 5) [ true ↦ 1 | false ↦ most ]
 
-  unfoldable pub e3_on : ℕ → Part → Parse Part
-  e3_on r a u = then_read (e5_on r a u) (chain and_at e4 r most)
+  -- goes on with the operators of a level
+  abbrev pub joined : ℕ → ℕ → Part → Parse Part
+  joined l r = chain l (level (l + 1)) r (in_a_row l)
 
-  unfoldable pub e2_on : ℕ → Part → Parse Part
-  e2_on r a u = then_read (e3_on r a u) (chain or_at e3 r most)
+  -- goes on with the operators of the levels below one, from the tightest down to a level
+  unfoldable pub onward : ℕ → ℕ → ℕ → Part → Parse Part
+  onward l r zero a ts = Some (a, ts)
+  onward l r (suc top) a ts = elim (nat_le l top) [ true ↦ then_read (joined top r a ts) (onward l r top) | false ↦ Some (a, ts) ]
 
-  unfoldable pub e1_on : ℕ → Part → Parse Part
-  e1_on r a u = then_read (e2_on r a u) (λ b v. if_step r b v (behind_if v))
+  -- behind `not`
+  abbrev pub negated : ℕ → Parse Part
+  negated r u = then_read (inside Negated (r - 1) u) (λ a v. with_rest (signed_part r negation a) v)
 
   abbrev pub row : Row → ℕ → Parse Part
   row Whole = e1

@@ -13,8 +13,8 @@ use Rattle.grammar.specs.Built.{Belongs, nothing, block, statement}
 use Rattle.grammar.specs.Front.{name_at, names_in, behind_comma, behind_colon}
 use Rattle.grammar.specs.Reading.{Parse, then_read}
 use Rattle.grammar.specs.FormReading.{then_found, names_to}
-use Rattle.grammar.specs.Ahead.{is_done, named_at, string_at}
-use Rattle.grammar.specs.Descent.{Part, Target, target_name, target_at, target_in, Several, no_items, with_item, tuple_part, given, gather, if_all, read}
+use Rattle.grammar.specs.Ahead.{given, is_done, named_at, string_at}
+use Rattle.grammar.specs.Descent.{Part, Target, target_name, target_at, target_in, Several, no_items, with_item, tuple_part, gather, if_all, read}
 
 -- how a line begins: with a word that begins no expression, or with none
 unfoldable pub opening_at : List Token → Option (Opening × List Token)

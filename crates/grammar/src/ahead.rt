@@ -1,9 +1,9 @@
 //! What is left of a logical line, and what is taken from its front.
 
-ghost use Rattle.std.specs.Prelude.{◌≡◌, length, IfSome, IfOk, map, true};
+ghost use Rattle.std.specs.Prelude.{◌≡◌, ℕ, List, length, IfSome, IfOk, map, true};
 ghost use Rattle.std.specs.Option.{option_map};
-ghost use Rattle.grammar.specs.Ahead.{is_done, Ends, Passes, Takes, Unsigned, tokens_seen, or_at, and_at, comparison_at, sum_at, product_at, behind_not, behind_minus, behind_if, HasHead, suffix_at, named_at, number_at, string_at, bracket_at};
-ghost use Rattle.grammar.specs.Front.{behind_comma, behind_colon, behind_else, behind_close, name_at, names_in, head_at, is_for};
+ghost use Rattle.grammar.specs.Ahead.{is_done, Ends, Passes, Takes, tokens_seen, operator_at, operator_of, behind_not, behind_minus, behind_if, HasHead, suffix_at, named_at, number_at, string_at, bracket_at};
+ghost use Rattle.grammar.specs.Front.{next, behind_comma, behind_colon, behind_else, behind_close, name_at, names_in, head_at, is_for};
 ghost use Rattle.grammar.specs.FormDescent.{opening_at, behind_assign, behind_add, behind_open};
 ghost use Rattle.grammar.specs.FormReading.{names_to};
 ghost use Rattle.grammar.specs.TreeView.{operator_seen};
@@ -139,6 +139,43 @@ fn names_in<'l>(
         },
         [] => Ok(None),
     }
+}
+
+/// The operator between two parts that comes first, and the tokens behind it.
+#[tactic(auto, unfolding(crate::specs::Front::next))]
+fn operator_in(tokens: &[Token]) -> Option<(Operator, &[Token])>
+    ensures { (text : List ℕ) → option_map (λ p. (operator_seen p.0, tokens_seen text p.1.now)) result ≡ operator_of (next (tokens_seen text tokens.now)) }
+{
+    let [first, rest @ ..] = tokens else {
+        return None;
+    };
+    let operator = match first.kind {
+        Kind::Word(Word::Or) => Operator::Or,
+        Kind::Word(Word::And) => Operator::And,
+        Kind::Mark(Mark::Equal) => Operator::Equal,
+        Kind::Mark(Mark::NotEqual) => Operator::NotEqual,
+        Kind::Mark(Mark::Less) => Operator::Less,
+        Kind::Mark(Mark::Greater) => Operator::Greater,
+        Kind::Mark(Mark::LessEqual) => Operator::LessEqual,
+        Kind::Mark(Mark::GreaterEqual) => Operator::GreaterEqual,
+        Kind::Word(Word::In) => Operator::In,
+        Kind::Word(Word::Not) => {
+            let [second, behind @ ..] = rest else {
+                return None;
+            };
+            return match second.kind {
+                Kind::Word(Word::In) => Some((Operator::NotIn, behind)),
+                _ => None,
+            };
+        }
+        Kind::Mark(Mark::Plus) => Operator::Add,
+        Kind::Mark(Mark::Minus) => Operator::Subtract,
+        Kind::Mark(Mark::Star) => Operator::Multiply,
+        Kind::Mark(Mark::FloorDivide) => Operator::FloorDivide,
+        Kind::Mark(Mark::Percent) => Operator::Remainder,
+        _ => return None,
+    };
+    Some((operator, rest))
 }
 
 /// The tokens of a line from one of them on. A clause sees their list.
@@ -283,22 +320,9 @@ impl<'l> Ahead<'l> {
         }
     }
 
-    /// Whether neither `not` nor `-` comes next.
-    #[tactic(auto, unfolding(crate::specs::Ahead::behind_not, crate::specs::Ahead::behind_minus))]
-    pub(crate) fn is_unsigned(&self) -> bool
-        ensures { result ≡ true → Unsigned self.now }
-    {
-        let [first, ..] = self.tokens else {
-            return true;
-        };
-        match first.kind {
-            Kind::Mark(Mark::Minus) | Kind::Word(Word::Not) => false,
-            _ => true,
-        }
-    }
-
-    /// Whether a token comes next with which no expression goes on, or none at all.
-    #[tactic(auto, unfolding(crate::specs::Ahead::product_at, crate::specs::Ahead::sum_at, crate::specs::Ahead::comparison_at, crate::specs::Ahead::and_at, crate::specs::Ahead::or_at, crate::specs::Ahead::behind_if))]
+    /// Whether a token comes next that is no operator between two parts, or none at all. Where it answers that there may be
+    /// one, only time is lost.
+    #[tactic(auto, unfolding(crate::specs::Front::next))]
     pub(crate) fn ends_here(&self) -> bool
         ensures { result ≡ true → Ends self.now }
     {
@@ -316,104 +340,16 @@ impl<'l> Ahead<'l> {
         }
     }
 
-    /// Takes `or`.
-    #[tactic(auto, unfolding(crate::specs::Ahead::or_at))]
-    pub(crate) fn or_operator(&mut self) -> Option<Operator>
-        ensures { Takes operator_seen (or_at self.old) result self.old self.new }
+    /// Takes an operator of this level, of which `not in` has two tokens.
+    #[tactic(auto, unfolding(crate::specs::Front::next))]
+    pub(crate) fn operator(&mut self, level: usize) -> Option<Operator>
+        ensures { Takes operator_seen (operator_at level self.old) result self.old self.new }
     {
-        let [first, rest @ ..] = self.tokens else {
+        let (operator, behind) = operator_in(self.tokens)?;
+        if operator.level() != level {
             return None;
-        };
-        let operator = match first.kind {
-            Kind::Word(Word::Or) => Operator::Or,
-            _ => return None,
-        };
-        self.tokens = rest;
-        Some(operator)
-    }
-
-    /// Takes `and`.
-    #[tactic(auto, unfolding(crate::specs::Ahead::and_at))]
-    pub(crate) fn and_operator(&mut self) -> Option<Operator>
-        ensures { Takes operator_seen (and_at self.old) result self.old self.new }
-    {
-        let [first, rest @ ..] = self.tokens else {
-            return None;
-        };
-        let operator = match first.kind {
-            Kind::Word(Word::And) => Operator::And,
-            _ => return None,
-        };
-        self.tokens = rest;
-        Some(operator)
-    }
-
-    /// Takes `+` or `-`.
-    #[tactic(auto, unfolding(crate::specs::Ahead::sum_at))]
-    pub(crate) fn sum_operator(&mut self) -> Option<Operator>
-        ensures { Takes operator_seen (sum_at self.old) result self.old self.new }
-    {
-        let [first, rest @ ..] = self.tokens else {
-            return None;
-        };
-        let operator = match first.kind {
-            Kind::Mark(Mark::Plus) => Operator::Add,
-            Kind::Mark(Mark::Minus) => Operator::Subtract,
-            _ => return None,
-        };
-        self.tokens = rest;
-        Some(operator)
-    }
-
-    /// Takes `*`, `//` or `%`.
-    #[tactic(auto, unfolding(crate::specs::Ahead::product_at))]
-    pub(crate) fn product_operator(&mut self) -> Option<Operator>
-        ensures { Takes operator_seen (product_at self.old) result self.old self.new }
-    {
-        let [first, rest @ ..] = self.tokens else {
-            return None;
-        };
-        let operator = match first.kind {
-            Kind::Mark(Mark::Star) => Operator::Multiply,
-            Kind::Mark(Mark::FloorDivide) => Operator::FloorDivide,
-            Kind::Mark(Mark::Percent) => Operator::Remainder,
-            _ => return None,
-        };
-        self.tokens = rest;
-        Some(operator)
-    }
-
-    /// Takes a comparison, of which `not in` has two tokens.
-    #[tactic(auto, unfolding(crate::specs::Ahead::comparison_at))]
-    pub(crate) fn comparison(&mut self) -> Option<Operator>
-        ensures { Takes operator_seen (comparison_at self.old) result self.old self.new }
-    {
-        let [first, rest @ ..] = self.tokens else {
-            return None;
-        };
-        let operator = match first.kind {
-            Kind::Mark(Mark::Equal) => Operator::Equal,
-            Kind::Mark(Mark::NotEqual) => Operator::NotEqual,
-            Kind::Mark(Mark::Less) => Operator::Less,
-            Kind::Mark(Mark::Greater) => Operator::Greater,
-            Kind::Mark(Mark::LessEqual) => Operator::LessEqual,
-            Kind::Mark(Mark::GreaterEqual) => Operator::GreaterEqual,
-            Kind::Word(Word::In) => Operator::In,
-            Kind::Word(Word::Not) => {
-                let [second, behind @ ..] = rest else {
-                    return None;
-                };
-                return match second.kind {
-                    Kind::Word(Word::In) => {
-                        self.tokens = behind;
-                        Some(Operator::NotIn)
-                    }
-                    _ => None,
-                };
-            }
-            _ => return None,
-        };
-        self.tokens = rest;
+        }
+        self.tokens = behind;
         Some(operator)
     }
 

@@ -1,11 +1,11 @@
-//! Expressions, read from a line by descent: a function for each level, and one for each form of an atom. What reads
-//! the expressions inside of others is a parameter, so that each is proved by itself.
+//! Expressions, read from a line by descent: one loop over the levels of operators, and a function for each form of an
+//! atom. What reads the expressions inside of others is a parameter, so that each is proved by itself.
 //!
 //! A reader is given room: how deep the expression may be. It goes down by one at each form that adds to the depth, so
 //! that what would be too deep is refused before it is read.
 
-ghost use Rattle.std.specs.Prelude.{◌≡◌, Some};
-ghost use Rattle.grammar.specs.Ahead.{Reads, and_at, behind_if, bracket_at, comparison_at, or_at, product_at, sum_at};
+ghost use Rattle.std.specs.Prelude.{◌≡◌, ◌≤◌, ◌<◌, Some};
+ghost use Rattle.grammar.specs.Ahead.{Negates, Reads, behind_if, bracket_at};
 ghost use Rattle.grammar.specs.Front.{behind_close, behind_comma};
 ghost use Rattle.grammar.specs.Reading.{then_read};
 ghost use Rattle.lexer.specs.declared.layout.Bracket.TheVariants.{Square, Curly};
@@ -20,6 +20,15 @@ use lexer::{Bracket, unescape};
 use plain::Text;
 use std::alloc::Global;
 
+// The levels of the operators, as [`Operator::level`] counts them.
+const LOOSEST: usize = 2;
+
+const NEGATION: usize = 4;
+
+const COMPARISON: usize = 5;
+/// That of `-` before a part.
+const TIGHTEST: usize = 8;
+
 /// Which expressions may stand inside of a form.
 #[derive(Clone, Copy, PartialEq, Eq, Debug)]
 pub(crate) enum Row {
@@ -31,6 +40,19 @@ pub(crate) enum Row {
     Negated,
     /// What may stand behind `-`.
     Opposed,
+}
+
+/// Passes `not` by, where an expression of this level may begin with it.
+fn negates(ahead: &mut Ahead<'_>, level: usize) -> bool
+    ensures { Negates level result ahead.old ahead.new }
+{
+    if level > NEGATION {
+        return false;
+    }
+    if ahead.not_word() {
+        return true;
+    }
+    false
 }
 
 /// Reads expressions, by what reads those inside.
@@ -368,9 +390,9 @@ impl<F: Fn(Global, &mut Ahead<'_>, usize, Row, usize) -> Result<Part, Stop>> Rea
         Ok(whole)
     }
 
-    /// `-`.
+    /// An expression with `-` before it, or without.
     #[tactic(auto, unfolding(crate::specs::Descent::e8))]
-    fn e8(&self, ahead: &mut Ahead<'_>, room: usize) -> Result<Part, Stop>
+    fn operand(&self, ahead: &mut Ahead<'_>, room: usize) -> Result<Part, Stop>
         requires { Nests self.now.turns (F.pre self.now.expr) (F.post self.now.expr) }
         ensures { Reads part_seen (spec.e8 (spec.read self.now.turns) self.now.most room ahead.old) result ahead.new }
     {
@@ -381,143 +403,86 @@ impl<F: Fn(Global, &mut Ahead<'_>, usize, Row, usize) -> Result<Part, Stop>> Rea
         self.e9(ahead, room)
     }
 
-    /// `*`, `//` and `%` behind a part.
-    #[tactic(auto, unfolding(crate::specs::Descent::chain))]
-    fn products(&self, ahead: &mut Ahead<'_>, mut left: Part, room: usize) -> Result<Part, Stop>
+    /// Behind `not`.
+    fn negated(&self, ahead: &mut Ahead<'_>, room: usize) -> Result<Part, Stop>
         requires { Nests self.now.turns (F.pre self.now.expr) (F.post self.now.expr) }
-        ensures { Reads part_seen (spec.chain product_at (spec.e8 (spec.read self.now.turns) self.now.most) room self.now.most (part_seen left) ahead.old) result ahead.new }
+        ensures { Reads part_seen (spec.negated (spec.read self.now.turns) self.now.most room ahead.old) result ahead.new }
     {
-        for _turn in 0..self.most {
-            let Some(operator) = ahead.product_operator() else {
+        let operand = self.inside(ahead, Row::Negated, room.saturating_sub(1))?;
+        parts::signed(self.alloc, Sign::Not, operand, room)
+    }
+
+    /// How many operators of a level may follow one another: comparisons are not chained.
+    fn in_a_row(&self, level: usize) -> usize
+        ensures { result ≡ spec.in_a_row (spec.read self.now.turns) self.now.most level }
+    {
+        if level == COMPARISON { 1 } else { self.most }
+    }
+
+    /// Goes on with operators of a level behind a part.
+    #[cycle(levels)]
+    #[tactic(auto, unfolding(crate::specs::Descent::chain))]
+    fn joined(
+        &self,
+        ahead: &mut Ahead<'_>,
+        mut left: Part,
+        level: usize,
+        room: usize,
+    ) -> Result<Part, Stop>
+        requires inner { Nests self.now.turns (F.pre self.now.expr) (F.post self.now.expr) }
+        requires loose { 2 ≤ level }
+        requires tight { level < 8 }
+        ensures { Reads part_seen (spec.joined (spec.read self.now.turns) self.now.most level room (part_seen left) ahead.old) result ahead.new }
+    {
+        for _turn in 0..self.in_a_row(level) {
+            let Some(operator) = ahead.operator(level) else {
                 return Ok(left);
             };
-            let right = self.e8(ahead, room.saturating_sub(1))?;
+            let right = self.level(ahead, level + 1, room.saturating_sub(1))?;
             left = parts::operated(self.alloc, operator, left, right, room)?;
         }
         Ok(left)
     }
 
-    /// `*`, `//` and `%`.
-    #[tactic(auto, unfolding(crate::specs::Descent::e7))]
-    fn e7(&self, ahead: &mut Ahead<'_>, room: usize) -> Result<Part, Stop>
-        requires { Nests self.now.turns (F.pre self.now.expr) (F.post self.now.expr) }
-        ensures { Reads part_seen (spec.e7 (spec.read self.now.turns) self.now.most room ahead.old) result ahead.new }
+    /// Goes on with the operators of a level and of the tighter ones below `top`, the tightest first.
+    #[cycle(levels)]
+    fn onward(
+        &self,
+        ahead: &mut Ahead<'_>,
+        mut left: Part,
+        level: usize,
+        top: usize,
+        room: usize,
+    ) -> Result<Part, Stop>
+        requires inner { Nests self.now.turns (F.pre self.now.expr) (F.post self.now.expr) }
+        requires loose { 2 ≤ level }
+        requires upward { level ≤ top }
+        requires tight { top ≤ 8 }
+        ensures { Reads part_seen (spec.onward (spec.read self.now.turns) self.now.most level room top (part_seen left) ahead.old) result ahead.new }
     {
-        let left = self.e8(ahead, room)?;
-        self.products(ahead, left, room)
-    }
-
-    /// `+` and `-` behind a part.
-    #[tactic(auto, unfolding(crate::specs::Descent::chain))]
-    fn sums(&self, ahead: &mut Ahead<'_>, mut left: Part, room: usize) -> Result<Part, Stop>
-        requires { Nests self.now.turns (F.pre self.now.expr) (F.post self.now.expr) }
-        ensures { Reads part_seen (spec.chain sum_at (spec.e7 (spec.read self.now.turns) self.now.most) room self.now.most (part_seen left) ahead.old) result ahead.new }
-    {
-        for _turn in 0..self.most {
-            let Some(operator) = ahead.sum_operator() else {
-                return Ok(left);
-            };
-            let right = self.e7(ahead, room.saturating_sub(1))?;
-            left = parts::operated(self.alloc, operator, left, right, room)?;
-        }
-        Ok(left)
-    }
-
-    /// `+` and `-`.
-    #[tactic(auto, unfolding(crate::specs::Descent::e6))]
-    fn e6(&self, ahead: &mut Ahead<'_>, room: usize) -> Result<Part, Stop>
-        requires { Nests self.now.turns (F.pre self.now.expr) (F.post self.now.expr) }
-        ensures { Reads part_seen (spec.e6 (spec.read self.now.turns) self.now.most room ahead.old) result ahead.new }
-    {
-        let left = self.e7(ahead, room)?;
-        self.sums(ahead, left, room)
-    }
-
-    /// A comparison behind a part.
-    fn compared(&self, ahead: &mut Ahead<'_>, left: Part, room: usize) -> Result<Part, Stop>
-        requires { Nests self.now.turns (F.pre self.now.expr) (F.post self.now.expr) }
-        ensures { Reads part_seen (spec.join_step (spec.e6 (spec.read self.now.turns) self.now.most) (λ b v. Some (b, v)) room (part_seen left) (comparison_at ahead.old) ahead.old) result ahead.new }
-    {
-        let Some(operator) = ahead.comparison() else {
+        if ahead.ends_here() {
             return Ok(left);
-        };
-        let right = self.e6(ahead, room.saturating_sub(1))?;
-        parts::operated(self.alloc, operator, left, right, room)
-    }
-
-    /// Comparisons, which are not chained.
-    #[tactic(auto, unfolding(crate::specs::Descent::e5))]
-    fn e5(&self, ahead: &mut Ahead<'_>, room: usize) -> Result<Part, Stop>
-        requires { Nests self.now.turns (F.pre self.now.expr) (F.post self.now.expr) }
-        ensures { Reads part_seen (spec.e5 (spec.read self.now.turns) self.now.most room ahead.old) result ahead.new }
-    {
-        let left = self.e6(ahead, room)?;
-        self.compared(ahead, left, room)
-    }
-
-    /// `not`.
-    #[tactic(auto, unfolding(crate::specs::Descent::e4))]
-    fn e4(&self, ahead: &mut Ahead<'_>, room: usize) -> Result<Part, Stop>
-        requires { Nests self.now.turns (F.pre self.now.expr) (F.post self.now.expr) }
-        ensures { Reads part_seen (spec.e4 (spec.read self.now.turns) self.now.most room ahead.old) result ahead.new }
-    {
-        if ahead.not_word() {
-            let operand = self.inside(ahead, Row::Negated, room.saturating_sub(1))?;
-            return parts::signed(self.alloc, Sign::Not, operand, room);
         }
-        self.e5(ahead, room)
-    }
-
-    /// `and` behind a part.
-    #[tactic(auto, unfolding(crate::specs::Descent::chain))]
-    fn ands(&self, ahead: &mut Ahead<'_>, mut left: Part, room: usize) -> Result<Part, Stop>
-        requires { Nests self.now.turns (F.pre self.now.expr) (F.post self.now.expr) }
-        ensures { Reads part_seen (spec.chain and_at (spec.e4 (spec.read self.now.turns) self.now.most) room self.now.most (part_seen left) ahead.old) result ahead.new }
-    {
-        for _turn in 0..self.most {
-            let Some(operator) = ahead.and_operator() else {
-                return Ok(left);
-            };
-            let right = self.e4(ahead, room.saturating_sub(1))?;
-            left = parts::operated(self.alloc, operator, left, right, room)?;
+        for next in (level..top).rev() {
+            left = self.joined(ahead, left, next, room)?;
         }
         Ok(left)
     }
 
-    /// `and`.
-    #[tactic(auto, unfolding(crate::specs::Descent::e3))]
-    fn e3(&self, ahead: &mut Ahead<'_>, room: usize) -> Result<Part, Stop>
-        requires { Nests self.now.turns (F.pre self.now.expr) (F.post self.now.expr) }
-        ensures { Reads part_seen (spec.e3 (spec.read self.now.turns) self.now.most room ahead.old) result ahead.new }
+    /// An expression whose operators are of this level, or tighter.
+    #[cycle(levels)]
+    fn level(&self, ahead: &mut Ahead<'_>, level: usize, room: usize) -> Result<Part, Stop>
+        requires inner { Nests self.now.turns (F.pre self.now.expr) (F.post self.now.expr) }
+        requires loose { 2 ≤ level }
+        requires tight { level ≤ 8 }
+        ensures { Reads part_seen (spec.level (spec.read self.now.turns) self.now.most level room ahead.old) result ahead.new }
     {
-        let left = self.e4(ahead, room)?;
-        self.ands(ahead, left, room)
-    }
-
-    /// `or` behind a part.
-    #[tactic(auto, unfolding(crate::specs::Descent::chain))]
-    fn ors(&self, ahead: &mut Ahead<'_>, mut left: Part, room: usize) -> Result<Part, Stop>
-        requires { Nests self.now.turns (F.pre self.now.expr) (F.post self.now.expr) }
-        ensures { Reads part_seen (spec.chain or_at (spec.e3 (spec.read self.now.turns) self.now.most) room self.now.most (part_seen left) ahead.old) result ahead.new }
-    {
-        for _turn in 0..self.most {
-            let Some(operator) = ahead.or_operator() else {
-                return Ok(left);
-            };
-            let right = self.e3(ahead, room.saturating_sub(1))?;
-            left = parts::operated(self.alloc, operator, left, right, room)?;
+        if negates(ahead, level) {
+            let first = self.negated(ahead, room)?;
+            return self.onward(ahead, first, level, NEGATION, room);
         }
-        Ok(left)
-    }
-
-    /// `or`.
-    #[tactic(auto, unfolding(crate::specs::Descent::e2))]
-    fn e2(&self, ahead: &mut Ahead<'_>, room: usize) -> Result<Part, Stop>
-        requires { Nests self.now.turns (F.pre self.now.expr) (F.post self.now.expr) }
-        ensures { Reads part_seen (spec.e2 (spec.read self.now.turns) self.now.most room ahead.old) result ahead.new }
-    {
-        let left = self.e3(ahead, room)?;
-        self.ors(ahead, left, room)
+        let first = self.operand(ahead, room)?;
+        self.onward(ahead, first, level, TIGHTEST, room)
     }
 
     /// A condition behind an expression, with the other one.
@@ -529,7 +494,7 @@ impl<F: Fn(Global, &mut Ahead<'_>, usize, Row, usize) -> Result<Part, Stop>> Rea
             return Ok(then);
         }
         let below = room.saturating_sub(1);
-        let test = self.e2(ahead, below)?;
+        let test = self.level(ahead, LOOSEST, below)?;
         if !ahead.else_word() {
             return Err(Stop::NoForm);
         }
@@ -537,87 +502,14 @@ impl<F: Fn(Global, &mut Ahead<'_>, usize, Row, usize) -> Result<Part, Stop>> Rea
         parts::chosen(self.alloc, then, test, other, room)
     }
 
-    /// The conditional.
-    #[tactic(auto, unfolding(crate::specs::Descent::e1))]
-    fn e1(&self, ahead: &mut Ahead<'_>, room: usize) -> Result<Part, Stop>
-        requires { Nests self.now.turns (F.pre self.now.expr) (F.post self.now.expr) }
-        ensures { Reads part_seen (spec.e1 (spec.read self.now.turns) self.now.most room ahead.old) result ahead.new }
-    {
-        let then = self.e2(ahead, room)?;
-        self.chosen(ahead, then, room)
-    }
-
-    /// A sum whose first part was read already, with its fields, indexes and calls.
-    #[tactic(auto, unfolding(crate::specs::Descent::e6_on))]
-    fn e6_on(&self, ahead: &mut Ahead<'_>, left: Part, room: usize) -> Result<Part, Stop>
-        requires { Nests self.now.turns (F.pre self.now.expr) (F.post self.now.expr) }
-        ensures { Reads part_seen (spec.e6_on (spec.read self.now.turns) self.now.most room (part_seen left) ahead.old) result ahead.new }
-    {
-        let left = self.products(ahead, left, room)?;
-        self.sums(ahead, left, room)
-    }
-
-    /// The same of a comparison.
-    #[tactic(auto, unfolding(crate::specs::Descent::e5_on))]
-    fn e5_on(&self, ahead: &mut Ahead<'_>, left: Part, room: usize) -> Result<Part, Stop>
-        requires { Nests self.now.turns (F.pre self.now.expr) (F.post self.now.expr) }
-        ensures { Reads part_seen (spec.e5_on (spec.read self.now.turns) self.now.most room (part_seen left) ahead.old) result ahead.new }
-    {
-        let left = self.e6_on(ahead, left, room)?;
-        self.compared(ahead, left, room)
-    }
-
-    /// The same of `and`.
-    #[tactic(auto, unfolding(crate::specs::Descent::e3_on))]
-    fn e3_on(&self, ahead: &mut Ahead<'_>, left: Part, room: usize) -> Result<Part, Stop>
-        requires { Nests self.now.turns (F.pre self.now.expr) (F.post self.now.expr) }
-        ensures { Reads part_seen (spec.e3_on (spec.read self.now.turns) self.now.most room (part_seen left) ahead.old) result ahead.new }
-    {
-        let left = self.e5_on(ahead, left, room)?;
-        self.ands(ahead, left, room)
-    }
-
-    /// The same of `or`.
-    #[tactic(auto, unfolding(crate::specs::Descent::e2_on))]
-    fn e2_on(&self, ahead: &mut Ahead<'_>, left: Part, room: usize) -> Result<Part, Stop>
-        requires { Nests self.now.turns (F.pre self.now.expr) (F.post self.now.expr) }
-        ensures { Reads part_seen (spec.e2_on (spec.read self.now.turns) self.now.most room (part_seen left) ahead.old) result ahead.new }
-    {
-        let left = self.e3_on(ahead, left, room)?;
-        self.ors(ahead, left, room)
-    }
-
-    /// The same of a conditional.
-    #[tactic(auto, unfolding(crate::specs::Descent::e1_on))]
-    fn e1_on(&self, ahead: &mut Ahead<'_>, left: Part, room: usize) -> Result<Part, Stop>
-        requires { Nests self.now.turns (F.pre self.now.expr) (F.post self.now.expr) }
-        ensures { Reads part_seen (spec.e1_on (spec.read self.now.turns) self.now.most room (part_seen left) ahead.old) result ahead.new }
-    {
-        let left = self.e2_on(ahead, left, room)?;
-        self.chosen(ahead, left, room)
-    }
-
-    /// An expression without a sign before it. Most have no operator, and are read without going through all levels.
-    fn from_atom(&self, ahead: &mut Ahead<'_>, room: usize) -> Result<Part, Stop>
-        requires { Nests self.now.turns (F.pre self.now.expr) (F.post self.now.expr) }
-        ensures { Reads part_seen (then_read (spec.e9 (spec.read self.now.turns) self.now.most room ahead.old) (spec.e1_on (spec.read self.now.turns) self.now.most room)) result ahead.new }
-    {
-        let first = self.e9(ahead, room)?;
-        if ahead.ends_here() {
-            return Ok(first);
-        }
-        self.e1_on(ahead, first, room)
-    }
-
     /// Any expression.
+    #[tactic(auto, unfolding(crate::specs::Descent::e1))]
     fn whole(&self, ahead: &mut Ahead<'_>, room: usize) -> Result<Part, Stop>
         requires { Nests self.now.turns (F.pre self.now.expr) (F.post self.now.expr) }
         ensures { Reads part_seen (spec.e1 (spec.read self.now.turns) self.now.most room ahead.old) result ahead.new }
     {
-        if !ahead.is_unsigned() {
-            return self.e1(ahead, room);
-        }
-        self.from_atom(ahead, room)
+        let then = self.level(ahead, LOOSEST, room)?;
+        self.chosen(ahead, then, room)
     }
 
     fn row(&self, ahead: &mut Ahead<'_>, row: Row, room: usize) -> Result<Part, Stop>
@@ -626,9 +518,9 @@ impl<F: Fn(Global, &mut Ahead<'_>, usize, Row, usize) -> Result<Part, Stop>> Rea
     {
         match row {
             Row::Whole => self.whole(ahead, room),
-            Row::Operand => self.e2(ahead, room),
-            Row::Negated => self.e4(ahead, room),
-            Row::Opposed => self.e8(ahead, room),
+            Row::Operand => self.level(ahead, LOOSEST, room),
+            Row::Negated => self.level(ahead, NEGATION, room),
+            Row::Opposed => self.level(ahead, TIGHTEST, room),
         }
     }
 }

@@ -2,10 +2,10 @@
 
 ghost use Rattle.std.specs.Prelude.{◌≡◌, ◌-◌, [], IfOk, Some, map};
 ghost use Rattle.std.specs.Option.{option_map};
-ghost use Rattle.grammar.specs.Ahead.{Makes, Reads, is_done, string_at, tokens_seen};
+ghost use Rattle.grammar.specs.Ahead.{given, Makes, Reads, is_done, string_at, tokens_seen};
 ghost use Rattle.grammar.specs.BareLines as bare;
 ghost use Rattle.grammar.specs.BuiltView.{body_of};
-ghost use Rattle.grammar.specs.Descent.{given, if_all, read};
+ghost use Rattle.grammar.specs.Descent.{if_all, read};
 ghost use Rattle.grammar.specs.Descended.{part_seen, several_seen};
 ghost use Rattle.grammar.specs.FormDescent as spec;
 ghost use Rattle.grammar.specs.FormReading.{names_to};

@@ -6,6 +6,7 @@ ghost use Rattle.std.specs.Option.{option_map};
 ghost use Rattle.grammar.specs.Descent.{target_in};
 ghost use Rattle.grammar.specs.Descended.{target_of};
 ghost use Rattle.grammar.specs.Bare as bare;
+ghost use Rattle.grammar.specs.Levels.{operator_level};
 ghost use Rattle.grammar.specs.TreeView.{operator_seen, sign_seen, tree_of, trees, entries, keywords, rests};
 
 use plain::Text;
@@ -29,6 +30,28 @@ pub enum Operator {
     Multiply,
     FloorDivide,
     Remainder,
+}
+
+impl Operator {
+    /// How tightly it binds: 2 is the loosest level of operators between two parts, 7 the tightest.
+    pub(crate) fn level(self) -> usize
+        ensures { result ≡ operator_level (operator_seen self) }
+    {
+        match self {
+            Operator::Or => 2,
+            Operator::And => 3,
+            Operator::Equal
+            | Operator::NotEqual
+            | Operator::Less
+            | Operator::Greater
+            | Operator::LessEqual
+            | Operator::GreaterEqual
+            | Operator::In
+            | Operator::NotIn => 5,
+            Operator::Add | Operator::Subtract => 6,
+            Operator::Multiply | Operator::FloorDivide | Operator::Remainder => 7,
+        }
+    }
 }
 
 /// An operator before a part.
