@@ -2,7 +2,7 @@
 -- `load` binds.
 use Rattle.std.proofs.Common.{◌≡◌, ℕ, zero, suc, ◌<◌, ◌≤◌, max, List, [], ◌∷◌, ◌++◌, Option, Some, None, refl, sym, ap, ◌∙◌, subst, arith}
 use Rattle.std.proofs.Math.Nat.{zero-max}
-use Rattle.grammar.specs.declared.expressions.Row.TheVariants.{Whole}
+use Rattle.grammar.specs.declared.parts.Row.TheVariants.{Whole}
 use Rattle.lexer.specs.declared.layout.Bracket.TheVariants.{Round}
 use Rattle.lexer.specs.declared.token.Mark.TheVariants.{Assign}
 use Rattle.lexer.specs.declared.token.Word.TheVariants.{In, Not}

@@ -2,8 +2,8 @@
 use Rattle.std.proofs.Common.{◌≡◌, ℕ, zero, suc, ◌-◌, ◌<◌, ◌≤◌, max, Bool, true, false, List, Option, sym, subst, arith}
 use Rattle.std.specs.Prelude.{◌==◌}
 use Rattle.std.proofs.Math.Nat.{le-max_left, le-max_right}
-use Rattle.grammar.specs.declared.expressions.Row.{Row}
-use Rattle.grammar.specs.declared.expressions.Row.TheVariants.{Whole, Operand, Negated, Opposed}
+use Rattle.grammar.specs.declared.parts.Row.{Row}
+use Rattle.grammar.specs.declared.parts.Row.TheVariants.{Whole, Operand, Negated, Opposed}
 use Rattle.lexer.specs.Tokens.{Token}
 use Rattle.grammar.specs.Tree.{Operator, Expr, identifier, operation, index}
 use Rattle.grammar.specs.Levels.{operator_level}

@@ -4,8 +4,8 @@ use Rattle.std.specs.Prelude.{◌&&◌}
 use Rattle.std.proofs.Math.Nat.{le-max_left, le-max_right, max-eq_left, max-eq_right}
 use Rattle.lexer.specs.declared.layout.Bracket.{Bracket}
 use Rattle.lexer.specs.declared.layout.Bracket.TheVariants.{Round, Curly}
-use Rattle.grammar.specs.declared.expressions.Row.{Row}
-use Rattle.grammar.specs.declared.expressions.Row.TheVariants.{Whole, Operand}
+use Rattle.grammar.specs.declared.parts.Row.{Row}
+use Rattle.grammar.specs.declared.parts.Row.TheVariants.{Whole, Operand}
 use Rattle.lexer.specs.Tokens.{Token}
 use Rattle.grammar.specs.Tree.{Expr, Member, plain, keyword, entry, Members, no_members, last_member, next_member, Clauses, no_clauses, for_clause, if_clause}
 use Rattle.grammar.specs.Levels.{Held, items, entries, arguments}

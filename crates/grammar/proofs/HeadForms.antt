@@ -1,7 +1,7 @@
 -- The form of a line, with a limit on the depth.
 use Rattle.std.proofs.Common.{◌≡◌, ℕ, suc, ◌<◌, ◌≤◌, max, List, [], ◌∷◌, Option, Some, None, length, refl, sym, ap, subst, arith}
 use Rattle.std.proofs.Math.Nat.{zero-max}
-use Rattle.grammar.specs.declared.expressions.Row.TheVariants.{Whole}
+use Rattle.grammar.specs.declared.parts.Row.TheVariants.{Whole}
 use Rattle.lexer.specs.declared.token.Word.TheVariants.{And, Break, Continue, Def, Elif, Else, For, If, In, Load, Not, Or, Pass, Reserved, Return}
 use Rattle.lexer.specs.declared.token.Mark.TheVariants.{OpenParen}
 use Rattle.lexer.specs.Tokens.{Token, name, number, string, word, mark}

@@ -23,16 +23,11 @@ pub mod BareLaws
 pub mod BuiltLaws
 pub mod ColonLaws
 pub mod FilesRead
-pub mod OutlineLemmas
-pub mod OutlinesRead
 pub mod StatementFaults
-pub mod BuiltLemmas
 pub mod CappedForms
 pub mod ListedForms
 pub mod SimpleForms
 pub mod CommaForms
 pub mod HeadForms
 pub mod WholeForms
-pub mod OutlinesMade
-pub mod ReadLemmas
 pub mod Shortcut

@@ -5,8 +5,8 @@ use Rattle.std.proofs.lemmas.Bool.Decides.{leb_tells}
 use Rattle.std.proofs.Math.Nat.{le-max_left}
 use Rattle.lexer.specs.declared.layout.Bracket.{Bracket}
 use Rattle.lexer.specs.declared.layout.Bracket.TheVariants.{Round, Square, Curly}
-use Rattle.grammar.specs.declared.expressions.Row.{Row}
-use Rattle.grammar.specs.declared.expressions.Row.TheVariants.{Whole, Operand, Negated, Opposed}
+use Rattle.grammar.specs.declared.parts.Row.{Row}
+use Rattle.grammar.specs.declared.parts.Row.TheVariants.{Whole, Operand, Negated, Opposed}
 use Rattle.lexer.specs.Layout.{opening}
 use Rattle.lexer.specs.Tokens.{Token, name, number, string, word, mark}
 use Rattle.grammar.specs.Tree.{Sign, negation, opposite, Expr, identifier, integer, text, display, comprehension, conditional, operation, signed, field, index, call, Member, plain, keyword, entry, Members, no_members, last_member, next_member, Clauses}

@@ -3,7 +3,7 @@ use Rattle.std.proofs.Common.{◌≡◌, ℕ, zero, suc, ◌-◌, ◌<◌, ◌�
 use Rattle.std.specs.Prelude.{nat_lt}
 use Rattle.std.proofs.lemmas.Bool.Decides.{leb_tells}
 use Rattle.std.proofs.Math.Nat.{zero-max, le-max_left, le-max_right}
-use Rattle.grammar.specs.declared.expressions.Row.TheVariants.{Whole}
+use Rattle.grammar.specs.declared.parts.Row.TheVariants.{Whole}
 use Rattle.lexer.specs.declared.token.Mark.TheVariants.{Comma, Assign, AddAssign}
 use Rattle.lexer.specs.Tokens.{Token, mark}
 use Rattle.grammar.specs.Tree.{Expr}

@@ -1,6 +1,6 @@
 -- The reading of an expression, by one turn.
 use Rattle.std.proofs.Common.{◌≡◌, ℕ, zero, suc, ◌-◌, ◌<◌, List, None, refl, ap, arith}
-use Rattle.grammar.specs.declared.expressions.Row.{Row}
+use Rattle.grammar.specs.declared.parts.Row.{Row}
 use Rattle.lexer.specs.Tokens.{Token}
 use Rattle.grammar.specs.Descent.{read, row}
 

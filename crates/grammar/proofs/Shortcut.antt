@@ -3,8 +3,8 @@ use Rattle.std.proofs.Common.{◌≡◌, ℕ, zero, suc, ◌+◌, ◌-◌, ◌�
 use Rattle.std.specs.Prelude.{nat_le}
 use Rattle.std.proofs.lemmas.Bool.Decides.{leb_tells}
 use Rattle.lexer.specs.Tokens.{Token}
-use Rattle.grammar.specs.declared.expressions.Row.{Row}
-use Rattle.grammar.specs.declared.expressions.Row.TheVariants.{Negated}
+use Rattle.grammar.specs.declared.parts.Row.{Row}
+use Rattle.grammar.specs.declared.parts.Row.TheVariants.{Negated}
 use Rattle.grammar.specs.Tree.{Operator, either, both, equal, not_equal, less, greater, less_equal, greater_equal, within, not_within, add, subtract, multiply, divide, remainder, negation}
 use Rattle.grammar.specs.Front.{Next, operator, dot_next, index_next, call_next, if_next, assign_next, nothing, next}
 use Rattle.grammar.specs.Reading.{Parse, then_read}

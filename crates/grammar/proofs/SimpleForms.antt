@@ -1,6 +1,6 @@
 -- Statements without a head, with a limit on the depth.
 use Rattle.std.proofs.Common.{◌≡◌, ℕ, ◌<◌, ◌≤◌, List, [], ◌∷◌, Option, Some, None, refl, sym, ap, subst, arith}
-use Rattle.grammar.specs.declared.expressions.Row.TheVariants.{Whole}
+use Rattle.grammar.specs.declared.parts.Row.TheVariants.{Whole}
 use Rattle.lexer.specs.declared.token.Word.TheVariants.{And, Break, Continue, Def, Elif, Else, For, If, In, Load, Not, Or, Pass, Reserved, Return}
 use Rattle.lexer.specs.declared.token.Mark.TheVariants.{Comma, Assign, AddAssign}
 use Rattle.lexer.specs.Tokens.{Token, name, number, string, word, mark}

@@ -1,6 +1,6 @@
 -- What is read of all tokens of a line, with a limit on the depth, is the tree of their expression.
 use Rattle.std.proofs.Common.{◌≡◌, ℕ, ◌<◌, ◌≤◌, List, [], ◌∷◌, Option, Some, None, refl, sym, ap, subst, arith, length, inl, inr, ◌⊎◌}
-use Rattle.grammar.specs.declared.expressions.Row.TheVariants.{Whole}
+use Rattle.grammar.specs.declared.parts.Row.TheVariants.{Whole}
 use Rattle.lexer.specs.Tokens.{Token}
 use Rattle.grammar.specs.Tree.{Expr}
 use Rattle.grammar.specs.Depth.{depth}

@@ -4,7 +4,7 @@ use Rattle.std.specs.declared.alloc.Global.{Global}
 use denote.Ref.{MutBor}
 use Rattle.lexer.specs.Tokens.{Token}
 use Rattle.std.specs.Prelude.{List}
-use Rattle.grammar.specs.declared.expressions.Row.{Row}
+use Rattle.grammar.specs.declared.parts.Row.{Row}
 use Rattle.grammar.specs.declared.parts.Part as part
 use Rattle.grammar.specs.declared.parts.Several as several
 use Rattle.grammar.specs.declared.parts.Pairs as pairs

@@ -1,12 +1,12 @@
--- Reading an expression that is at most so deep: the tree without brackets alone, with its depth. A part that would be
--- too deep is refused before it is read.
+-- Reading an expression that is at most so deep: the tree without brackets alone, with its depth. What begins with a sign
+-- or a bracket is refused before it is read where it would be too deep, all else once its parts are read.
 use Rattle.std.specs.Prelude.{ℕ, zero, suc, ◌+◌, ◌-◌, max, Bool, true, false, ◌&&◌, ◌==◌, nat_lt, nat_le, List, [], ◌∷◌, ◌++◌, length, Option, Some, None}
 use Rattle.lexer.specs.declared.layout.Bracket.{Bracket}
 use Rattle.lexer.specs.declared.layout.Bracket.TheVariants.{Round, Square, Curly}
 use Rattle.grammar.specs.declared.ahead.Suffix.{Suffix}
 use Rattle.grammar.specs.declared.ahead.Suffix.TheVariants as suffix
-use Rattle.grammar.specs.declared.expressions.Row.{Row}
-use Rattle.grammar.specs.declared.expressions.Row.TheVariants.{Whole, Operand, Negated, Opposed}
+use Rattle.grammar.specs.declared.parts.Row.{Row}
+use Rattle.grammar.specs.declared.parts.Row.TheVariants.{Whole, Operand, Negated, Opposed}
 use Rattle.lexer.specs.Tokens.{Token}
 use Rattle.grammar.specs.Tree.{Operator, Sign, negation, opposite}
 use Rattle.grammar.specs.Bare.{Tree, named, numeral, quoted, tuple, listing, dict, choice, operates, turned, selects, subscript, invokes, each, each_entry, Rest, for_each, only_if}

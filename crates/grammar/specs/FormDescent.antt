@@ -3,7 +3,7 @@ use Rattle.std.specs.Prelude.{ℕ, zero, suc, ◌-◌, Bool, true, false, List, 
 use Rattle.lexer.specs.declared.token.Word.TheVariants.{And, Break, Continue, Def, Elif, Else, For, If, In, Load, Or, Pass, Reserved, Return}
 use Rattle.lexer.specs.declared.token.Mark.TheVariants.{OpenParen, Assign, AddAssign}
 use Rattle.lexer.specs.declared.layout.Bracket.TheVariants.{Round}
-use Rattle.grammar.specs.declared.expressions.Row.TheVariants.{Whole}
+use Rattle.grammar.specs.declared.parts.Row.TheVariants.{Whole}
 use Rattle.grammar.specs.declared.ahead.Opening.{Opening}
 use Rattle.grammar.specs.declared.ahead.Opening.TheVariants as o
 use Rattle.lexer.specs.Tokens.{Token, word, mark}

@@ -17,11 +17,8 @@ pub mod LineExpression
 pub mod BlockReading
 pub mod BareLines
 pub mod BareDepth
-pub mod Outlines
 pub mod Built
 pub mod LineView
-pub mod BuiltView
 pub mod FormDescent
 pub mod LineForm
-pub mod FormView
 pub mod StatementFault

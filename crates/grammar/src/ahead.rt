@@ -18,7 +18,7 @@ use std::marker::Model;
 
 /// Why a line was not read.
 #[derive(Clone, Copy, PartialEq, Eq, Debug)]
-pub(crate) enum Stop {
+pub enum Stop {
     /// It has no form, or one with an expression that is too deep.
     NoForm,
     /// Memory was refused.
@@ -49,15 +49,18 @@ impl<T: Drop> From<AllocFailed<T>> for Stop {
 
 /// How an expression goes on.
 #[derive(Clone, Copy, PartialEq, Eq, Debug)]
-pub(crate) enum Suffix {
+pub enum Suffix {
+    /// `.`.
     Attribute,
+    /// `[`.
     Index,
+    /// `(`.
     Call,
 }
 
 /// How a line begins, where that is with a word that begins no expression.
 #[derive(Clone, Copy, PartialEq, Eq, Debug)]
-pub(crate) enum Opening {
+pub enum Opening {
     Load,
     Def,
     If,
@@ -103,7 +106,7 @@ fn names_to<'l>(
 
 /// How a clause of a comprehension begins.
 #[derive(Drop)]
-pub(crate) enum Head {
+pub enum Head {
     /// With `for`, its first name, its others, and `in`.
     For(Text, Vec<Text>),
     /// With `if`.
@@ -180,7 +183,7 @@ fn operator_in(tokens: &[Token]) -> Option<(Operator, &[Token])>
 
 /// The tokens of a line from one of them on. A clause sees their list.
 #[derive(Drop)]
-pub(crate) struct Ahead<'l> {
+pub struct Ahead<'l> {
     lines: &'l Lines<'l>,
     tokens: &'l [Token],
 }
@@ -196,20 +199,22 @@ impl<'l> Model for Ahead<'l> {
 }
 
 impl<'l> Ahead<'l> {
-    pub(crate) fn new(lines: &'l Lines<'l>, tokens: &'l [Token]) -> Ahead<'l>
+    /// These tokens of a line.
+    pub fn new(lines: &'l Lines<'l>, tokens: &'l [Token]) -> Ahead<'l>
         ensures { result ≡ tokens_seen lines.now.text tokens.now }
     {
         Ahead { lines, tokens }
     }
 
-    pub(crate) fn len(&self) -> usize
+    /// How many tokens are left.
+    pub fn len(&self) -> usize
         ensures { result ≡ length self.now }
     {
         self.tokens.len()
     }
 
     /// Whether nothing is left.
-    pub(crate) fn is_done(&self) -> bool
+    pub fn is_done(&self) -> bool
         ensures { result ≡ is_done self.now }
     {
         let [_, ..] = self.tokens else {
@@ -220,7 +225,7 @@ impl<'l> Ahead<'l> {
 
     /// Passes a comma by, if it comes next.
     #[tactic(auto, unfolding(crate::specs::Front::behind_comma))]
-    pub(crate) fn comma(&mut self) -> bool
+    pub fn comma(&mut self) -> bool
         ensures { Passes (behind_comma self.old) result self.old self.new }
     {
         let [first, rest @ ..] = self.tokens else {
@@ -237,7 +242,7 @@ impl<'l> Ahead<'l> {
 
     /// Passes a colon by.
     #[tactic(auto, unfolding(crate::specs::Front::behind_colon))]
-    pub(crate) fn colon(&mut self) -> bool
+    pub fn colon(&mut self) -> bool
         ensures { Passes (behind_colon self.old) result self.old self.new }
     {
         let [first, rest @ ..] = self.tokens else {
@@ -254,7 +259,7 @@ impl<'l> Ahead<'l> {
 
     /// Passes `else` by.
     #[tactic(auto, unfolding(crate::specs::Front::behind_else))]
-    pub(crate) fn else_word(&mut self) -> bool
+    pub fn else_word(&mut self) -> bool
         ensures { Passes (behind_else self.old) result self.old self.new }
     {
         let [first, rest @ ..] = self.tokens else {
@@ -271,7 +276,7 @@ impl<'l> Ahead<'l> {
 
     /// Passes `if` by.
     #[tactic(auto, unfolding(crate::specs::Ahead::behind_if))]
-    pub(crate) fn if_word(&mut self) -> bool
+    pub fn if_word(&mut self) -> bool
         ensures { Passes (behind_if self.old) result self.old self.new }
     {
         let [first, rest @ ..] = self.tokens else {
@@ -288,7 +293,7 @@ impl<'l> Ahead<'l> {
 
     /// Passes `not` by.
     #[tactic(auto, unfolding(crate::specs::Ahead::behind_not))]
-    pub(crate) fn not_word(&mut self) -> bool
+    pub fn not_word(&mut self) -> bool
         ensures { Passes (behind_not self.old) result self.old self.new }
     {
         let [first, rest @ ..] = self.tokens else {
@@ -305,7 +310,7 @@ impl<'l> Ahead<'l> {
 
     /// Passes `-` by.
     #[tactic(auto, unfolding(crate::specs::Ahead::behind_minus))]
-    pub(crate) fn minus(&mut self) -> bool
+    pub fn minus(&mut self) -> bool
         ensures { Passes (behind_minus self.old) result self.old self.new }
     {
         let [first, rest @ ..] = self.tokens else {
@@ -323,7 +328,7 @@ impl<'l> Ahead<'l> {
     /// Whether a token comes next that is no operator between two parts, or none at all. Where it answers that there may be
     /// one, only time is lost.
     #[tactic(auto, unfolding(crate::specs::Front::next))]
-    pub(crate) fn ends_here(&self) -> bool
+    pub fn ends_here(&self) -> bool
         ensures { result ≡ true → Ends self.now }
     {
         let [first, ..] = self.tokens else {
@@ -342,7 +347,7 @@ impl<'l> Ahead<'l> {
 
     /// Takes an operator of this level, of which `not in` has two tokens.
     #[tactic(auto, unfolding(crate::specs::Front::next))]
-    pub(crate) fn operator(&mut self, level: usize) -> Option<Operator>
+    pub fn operator(&mut self, level: usize) -> Option<Operator>
         ensures { Takes operator_seen (operator_at level self.old) result self.old self.new }
     {
         let (operator, behind) = operator_in(self.tokens)?;
@@ -355,7 +360,7 @@ impl<'l> Ahead<'l> {
 
     /// Takes how an expression goes on.
     #[tactic(auto, unfolding(crate::specs::Ahead::suffix_at))]
-    pub(crate) fn suffix(&mut self) -> Option<Suffix>
+    pub fn suffix(&mut self) -> Option<Suffix>
         ensures { Takes (λ s. s) (suffix_at self.old) result self.old self.new }
     {
         let [first, rest @ ..] = self.tokens else {
@@ -373,7 +378,7 @@ impl<'l> Ahead<'l> {
 
     /// Takes an opening bracket.
     #[tactic(auto, unfolding(crate::specs::Ahead::bracket_at))]
-    pub(crate) fn bracket(&mut self) -> Option<Bracket>
+    pub fn bracket(&mut self) -> Option<Bracket>
         ensures { Takes (λ b. b) (bracket_at self.old) result self.old self.new }
     {
         let [first, rest @ ..] = self.tokens else {
@@ -391,7 +396,7 @@ impl<'l> Ahead<'l> {
 
     /// Passes the bracket by that closes one of this kind.
     #[tactic(auto, unfolding(crate::specs::Front::behind_close))]
-    pub(crate) fn close(&mut self, bracket: Bracket) -> bool
+    pub fn close(&mut self, bracket: Bracket) -> bool
         ensures { Passes (behind_close bracket self.old) result self.old self.new }
     {
         let [first, rest @ ..] = self.tokens else {
@@ -410,7 +415,7 @@ impl<'l> Ahead<'l> {
 
     /// Takes a name.
     #[tactic(auto, unfolding(crate::specs::Front::name_at))]
-    pub(crate) fn name(&mut self) -> Option<&'l str>
+    pub fn name(&mut self) -> Option<&'l str>
         ensures { Takes (λ s. s.now) (name_at self.old) result self.old self.new }
     {
         let [first, rest @ ..] = self.tokens else {
@@ -427,7 +432,7 @@ impl<'l> Ahead<'l> {
 
     /// Takes a name and the `=` behind it.
     #[tactic(auto, unfolding(crate::specs::Ahead::named_at))]
-    pub(crate) fn named(&mut self) -> Option<&'l str>
+    pub fn named(&mut self) -> Option<&'l str>
         ensures { Takes (λ s. s.now) (named_at self.old) result self.old self.new }
     {
         let [first, second, rest @ ..] = self.tokens else {
@@ -444,7 +449,7 @@ impl<'l> Ahead<'l> {
 
     /// Takes a number.
     #[tactic(auto, unfolding(crate::specs::Ahead::number_at))]
-    pub(crate) fn number(&mut self) -> Option<u64>
+    pub fn number(&mut self) -> Option<u64>
         ensures { Takes (λ n. n) (number_at self.old) result self.old self.new }
     {
         let [first, rest @ ..] = self.tokens else {
@@ -461,7 +466,7 @@ impl<'l> Ahead<'l> {
 
     /// Takes a string: its body, with its escapes as they are written.
     #[tactic(auto, unfolding(crate::specs::Ahead::string_at))]
-    pub(crate) fn string(&mut self) -> Option<&'l str>
+    pub fn string(&mut self) -> Option<&'l str>
         ensures body { Takes (λ s. unescaped s.now) (string_at self.old) result self.old self.new }
         ensures ascii { IfSome result (λ s. IsAscii s.now) }
     {
@@ -479,7 +484,7 @@ impl<'l> Ahead<'l> {
 
     /// Whether `for` comes next.
     #[tactic(auto, unfolding(crate::specs::Front::is_for))]
-    pub(crate) fn is_for(&self) -> bool
+    pub fn is_for(&self) -> bool
         ensures { result ≡ is_for self.now }
     {
         let [first, ..] = self.tokens else {
@@ -493,7 +498,7 @@ impl<'l> Ahead<'l> {
 
     /// Takes how a clause of a comprehension begins.
     #[tactic(auto, unfolding(crate::specs::Front::head_at))]
-    pub(crate) fn head(&mut self, alloc: Global) -> Result<Head, AllocError>
+    pub fn head(&mut self, alloc: Global) -> Result<Head, AllocError>
         ensures { IfOk result (λ h. HasHead (head_at self.old) h self.old self.new) }
     {
         let [first, rest @ ..] = self.tokens else {
@@ -526,7 +531,7 @@ impl<'l> Ahead<'l> {
 
     /// Takes how the line begins, where that is with a word that begins no expression.
     #[tactic(auto, unfolding(crate::specs::FormDescent::opening_at))]
-    pub(crate) fn opening(&mut self) -> Option<Opening>
+    pub fn opening(&mut self) -> Option<Opening>
         ensures { Takes (λ o. o) (opening_at self.old) result self.old self.new }
     {
         let [first, rest @ ..] = self.tokens else {
@@ -552,7 +557,7 @@ impl<'l> Ahead<'l> {
 
     /// Passes `=` by.
     #[tactic(auto, unfolding(crate::specs::FormDescent::behind_assign))]
-    pub(crate) fn assign(&mut self) -> bool
+    pub fn assign(&mut self) -> bool
         ensures { Passes (behind_assign self.old) result self.old self.new }
     {
         let [first, rest @ ..] = self.tokens else {
@@ -569,7 +574,7 @@ impl<'l> Ahead<'l> {
 
     /// Passes `+=` by.
     #[tactic(auto, unfolding(crate::specs::FormDescent::behind_add))]
-    pub(crate) fn add_assign(&mut self) -> bool
+    pub fn add_assign(&mut self) -> bool
         ensures { Passes (behind_add self.old) result self.old self.new }
     {
         let [first, rest @ ..] = self.tokens else {
@@ -586,7 +591,7 @@ impl<'l> Ahead<'l> {
 
     /// Passes `(` by.
     #[tactic(auto, unfolding(crate::specs::FormDescent::behind_open))]
-    pub(crate) fn open_round(&mut self) -> bool
+    pub fn open_round(&mut self) -> bool
         ensures { Passes (behind_open self.old) result self.old self.new }
     {
         let [first, rest @ ..] = self.tokens else {
@@ -602,7 +607,7 @@ impl<'l> Ahead<'l> {
     }
 
     /// Takes the names behind commas up to `=`.
-    pub(crate) fn names_to(&mut self, alloc: Global) -> Result<Option<Vec<Text>>, AllocError>
+    pub fn names_to(&mut self, alloc: Global) -> Result<Option<Vec<Text>>, AllocError>
         ensures { IfOk result (λ r. Takes (λ v. v.items) (names_to self.old) r self.old self.new) }
     {
         match names_to(alloc, self.lines, self.tokens)? {
@@ -615,7 +620,7 @@ impl<'l> Ahead<'l> {
     }
 
     /// Takes the names behind commas up to `in`.
-    pub(crate) fn names_in(&mut self, alloc: Global) -> Result<Option<Vec<Text>>, AllocError>
+    pub fn names_in(&mut self, alloc: Global) -> Result<Option<Vec<Text>>, AllocError>
         ensures { IfOk result (λ r. Takes (λ v. v.items) (names_in self.old) r self.old self.new) }
     {
         match names_in(alloc, self.lines, self.tokens)? {

@@ -14,17 +14,11 @@ ghost use Rattle.grammar.specs.Bare.{bare};
 ghost use Rattle.grammar.specs.BareLines.{bare_lines};
 ghost use Rattle.grammar.specs.Built.{built, made_lines};
 ghost use Rattle.grammar.specs.BareDepth.{tree_depth, lines_depth};
-ghost use Rattle.grammar.specs.Outlines.{outline_of, pass, place_of, top_level};
 
 /// What is read of the logical lines of a file is its tree, and what has a tree is read.
 pub fn files_are_read()
     ensures sound { (p : Place) (lines : List (List Placed)) (b : Block) → file_reads p (map laid lines) ≡ Ok b → SpellsFile p lines b }
     ensures complete { (p : Place) (lines : List (List Placed)) (b : Block) → SpellsFile p lines b → file_reads p (map laid lines) ≡ Ok b }
-{}
-
-/// The outlines of logical lines tell at which of them a file is refused.
-pub fn outlines_tell_the_fault()
-    ensures { (p : Place) (lines : List Laid) (n : ℕ) → (file_reads p lines ≡ Err n) ↔ (pass (map outline_of lines) (top_level (place_of p) ∷ []) ≡ Err n) }
 {}
 
 /// The logical lines of a text are refused at the first line with which they no longer begin a file.

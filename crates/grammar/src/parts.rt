@@ -1,4 +1,7 @@
 //! Parts of an expression, each with its depth, and what is made of them.
+//!
+//! Each function that makes a part is given room: how deep it may be. It answers [`Stop::NoForm`] where the part would be
+//! deeper, and [`Stop::NoMemory`] where memory was refused.
 
 ghost use Rattle.std.specs.Prelude.{◌≡◌, ◌∷◌, ◌++◌, [], IfOk, OnOk, true, false};
 ghost use Rattle.grammar.specs.Ahead.{Makes};
@@ -13,42 +16,55 @@ use crate::tree::{Clause, Entry, Expr, Keyword, Operator, Sign};
 use plain::Text;
 use std::alloc::{AllocError, Global};
 
+/// Which expressions may stand inside of a form.
+#[derive(Clone, Copy)]
+pub enum Row {
+    /// Any.
+    Whole,
+    /// Any but a conditional.
+    Operand,
+    /// What may stand behind `not`.
+    Negated,
+    /// What may stand behind `-`.
+    Opposed,
+}
+
 /// An expression, how deep it is, and whether it is a name or an index as it is written, to which can be assigned.
 #[derive(Drop)]
-pub(crate) struct Part {
-    pub(crate) expr: Expr,
-    pub(crate) depth: usize,
-    pub(crate) is_target: bool,
+pub struct Part {
+    pub expr: Expr,
+    pub depth: usize,
+    pub is_target: bool,
 }
 
 /// Several expressions, and the depth of the deepest.
 #[derive(Drop)]
-pub(crate) struct Several {
-    pub(crate) items: Vec<Expr>,
-    pub(crate) depth: usize,
+pub struct Several {
+    pub items: Vec<Expr>,
+    pub depth: usize,
 }
 
 /// Entries of a dict, and the depth of the deepest key or value.
 #[derive(Drop)]
-pub(crate) struct Pairs {
-    pub(crate) entries: Vec<Entry>,
-    pub(crate) depth: usize,
+pub struct Pairs {
+    pub entries: Vec<Entry>,
+    pub depth: usize,
 }
 
 /// The arguments of a call, and whether those with names come last.
 #[derive(Drop)]
-pub(crate) struct Arguments {
-    pub(crate) items: Vec<Expr>,
-    pub(crate) named: Vec<Keyword>,
-    pub(crate) depth: usize,
-    pub(crate) in_order: bool,
+pub struct Arguments {
+    pub items: Vec<Expr>,
+    pub named: Vec<Keyword>,
+    pub depth: usize,
+    pub in_order: bool,
 }
 
 /// The clauses of a comprehension.
 #[derive(Drop)]
-pub(crate) struct Conditions {
-    pub(crate) clauses: Vec<Clause>,
-    pub(crate) depth: usize,
+pub struct Conditions {
+    pub clauses: Vec<Clause>,
+    pub depth: usize,
 }
 
 /// A tree over parts of this depth, where the depth leaves room for one more.
@@ -66,26 +82,34 @@ fn over(expr: Expr, depth: usize, is_target: bool, room: usize) -> Result<Part, 
     }
 }
 
-pub(crate) fn name(alloc: Global, name: &str, room: usize) -> Result<Part, Stop>
+/// A name, where there is room.
+#[inline(never)]
+pub fn name(alloc: Global, name: &str, room: usize) -> Result<Part, Stop>
     ensures { Makes part_seen (spec.over room true (bare.named name.now) 0) result }
 {
     let name = Text::new(alloc, name)?;
     over(tree::name(name), 0, true, room)
 }
 
-pub(crate) fn number(value: u64, room: usize) -> Result<Part, Stop>
+/// A number.
+#[inline(never)]
+pub fn number(value: u64, room: usize) -> Result<Part, Stop>
     ensures { Makes part_seen (spec.over room false (bare.numeral value) 0) result }
 {
     over(tree::number(value), 0, false, room)
 }
 
-pub(crate) fn string(text: Text, room: usize) -> Result<Part, Stop>
+/// A string.
+#[inline(never)]
+pub fn string(text: Text, room: usize) -> Result<Part, Stop>
     ensures { Makes part_seen (spec.over room false (bare.quoted text) 0) result }
 {
     over(tree::string(text), 0, false, room)
 }
 
-pub(crate) fn operated(
+/// An operator between two parts.
+#[inline(never)]
+pub fn operated(
     alloc: Global,
     operator: Operator,
     left: Part,
@@ -99,20 +123,16 @@ pub(crate) fn operated(
     over(expr, depth, false, room)
 }
 
-pub(crate) fn signed(alloc: Global, sign: Sign, operand: Part, room: usize) -> Result<Part, Stop>
+/// A part with an operator before it.
+pub fn signed(alloc: Global, sign: Sign, operand: Part, room: usize) -> Result<Part, Stop>
     ensures { Makes part_seen (spec.signed_part room (sign_seen sign) (part_seen operand)) result }
 {
     let expr = tree::unary(alloc, sign, operand.expr)?;
     over(expr, operand.depth, false, room)
 }
 
-pub(crate) fn chosen(
-    alloc: Global,
-    then: Part,
-    test: Part,
-    other: Part,
-    room: usize,
-) -> Result<Part, Stop>
+/// A conditional, with its parts in the order of the text.
+pub fn chosen(alloc: Global, then: Part, test: Part, other: Part, room: usize) -> Result<Part, Stop>
     ensures { Makes part_seen (spec.chosen room (part_seen then) (part_seen test) (part_seen other)) result }
 {
     let depth = then.depth.max(test.depth.max(other.depth));
@@ -120,7 +140,9 @@ pub(crate) fn chosen(
     over(expr, depth, false, room)
 }
 
-pub(crate) fn selected(alloc: Global, of: Part, name: &str, room: usize) -> Result<Part, Stop>
+/// A field.
+#[inline(never)]
+pub fn selected(alloc: Global, of: Part, name: &str, room: usize) -> Result<Part, Stop>
     ensures { Makes part_seen (spec.selected room (part_seen of) name.now) result }
 {
     let name = Text::new(alloc, name)?;
@@ -128,7 +150,9 @@ pub(crate) fn selected(alloc: Global, of: Part, name: &str, room: usize) -> Resu
     over(expr, of.depth, false, room)
 }
 
-pub(crate) fn subscripted(alloc: Global, of: Part, at: Part, room: usize) -> Result<Part, Stop>
+/// An index.
+#[inline(never)]
+pub fn subscripted(alloc: Global, of: Part, at: Part, room: usize) -> Result<Part, Stop>
     ensures { Makes part_seen (spec.subscripted room (part_seen of) (part_seen at)) result }
 {
     let depth = of.depth.max(at.depth);
@@ -136,12 +160,9 @@ pub(crate) fn subscripted(alloc: Global, of: Part, at: Part, room: usize) -> Res
     over(expr, depth, true, room)
 }
 
-pub(crate) fn called(
-    alloc: Global,
-    callee: Part,
-    arguments: Arguments,
-    room: usize,
-) -> Result<Part, Stop>
+/// A call.
+#[inline(never)]
+pub fn called(alloc: Global, callee: Part, arguments: Arguments, room: usize) -> Result<Part, Stop>
     ensures { Makes part_seen (spec.called room (part_seen callee) (arguments_seen arguments)) result }
 {
     let depth = callee.depth.max(arguments.depth);
@@ -149,25 +170,29 @@ pub(crate) fn called(
     over(expr, depth, false, room)
 }
 
-pub(crate) fn tuple(several: Several, room: usize) -> Result<Part, Stop>
+/// A tuple.
+pub fn tuple(several: Several, room: usize) -> Result<Part, Stop>
     ensures { Makes part_seen (spec.tuple_part room (several_seen several)) result }
 {
     over(tree::tuple(several.items), several.depth, false, room)
 }
 
-pub(crate) fn list(several: Several, room: usize) -> Result<Part, Stop>
+/// A list.
+pub fn list(several: Several, room: usize) -> Result<Part, Stop>
     ensures { Makes part_seen (spec.list_part room (several_seen several)) result }
 {
     over(tree::list_of(several.items), several.depth, false, room)
 }
 
-pub(crate) fn dict(found: Pairs, room: usize) -> Result<Part, Stop>
+/// A dict.
+pub fn dict(found: Pairs, room: usize) -> Result<Part, Stop>
     ensures { Makes part_seen (spec.dict_part room (pairs_seen found)) result }
 {
     over(tree::dict_of(found.entries), found.depth, false, room)
 }
 
-pub(crate) fn list_each(
+/// A list comprehension.
+pub fn list_each(
     alloc: Global,
     element: Part,
     conditions: Conditions,
@@ -180,7 +205,8 @@ pub(crate) fn list_each(
     over(expr, depth, false, room)
 }
 
-pub(crate) fn dict_each(
+/// A dict comprehension.
+pub fn dict_each(
     alloc: Global,
     entry: (Part, Part),
     conditions: Conditions,
@@ -194,7 +220,8 @@ pub(crate) fn dict_each(
     over(expr, depth, false, room)
 }
 
-pub(crate) fn bracketed(part: Part) -> Part
+/// What stands alone in brackets: it is no target.
+pub fn bracketed(part: Part) -> Part
     ensures { part_seen result ≡ spec.bracketed (part_seen part) }
 {
     Part {
@@ -204,7 +231,8 @@ pub(crate) fn bracketed(part: Part) -> Part
     }
 }
 
-pub(crate) fn no_items(alloc: Global) -> Several
+/// No expressions yet.
+pub fn no_items(alloc: Global) -> Several
     ensures { several_seen result ≡ spec.no_items }
 {
     Several {
@@ -224,7 +252,8 @@ fn add_item(items: &mut Vec<Expr>, item: Expr) -> Result<(), AllocError>
     Ok(())
 }
 
-pub(crate) fn with_item(several: Several, part: Part) -> Result<Several, AllocError>
+/// One expression more.
+pub fn with_item(several: Several, part: Part) -> Result<Several, AllocError>
     ensures { IfOk result (λ s. several_seen s ≡ spec.with_item (several_seen several) (part_seen part)) }
 {
     let depth = several.depth.max(part.depth);
@@ -233,7 +262,8 @@ pub(crate) fn with_item(several: Several, part: Part) -> Result<Several, AllocEr
     Ok(Several { items, depth })
 }
 
-pub(crate) fn no_pairs(alloc: Global) -> Pairs
+/// No entries yet.
+pub fn no_pairs(alloc: Global) -> Pairs
     ensures { pairs_seen result ≡ spec.no_pairs }
 {
     Pairs {
@@ -242,7 +272,8 @@ pub(crate) fn no_pairs(alloc: Global) -> Pairs
     }
 }
 
-pub(crate) fn with_pair(found: Pairs, pair: (Part, Part)) -> Result<Pairs, AllocError>
+/// One entry more.
+pub fn with_pair(found: Pairs, pair: (Part, Part)) -> Result<Pairs, AllocError>
     ensures { IfOk result (λ s. pairs_seen s ≡ spec.with_pair (pairs_seen found) (pair_seen pair)) }
 {
     let (key, value) = pair;
@@ -255,7 +286,8 @@ pub(crate) fn with_pair(found: Pairs, pair: (Part, Part)) -> Result<Pairs, Alloc
     Ok(Pairs { entries, depth })
 }
 
-pub(crate) fn no_arguments(alloc: Global) -> Arguments
+/// No arguments yet.
+pub fn no_arguments(alloc: Global) -> Arguments
     ensures { arguments_seen result ≡ spec.no_arguments }
 {
     Arguments {
@@ -266,7 +298,8 @@ pub(crate) fn no_arguments(alloc: Global) -> Arguments
     }
 }
 
-pub(crate) fn with_positional(arguments: Arguments, part: Part) -> Result<Arguments, AllocError>
+/// One positional argument more.
+pub fn with_positional(arguments: Arguments, part: Part) -> Result<Arguments, AllocError>
     ensures { IfOk result (λ s. arguments_seen s ≡ spec.with_argument (arguments_seen arguments) (spec.positional (part_seen part))) }
 {
     let depth = arguments.depth.max(part.depth);
@@ -281,11 +314,8 @@ pub(crate) fn with_positional(arguments: Arguments, part: Part) -> Result<Argume
     })
 }
 
-pub(crate) fn with_keyword(
-    arguments: Arguments,
-    name: Text,
-    part: Part,
-) -> Result<Arguments, AllocError>
+/// One argument with a name more.
+pub fn with_keyword(arguments: Arguments, name: Text, part: Part) -> Result<Arguments, AllocError>
     ensures { IfOk result (λ s. arguments_seen s ≡ spec.with_argument (arguments_seen arguments) (spec.keyword name (part_seen part))) }
 {
     let depth = arguments.depth.max(part.depth);
@@ -302,7 +332,8 @@ pub(crate) fn with_keyword(
     })
 }
 
-pub(crate) fn no_conditions(alloc: Global) -> Conditions
+/// No clauses yet.
+pub fn no_conditions(alloc: Global) -> Conditions
     ensures { conditions_seen result ≡ spec.no_conditions }
 {
     Conditions {
@@ -311,7 +342,8 @@ pub(crate) fn no_conditions(alloc: Global) -> Conditions
     }
 }
 
-pub(crate) fn with_for(
+/// A `for` clause more, with its first name and its others.
+pub fn with_for(
     found: Conditions,
     first: Text,
     others: Vec<Text>,
@@ -325,7 +357,8 @@ pub(crate) fn with_for(
     Ok(Conditions { clauses, depth })
 }
 
-pub(crate) fn with_if(found: Conditions, part: Part) -> Result<Conditions, AllocError>
+/// An `if` clause more.
+pub fn with_if(found: Conditions, part: Part) -> Result<Conditions, AllocError>
     ensures { IfOk result (λ s. conditions_seen s ≡ spec.with_if (conditions_seen found) (part_seen part)) }
 {
     let depth = found.depth.max(part.depth);

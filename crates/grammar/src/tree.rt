@@ -12,6 +12,10 @@ ghost use Rattle.grammar.specs.TreeView.{operator_seen, sign_seen, tree_of, tree
 use plain::Text;
 use std::alloc::{AllocError, Global};
 
+/// How deep an expression may be. A name or a literal is 1 deep, each other form one more than the deepest of its
+/// parts; brackets alone add nothing.
+pub const MAX_DEPTH: usize = 200;
+
 /// An operator between two parts.
 #[derive(Clone, Copy, PartialEq, Eq, Debug)]
 pub enum Operator {
@@ -111,7 +115,7 @@ impl Drop for Expr {
 
 /// What can be assigned to.
 #[derive(Drop)]
-pub(crate) enum Target {
+pub enum Target {
     Name(Text),
     /// `BASE[INDEX]`.
     At(Box<Expr>, Box<Expr>),
@@ -119,7 +123,7 @@ pub(crate) enum Target {
 
 impl Expr {
     /// The expression as what is assigned to; None where it is neither a name nor an index.
-    pub(crate) fn into_target(self) -> Option<Target>
+    pub fn into_target(self) -> Option<Target>
         ensures { option_map target_of result ≡ target_in (tree_of self) }
     {
         match self {

@@ -15,10 +15,10 @@ use crate::program::Step;
 use crate::scope::Scope;
 use crate::steps::{Stopped, number_functions, resolve_file};
 use crate::top::{count_loaded, file_scope};
-use grammar::read_file;
 use indexmap::IndexSet;
 use lexer::{FaultKind, FileKind, ParseStop, SyntaxFault, logical_lines};
 use plain::Text;
+use statements::read_file;
 use std::alloc::Global;
 
 /// The tree of a file, with its names resolved.

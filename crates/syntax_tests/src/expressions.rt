@@ -1,5 +1,6 @@
 //! Lines that are expressions, by the form of their trees, and lines that are none.
-use grammar::{Expr, Operator, Sign, line_expression};
+use descent::line_expression;
+use grammar::{Expr, Operator, Sign};
 use lexer::logical_lines;
 use std::alloc::Global;
 use std::test::Fail;

@@ -1,5 +1,0 @@
-use Rattle.grammar.proofs.OutlinesRead.{outlines_is, outlines_as}
-use Rattle.grammar.proofs.block_laws.outlines_tell_the_fault.Goals as goal
-
-pub returns : goal.returns
-returns c p ls n = (outlines_is p ls n, outlines_as p ls n)

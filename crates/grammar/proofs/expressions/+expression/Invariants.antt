@@ -1,4 +1,0 @@
-use Rattle.grammar.proofs.expressions.+expression.Given as goal
-
-abbrev pub decreases-expression : goal.decreases-expression
-decreases-expression l = l.turns

@@ -1,7 +1,0 @@
-use Rattle.std.proofs.Common.{◌≡◌, [], ◌∷◌, drop}
-use Rattle.grammar.specs.Outlines.{top_level, pass}
-use Rattle.grammar.proofs.outline.lines_stand.Given as goal
-
--- what is left goes on as the whole does
-abbrev pub invariant-loop-i : goal.invariant-loop-i
-invariant-loop-i l = pass (drop l.i l.lines) l.blocks ≡ pass l.lines (top_level l.fn.top ∷ [])

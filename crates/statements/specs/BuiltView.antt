@@ -1,0 +1,24 @@
+-- The lines that are put into blocks, as the program has them.
+use Rattle.std.specs.Prelude.{List, map, reverse}
+use Rattle.grammar.specs.LineView.{form_of, lines}
+use Rattle.grammar.specs.Built as built
+use Rattle.statements.specs.declared.blocks.Body.{Body}
+use Rattle.statements.specs.declared.blocks.Body.TheVariants.{Nothing, Block, Statement}
+use Rattle.statements.specs.declared.blocks.Read.{Read}
+use Rattle.statements.specs.declared.blocks.Pending.{Pending}
+
+abbrev pub body_of : Body → built.Belongs
+body_of Nothing = built.nothing
+body_of Block = built.block
+body_of (Statement f) = built.statement (form_of f)
+
+abbrev pub read_of : Read → built.Made
+read_of r = record { number = r.number; column = r.column; form = form_of r.form; body = body_of r.body }
+
+-- a block has its last line first
+abbrev pub pending_of : Pending → built.Pending
+pending_of p = record { column = p.column; lines = lines (reverse p.lines.items) }
+
+-- the innermost block is the last
+abbrev pub pendings : List Pending → List built.Pending
+pendings ps = map pending_of (reverse ps)

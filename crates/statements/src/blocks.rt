@@ -1,0 +1,138 @@
+//! The blocks of a file: its lines are put into the blocks of their heads, from the last line to the first.
+
+ghost use Rattle.std.specs.Prelude.{◌≡◌, ◌∷◌, List, [], map, IfOk};
+ghost use Rattle.grammar.specs.LineView.{line_of, lines};
+ghost use Rattle.grammar.specs.Built.{around, attached, built, inner_of, innermost, left_by, put};
+ghost use Rattle.statements.specs.BuiltView.{body_of, pendings, read_of};
+
+use grammar::{Form, Line};
+use std::alloc::{AllocError, Global};
+
+/// What belongs to a line.
+#[derive(Drop)]
+pub(crate) enum Body {
+    /// Nothing, since it is no head.
+    Nothing,
+    /// The block that follows.
+    Block,
+    /// A statement on the line itself.
+    Statement(Form),
+}
+
+/// A logical line that was read.
+#[derive(Drop)]
+pub(crate) struct Read {
+    pub(crate) number: usize,
+    pub(crate) column: usize,
+    pub(crate) form: Form,
+    pub(crate) body: Body,
+}
+
+/// The lines of a block, the last one first, of which those before them aren't known yet.
+#[derive(Drop)]
+struct Pending {
+    column: usize,
+    lines: Vec<Line>,
+}
+
+/// The lines of the innermost block, from the first to the last.
+fn take_block(alloc: Global, blocks: &mut Vec<Pending>) -> Vec<Line>
+    ensures lines { lines result.items ≡ innermost (pendings blocks.old.items) }
+    ensures around { pendings blocks.new.items ≡ around (pendings blocks.old.items) }
+{
+    match blocks.pop() {
+        Some(innermost) => {
+            let mut lines = innermost.lines;
+            lines.reverse();
+            lines
+        }
+        None => Vec::new(alloc),
+    }
+}
+
+/// A block of which the last line is known.
+fn begun(alloc: Global, column: usize, line: Line) -> Result<Pending, AllocError>
+    ensures { IfOk result (λ p. (p.column ≡ column) × (p.lines.items ≡ line ∷ [])) }
+{
+    let mut lines = Vec::with_capacity(alloc, 1)?;
+    lines.push(line)?;
+    Ok(Pending { column, lines })
+}
+
+/// Puts a line before those of its column.
+fn put(
+    alloc: Global,
+    blocks: &mut Vec<Pending>,
+    column: usize,
+    line: Line,
+) -> Result<(), AllocError>
+    ensures { IfOk result (λ _. pendings blocks.new.items ≡ put column (line_of line) (pendings blocks.old.items)) }
+{
+    match blocks.pop() {
+        Some(mut innermost) => {
+            if innermost.column == column {
+                innermost.lines.push(line)?;
+                blocks.push(innermost)?;
+            } else {
+                blocks.push(innermost)?;
+                blocks.push(begun(alloc, column, line)?)?;
+            }
+        }
+        None => blocks.push(begun(alloc, column, line)?)?,
+    }
+    Ok(())
+}
+
+/// The lines that belong to a line; those of its block are taken.
+fn block_of(
+    alloc: Global,
+    number: usize,
+    body: Body,
+    blocks: &mut Vec<Pending>,
+) -> Result<Vec<Line>, AllocError>
+    ensures lines { IfOk result (λ ls. lines ls.items ≡ inner_of number (body_of body) (pendings blocks.old.items)) }
+    ensures left { IfOk result (λ _. pendings blocks.new.items ≡ left_by (body_of body) (pendings blocks.old.items)) }
+{
+    match body {
+        Body::Nothing => Ok(Vec::new(alloc)),
+        Body::Block => Ok(take_block(alloc, blocks)),
+        Body::Statement(form) => {
+            let mut lines = Vec::with_capacity(alloc, 1)?;
+            lines.push(Line {
+                number,
+                form,
+                block: Vec::new(alloc),
+            })?;
+            Ok(lines)
+        }
+    }
+}
+
+/// Puts a line before those behind it, with what belongs to it.
+fn attach(alloc: Global, blocks: &mut Vec<Pending>, read: Read) -> Result<(), AllocError>
+    ensures { IfOk result (λ _. pendings blocks.new.items ≡ attached (read_of read) (pendings blocks.old.items)) }
+{
+    let block = block_of(alloc, read.number, read.body, blocks)?;
+    let line = Line {
+        number: read.number,
+        form: read.form,
+        block,
+    };
+    put(alloc, blocks, read.column, line)
+}
+
+/// Puts the lines of a file into their blocks.
+///
+/// # Errors
+///
+/// Where memory was refused.
+pub(crate) fn file_lines(alloc: Global, reads: Vec<Read>) -> Result<Vec<Line>, AllocError>
+    ensures { IfOk result (λ ls. lines ls.items ≡ built (map read_of reads.items)) }
+{
+    let mut left = reads;
+    let mut blocks = Vec::new(alloc);
+    while let Some(read) = left.pop() {
+        attach(alloc, &mut blocks, read)?;
+    }
+    Ok(take_block(alloc, &mut blocks))
+}

@@ -1,0 +1,448 @@
+//! The form of a logical line, read by descent: its head or its simple statement, with the expressions in it.
+
+ghost use Rattle.std.specs.Prelude.{◌≡◌, ◌-◌, [], IfOk, Some, map};
+ghost use Rattle.std.specs.Option.{option_map};
+ghost use Rattle.grammar.specs.Ahead.{given, Makes, Reads, is_done, string_at, tokens_seen};
+ghost use Rattle.grammar.specs.BareLines as bare;
+ghost use Rattle.statements.specs.BuiltView.{body_of};
+ghost use Rattle.grammar.specs.Descent.{if_all, read};
+ghost use Rattle.grammar.specs.Descended.{part_seen, several_seen};
+ghost use Rattle.grammar.specs.FormDescent as spec;
+ghost use Rattle.grammar.specs.FormReading.{names_to};
+ghost use Rattle.statements.specs.FormView.{shaped_of};
+ghost use Rattle.grammar.specs.LineView.{form_of, param_of, item_of};
+ghost use Rattle.grammar.specs.TreeView.{tree_of};
+ghost use Rattle.grammar.specs.declared.parts.Row.TheVariants.{Whole};
+
+use crate::blocks::Body;
+use descent::expression;
+use grammar::ahead::{Ahead, Opening, Stop};
+use grammar::parts::{Part, Row, Several};
+use grammar::{Expr, Form, Item, MAX_DEPTH, Param, Target, parts};
+use lexer::{Bracket, Lines, NoMemory, Token, unescape};
+use plain::Text;
+use std::alloc::Global;
+
+/// Reads the parts of a line.
+#[derive(Clone, Copy)]
+struct FormReader {
+    alloc: Global,
+    /// How many expressions may be inside of one another, and how many turns a loop may make.
+    turns: usize,
+}
+
+/// What is assigned to the target, or to it and the names behind it.
+fn assigned(target: Part, names: Vec<Text>, value: Expr) -> Result<Form, Stop>
+    ensures { Makes form_of (spec.assigned (part_seen target) names.items (tree_of value)) result }
+{
+    if !target.is_target {
+        return Err(Stop::NoForm);
+    }
+    match target.expr.into_target() {
+        Some(Target::Name(name)) => Ok(Form::Assign(name, names, value)),
+        Some(Target::At(base, at)) => {
+            if names.is_empty() {
+                Ok(Form::AssignAt(base, at, value))
+            } else {
+                Err(Stop::NoForm)
+            }
+        }
+        None => Err(Stop::NoForm),
+    }
+}
+
+/// What is added to the target.
+fn increased(target: Part, value: Expr) -> Result<Form, Stop>
+    ensures { Makes form_of (spec.increased (part_seen target) (tree_of value)) result }
+{
+    if !target.is_target {
+        return Err(Stop::NoForm);
+    }
+    match target.expr.into_target() {
+        Some(Target::Name(name)) => Ok(Form::Add(name, value)),
+        Some(Target::At(base, at)) => Ok(Form::AddAt(base, at, value)),
+        None => Err(Stop::NoForm),
+    }
+}
+
+/// A form, where nothing is left of the line.
+fn alone(ahead: &Ahead<'_>, form: Form) -> Result<Form, Stop>
+    ensures { Makes form_of (given (is_done ahead.now) (form_of form)) result }
+{
+    if ahead.is_done() {
+        Ok(form)
+    } else {
+        Err(Stop::NoForm)
+    }
+}
+
+impl FormReader {
+    fn expr(&self, ahead: &mut Ahead<'_>, room: usize) -> Result<Part, Stop>
+        ensures { Reads part_seen (read self.now.turns Whole room ahead.old) result ahead.new }
+    {
+        expression(self.alloc, ahead, self.turns, Row::Whole, room)
+    }
+
+    /// An expression up to the end of the line.
+    fn last(&self, ahead: &mut Ahead<'_>) -> Result<Expr, Stop>
+        ensures { Makes tree_of (if_all (read self.now.turns Whole 200 ahead.old)) result }
+    {
+        let part = self.expr(ahead, MAX_DEPTH)?;
+        if ahead.is_done() {
+            Ok(part.expr)
+        } else {
+            Err(Stop::NoForm)
+        }
+    }
+
+    /// Expressions with commas between them, up to the end of the line, behind those that were found.
+    #[tactic(auto, unfolding(grammar::specs::FormDescent::more_values))]
+    fn more_values(&self, ahead: &mut Ahead<'_>, mut found: Several) -> Result<Several, Stop>
+        ensures { Makes several_seen (spec.more_values self.now.turns (self.now.turns - 1) (several_seen found) ahead.old) result }
+    {
+        for _turn in 0..self.turns.saturating_sub(1) {
+            let item = self.expr(ahead, MAX_DEPTH - 1)?;
+            found = parts::with_item(found, item)?;
+            if !ahead.comma() {
+                if ahead.is_done() {
+                    return Ok(found);
+                }
+                return Err(Stop::NoForm);
+            }
+        }
+        Err(Stop::NoForm)
+    }
+
+    /// Several expressions, of which the first was found, as a tuple.
+    fn values_behind(&self, ahead: &mut Ahead<'_>, first: Part) -> Result<Expr, Stop>
+        ensures { Makes tree_of (spec.value_step self.now.turns (self.now.turns - 1) (part_seen first) [] (Some ahead.old)) result }
+    {
+        let found = parts::with_item(parts::no_items(self.alloc), first)?;
+        let found = self.more_values(ahead, found)?;
+        let part = parts::tuple(found, MAX_DEPTH)?;
+        Ok(part.expr)
+    }
+
+    /// What is assigned or returned: an expression up to the end of the line, or several, which are a tuple.
+    #[tactic(auto, unfolding(grammar::specs::FormDescent::value))]
+    fn value(&self, ahead: &mut Ahead<'_>) -> Result<Expr, Stop>
+        ensures { Makes tree_of (spec.value self.now.turns ahead.old) result }
+    {
+        let first = self.expr(ahead, MAX_DEPTH)?;
+        if ahead.comma() {
+            return self.values_behind(ahead, first);
+        }
+        if ahead.is_done() {
+            Ok(first.expr)
+        } else {
+            Err(Stop::NoForm)
+        }
+    }
+
+    /// Names behind the first target, up to `=`, and what is assigned.
+    fn names_behind(&self, ahead: &mut Ahead<'_>, first: Part) -> Result<Form, Stop>
+        ensures { Makes form_of (spec.names_step self.now.turns (part_seen first) (names_to ahead.old)) result }
+    {
+        match ahead.names_to(self.alloc)? {
+            Some(names) => {
+                let value = self.value(ahead)?;
+                assigned(first, names, value)
+            }
+            None => Err(Stop::NoForm),
+        }
+    }
+
+    /// A line that begins with an expression.
+    #[tactic(auto, unfolding(grammar::specs::FormDescent::expression_line))]
+    fn expression_line(&self, ahead: &mut Ahead<'_>) -> Result<Form, Stop>
+        ensures { Makes form_of (spec.expression_line self.now.turns ahead.old) result }
+    {
+        let first = self.expr(ahead, MAX_DEPTH)?;
+        if ahead.is_done() {
+            return Ok(Form::Evaluate(first.expr));
+        }
+        if ahead.assign() {
+            let value = self.value(ahead)?;
+            return assigned(first, Vec::new(self.alloc), value);
+        }
+        if ahead.add_assign() {
+            let value = self.last(ahead)?;
+            return increased(first, value);
+        }
+        self.names_behind(ahead, first)
+    }
+
+    /// Behind `return`.
+    fn returned(&self, ahead: &mut Ahead<'_>) -> Result<Form, Stop>
+        ensures { Makes form_of (spec.return_step self.now.turns ahead.old (is_done ahead.old)) result }
+    {
+        if ahead.is_done() {
+            return Ok(Form::Return(None));
+        }
+        let value = self.value(ahead)?;
+        Ok(Form::Return(Some(value)))
+    }
+
+    /// Behind the word that a statement without a head begins with.
+    fn simple_behind(&self, opening: Opening, ahead: &mut Ahead<'_>) -> Result<Form, Stop>
+        ensures { Makes form_of (spec.simple_step self.now.turns [] (Some (opening, ahead.old))) result }
+    {
+        match opening {
+            Opening::Pass => alone(ahead, Form::Pass),
+            Opening::Break => alone(ahead, Form::Break),
+            Opening::Continue => alone(ahead, Form::Continue),
+            Opening::Return => self.returned(ahead),
+            _ => Err(Stop::NoForm),
+        }
+    }
+
+    /// A statement without a head.
+    #[tactic(auto, unfolding(grammar::specs::FormDescent::simple))]
+    fn simple(&self, ahead: &mut Ahead<'_>) -> Result<Form, Stop>
+        ensures { Makes form_of (spec.simple self.now.turns ahead.old) result }
+    {
+        match ahead.opening() {
+            Some(opening) => self.simple_behind(opening, ahead),
+            None => self.expression_line(ahead),
+        }
+    }
+
+    /// The `:` of a head, and what is behind it.
+    #[tactic(auto, unfolding(grammar::specs::FormDescent::body))]
+    fn body(&self, ahead: &mut Ahead<'_>) -> Result<Body, Stop>
+        ensures { Makes body_of (spec.body self.now.turns ahead.old) result }
+    {
+        if !ahead.colon() {
+            return Err(Stop::NoForm);
+        }
+        if ahead.is_done() {
+            return Ok(Body::Block);
+        }
+        let form = self.simple(ahead)?;
+        Ok(Body::Statement(form))
+    }
+
+    /// A head with its body.
+    fn bodied(&self, ahead: &mut Ahead<'_>, form: Form) -> Result<(Form, Body), Stop>
+        ensures { Makes shaped_of (spec.bodied self.now.turns (form_of form) (spec.body self.now.turns ahead.old)) result }
+    {
+        let body = self.body(ahead)?;
+        Ok((form, body))
+    }
+
+    /// A parameter, with its default if it has one.
+    #[tactic(auto, unfolding(grammar::specs::FormDescent::param))]
+    fn param(&self, ahead: &mut Ahead<'_>) -> Result<Param, Stop>
+        ensures { Reads param_of (spec.param self.now.turns ahead.old) result ahead.new }
+    {
+        let Some(name) = ahead.name() else {
+            return Err(Stop::NoForm);
+        };
+        let name = Text::new(self.alloc, name)?;
+        if !ahead.assign() {
+            return Ok(Param::Required(name));
+        }
+        let default = self.expr(ahead, MAX_DEPTH)?;
+        Ok(Param::Optional(name, default.expr))
+    }
+
+    /// The parameters of a function, up to the closing bracket.
+    #[tactic(auto, unfolding(grammar::specs::FormDescent::params, grammar::specs::Descent::gather))]
+    fn params(&self, ahead: &mut Ahead<'_>) -> Result<Vec<Param>, Stop>
+        ensures { Reads (λ ps. map param_of ps.items) (spec.params self.now.turns ahead.old) result ahead.new }
+    {
+        let mut found = Vec::new(self.alloc);
+        for _turn in 0..self.turns {
+            if ahead.close(Bracket::Round) {
+                return Ok(found);
+            }
+            let param = self.param(ahead)?;
+            found.push(param)?;
+            if ahead.close(Bracket::Round) {
+                return Ok(found);
+            }
+            if !ahead.comma() {
+                return Err(Stop::NoForm);
+            }
+        }
+        Err(Stop::NoForm)
+    }
+
+    /// A string.
+    fn string(&self, ahead: &mut Ahead<'_>) -> Result<Text, Stop>
+        ensures { Reads (λ s. s) (string_at ahead.old) result ahead.new }
+    {
+        let Some(body) = ahead.string() else {
+            return Err(Stop::NoForm);
+        };
+        Ok(Text::from_string(unescape(self.alloc, body.as_bytes())?)?)
+    }
+
+    /// What a `load` asks for.
+    #[tactic(auto, unfolding(grammar::specs::FormDescent::item))]
+    fn item(&self, ahead: &mut Ahead<'_>) -> Result<Item, Stop>
+        ensures { Reads item_of (spec.item self.now.turns ahead.old) result ahead.new }
+    {
+        match ahead.named() {
+            Some(name) => {
+                let binds = Text::new(self.alloc, name)?;
+                let asked = self.string(ahead)?;
+                Ok(Item { binds, asked })
+            }
+            None => {
+                let asked = self.string(ahead)?;
+                let binds = asked.share()?;
+                Ok(Item { binds, asked })
+            }
+        }
+    }
+
+    /// All that a `load` asks for, up to the closing bracket.
+    #[tactic(auto, unfolding(grammar::specs::FormDescent::items, grammar::specs::Descent::gather))]
+    fn items(&self, ahead: &mut Ahead<'_>) -> Result<Vec<Item>, Stop>
+        ensures { Reads (λ is. map item_of is.items) (spec.items self.now.turns ahead.old) result ahead.new }
+    {
+        let mut found = Vec::new(self.alloc);
+        for _turn in 0..self.turns {
+            if ahead.close(Bracket::Round) {
+                return Ok(found);
+            }
+            let item = self.item(ahead)?;
+            found.push(item)?;
+            if ahead.close(Bracket::Round) {
+                return Ok(found);
+            }
+            if !ahead.comma() {
+                return Err(Stop::NoForm);
+            }
+        }
+        Err(Stop::NoForm)
+    }
+
+    /// Behind `load`.
+    #[tactic(auto, unfolding(grammar::specs::FormDescent::load_line))]
+    fn load_line(&self, ahead: &mut Ahead<'_>) -> Result<(Form, Body), Stop>
+        ensures { Makes shaped_of (spec.load_line self.now.turns ahead.old) result }
+    {
+        if !ahead.open_round() {
+            return Err(Stop::NoForm);
+        }
+        let module = self.string(ahead)?;
+        if !ahead.comma() {
+            return Err(Stop::NoForm);
+        }
+        let items = self.items(ahead)?;
+        if items.is_empty() {
+            return Err(Stop::NoForm);
+        }
+        if !ahead.is_done() {
+            return Err(Stop::NoForm);
+        }
+        Ok((Form::Load(module, items), Body::Nothing))
+    }
+
+    /// Behind `def`.
+    #[tactic(auto, unfolding(grammar::specs::FormDescent::def_line))]
+    fn def_line(&self, ahead: &mut Ahead<'_>) -> Result<(Form, Body), Stop>
+        ensures { Makes shaped_of (spec.def_line self.now.turns ahead.old) result }
+    {
+        let Some(name) = ahead.name() else {
+            return Err(Stop::NoForm);
+        };
+        let name = Text::new(self.alloc, name)?;
+        if !ahead.open_round() {
+            return Err(Stop::NoForm);
+        }
+        let params = self.params(ahead)?;
+        self.bodied(ahead, Form::Def(name, params))
+    }
+
+    /// Behind `for`.
+    #[tactic(auto, unfolding(grammar::specs::FormDescent::for_line, grammar::specs::FormDescent::headed))]
+    fn for_line(&self, ahead: &mut Ahead<'_>) -> Result<(Form, Body), Stop>
+        ensures { Makes shaped_of (spec.for_line self.now.turns ahead.old) result }
+    {
+        let Some(name) = ahead.name() else {
+            return Err(Stop::NoForm);
+        };
+        let name = Text::new(self.alloc, name)?;
+        let Some(others) = ahead.names_in(self.alloc)? else {
+            return Err(Stop::NoForm);
+        };
+        let operand = self.expr(ahead, MAX_DEPTH)?;
+        self.bodied(ahead, Form::For(name, others, operand.expr))
+    }
+
+    /// Behind `if`.
+    #[tactic(auto, unfolding(grammar::specs::FormDescent::headed))]
+    fn if_line(&self, ahead: &mut Ahead<'_>) -> Result<(Form, Body), Stop>
+        ensures { Makes shaped_of (spec.headed self.now.turns bare.if_head ahead.old) result }
+    {
+        let test = self.expr(ahead, MAX_DEPTH)?;
+        self.bodied(ahead, Form::If(test.expr))
+    }
+
+    /// Behind `elif`.
+    #[tactic(auto, unfolding(grammar::specs::FormDescent::headed))]
+    fn elif_line(&self, ahead: &mut Ahead<'_>) -> Result<(Form, Body), Stop>
+        ensures { Makes shaped_of (spec.headed self.now.turns bare.elif_head ahead.old) result }
+    {
+        let test = self.expr(ahead, MAX_DEPTH)?;
+        self.bodied(ahead, Form::Elif(test.expr))
+    }
+
+    /// Behind the word that a line begins with.
+    fn form_behind(&self, opening: Opening, ahead: &mut Ahead<'_>) -> Result<(Form, Body), Stop>
+        ensures { Makes shaped_of (spec.form_step self.now.turns [] (Some (opening, ahead.old))) result }
+    {
+        match opening {
+            Opening::Load => self.load_line(ahead),
+            Opening::Def => self.def_line(ahead),
+            Opening::If => self.if_line(ahead),
+            Opening::Elif => self.elif_line(ahead),
+            Opening::Else => self.bodied(ahead, Form::Else),
+            Opening::For => self.for_line(ahead),
+            _ => {
+                let form = self.simple_behind(opening, ahead)?;
+                Ok((form, Body::Nothing))
+            }
+        }
+    }
+
+    /// The form of a line.
+    #[tactic(auto, unfolding(grammar::specs::FormDescent::form))]
+    fn form(&self, ahead: &mut Ahead<'_>) -> Result<(Form, Body), Stop>
+        ensures { Makes shaped_of (spec.form self.now.turns ahead.old) result }
+    {
+        match ahead.opening() {
+            Some(opening) => self.form_behind(opening, ahead),
+            None => {
+                let form = self.expression_line(ahead)?;
+                Ok((form, Body::Nothing))
+            }
+        }
+    }
+}
+
+/// The form that these tokens are, with what belongs to it; None where they are none, or one with an expression that is
+/// deeper than [`MAX_DEPTH`].
+///
+/// # Errors
+///
+/// [`NoMemory`] where memory was refused.
+#[tactic(auto, unfolding(grammar::specs::FormDescent::reads_form))]
+pub(crate) fn read_form(
+    alloc: Global,
+    lines: &Lines,
+    tokens: &[Token],
+) -> Result<Option<(Form, Body)>, NoMemory>
+    ensures { IfOk result (λ r. option_map shaped_of r ≡ spec.reads_form (tokens_seen lines.now.text tokens.now)) }
+{
+    let mut ahead = Ahead::new(lines, tokens);
+    let turns = ahead.len() + 1;
+    match (FormReader { alloc, turns }).form(&mut ahead) {
+        Ok(form) => Ok(Some(form)),
+        Err(Stop::NoForm) => Ok(None),
+        Err(Stop::NoMemory) => Err(NoMemory),
+    }
+}

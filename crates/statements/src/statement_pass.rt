@@ -1,0 +1,214 @@
+//! The pass over the statements of a text: each logical line is read by itself, then all are seen to stand where they
+//! may, and are put into their blocks.
+
+ghost use Rattle.std.specs.Prelude.{◌≡◌, ◌++◌, ◌<◌, ◌≤◌, ℕ, List, [], ◌∷◌, length, map, filter_map, slice_get, Some, Ok, IfOk, OnOk};
+ghost use Rattle.std.specs.List.{cons_option};
+ghost use Rattle.std.specs.Option.{option_map};
+ghost use Rattle.grammar.specs.Ahead.{tokens_seen};
+ghost use Rattle.grammar.specs.BareDepth.{lines_depth};
+ghost use Rattle.grammar.specs.BareLines.{bare_lines};
+ghost use Rattle.grammar.specs.BlockReading.{file_reads};
+ghost use Rattle.grammar.specs.Blocks.{Block, laid};
+ghost use Rattle.grammar.specs.Built.{Made};
+ghost use Rattle.statements.specs.BuiltView.{body_of, read_of};
+ghost use Rattle.grammar.specs.Places.{top_of};
+ghost use Rattle.statements.specs.FormView.{body_shape, formed_as, is_text, line_read, outline_read, shape_of, shaped_of};
+ghost use Rattle.grammar.specs.LineView as view;
+ghost use Rattle.grammar.specs.LineView.{form_of};
+ghost use Rattle.statements.specs.Outlines.{place_of};
+ghost use Rattle.lexer.specs.Seen.{seen};
+ghost use Rattle.lexer.specs.Stops.{FaultsAt};
+ghost use Rattle.lexer.specs.declared.fault.FaultKind.TheVariants as FaultKind;
+
+use crate::blocks::{Body, Read, file_lines};
+use crate::line_forms::read_form;
+use crate::outline;
+use crate::outline::{Formed, Outline, Place, Shape, lines_stand};
+use grammar::{Form, Line};
+use lexer::{FileKind, Kind, Lines, NoMemory, ParseStop, Token};
+use std::alloc::{AllocError, Global};
+
+/// Whether a line is a string alone.
+#[tactic(auto, unfolding(crate::specs::FormView::is_text))]
+fn is_text(tokens: &[Token]) -> bool
+    ensures { (text : List ℕ) → result ≡ is_text (tokens_seen text tokens.now) }
+{
+    match tokens {
+        [only] => matches!(only.kind, Kind::Str(_)),
+        [] => false,
+        [_, _, ..] => false,
+    }
+}
+
+fn shape_of(form: &Form, is_text: bool) -> Shape
+    ensures { result ≡ shape_of is_text (form_of form.now) }
+{
+    match form {
+        Form::Load(_, _) => Shape::Load,
+        Form::Def(_, _) => Shape::Def,
+        Form::If(_) => Shape::If,
+        Form::Elif(_) => Shape::Elif,
+        Form::Else => Shape::Else,
+        Form::For(_, _, _) => Shape::For,
+        Form::Evaluate(_) => { if is_text { Shape::Text } else { Shape::Plain } }
+        Form::Break | Form::Continue => Shape::Jump,
+        Form::Return(_) => Shape::Return,
+        Form::Assign(_, _, _)
+        | Form::AssignAt(_, _, _)
+        | Form::Add(_, _)
+        | Form::AddAt(_, _, _)
+        | Form::Pass => Shape::Plain,
+    }
+}
+
+fn body_shape(body: &Body) -> outline::Body
+    ensures { result ≡ body_shape (body_of body.now) }
+{
+    match body {
+        Body::Nothing => outline::Body::Nothing,
+        Body::Block => outline::Body::Block,
+        Body::Statement(form) => outline::Body::Statement(shape_of(form, false)),
+    }
+}
+
+/// The number of a line, and its column: those of its first token.
+fn start_of(tokens: &[Token]) -> (usize, usize)
+    ensures line { (text : List ℕ) → result.0 ≡ (laid (map (seen text) tokens.now)).line }
+    ensures column { (text : List ℕ) → result.1 ≡ (laid (map (seen text) tokens.now)).column }
+{
+    match tokens {
+        [first, ..] => (first.line, first.column),
+        [] => (0, 0),
+    }
+}
+
+/// A line with its outline, which has no form where the line has none.
+#[derive(Drop)]
+struct LineRead {
+    outline: Outline,
+    read: Option<Read>,
+}
+
+/// What is read of a line that begins there.
+fn with_start(number: usize, column: usize, form: Option<(Form, Body)>, is_text: bool) -> LineRead
+    ensures outline { result.outline ≡ record { line = number; column = column; form = option_map (formed_as is_text) (option_map shaped_of form) } }
+    ensures read { option_map read_of result.read ≡ option_map (λ s. record { number = number; column = column; form = s.0; body = s.1 }) (option_map shaped_of form) }
+{
+    match form {
+        Some((form, body)) => {
+            let formed = Formed {
+                shape: shape_of(&form, is_text),
+                body: body_shape(&body),
+            };
+            LineRead {
+                outline: Outline {
+                    line: number,
+                    column,
+                    form: Some(formed),
+                },
+                read: Some(Read {
+                    number,
+                    column,
+                    form,
+                    body,
+                }),
+            }
+        }
+        None => LineRead {
+            outline: Outline {
+                line: number,
+                column,
+                form: None,
+            },
+            read: None,
+        },
+    }
+}
+
+/// Reads the line of these tokens.
+fn read_line(alloc: Global, lines: &Lines, tokens: &[Token]) -> Result<LineRead, NoMemory>
+    ensures outline { IfOk result (λ r. r.outline ≡ outline_read (laid (map (seen lines.now.text) tokens.now))) }
+    ensures read { IfOk result (λ r. option_map read_of r.read ≡ line_read (laid (map (seen lines.now.text) tokens.now))) }
+{
+    let (number, column) = start_of(tokens);
+    let form = read_form(alloc, lines, tokens)?;
+    Ok(with_start(number, column, form, is_text(tokens)))
+}
+
+/// What was read of the lines of a text: the outlines of all, and those that have a form.
+#[derive(Drop)]
+struct LinesRead {
+    outlines: Vec<Outline>,
+    reads: Vec<Read>,
+}
+
+impl LinesRead {
+    /// Adds a line.
+    fn add(&mut self, line: LineRead) -> Result<(), AllocError>
+        ensures outlines { OnOk result (self.new.outlines.items ≡ self.old.outlines.items ++ line.outline ∷ []) }
+        ensures reads { OnOk result ((ms : List Made) → map read_of self.new.reads.items ++ ms ≡ map read_of self.old.reads.items ++ cons_option (option_map read_of line.read) ms) }
+    {
+        self.outlines.push(line.outline)?;
+        if let Some(read) = line.read {
+            self.reads.push(read)?;
+        }
+        Ok(())
+    }
+}
+
+/// Reads each line of a text.
+fn read_lines(alloc: Global, lines: &Lines) -> Result<LinesRead, NoMemory>
+    ensures outlines { IfOk result (λ r. r.outlines.items ≡ map outline_read (map laid lines.now.lines)) }
+    ensures reads { IfOk result (λ r. map read_of r.reads.items ≡ filter_map line_read (map laid lines.now.lines)) }
+{
+    let mut found = LinesRead {
+        outlines: Vec::new(alloc),
+        reads: Vec::new(alloc),
+    };
+    for place in 0..lines.len() {
+        let line = read_line(alloc, lines, lines.line(place))?;
+        found.add(line)?;
+    }
+    Ok(found)
+}
+
+/// Where the lines of the top level stand.
+fn top_of(kind: FileKind) -> Place
+    ensures { result ≡ place_of (top_of kind) }
+{
+    match kind {
+        FileKind::Module => Place::Module,
+        FileKind::Build => Place::Build,
+    }
+}
+
+/// The same as [`read_file`].
+fn blocks_of(alloc: Global, lines: &Lines, kind: FileKind) -> Result<Vec<Line>, ParseStop>
+    ensures tree { IfOk result (λ ls. (tree : Block) × (file_reads (top_of kind) (map laid lines.now.lines) ≡ Ok tree) × (view.lines ls.items ≡ bare_lines tree)) }
+    ensures fault { FaultsAt FaultKind.Statement (file_reads (top_of kind) (map laid lines.now.lines)) result }
+{
+    let read = match read_lines(alloc, lines) {
+        Ok(read) => read,
+        Err(NoMemory) => return Err(ParseStop::NoMemory),
+    };
+    match lines_stand(alloc, read.outlines.as_slice(), top_of(kind)) {
+        Ok(()) => {}
+        Err(stop) => return Err(stop),
+    }
+    Ok(file_lines(alloc, read.reads)?)
+}
+
+/// Reads the logical lines of a file and puts them into their blocks. No expression in them is more than
+/// [`grammar::MAX_DEPTH`] deep.
+///
+/// # Errors
+///
+/// A fault of the statements at the first line that has no form, or stands where it may not. Want of memory may be
+/// answered in its place.
+pub fn read_file(alloc: Global, lines: &Lines, kind: FileKind) -> Result<Vec<Line>, ParseStop>
+    ensures tree { IfOk result (λ ls. (tree : Block) × (file_reads (top_of kind) (map laid lines.now.lines) ≡ Ok tree) × (view.lines ls.items ≡ bare_lines tree)) }
+    ensures shallow { IfOk result (λ ls. lines_depth (view.lines ls.items) ≤ 200) }
+    ensures fault { FaultsAt FaultKind.Statement (file_reads (top_of kind) (map laid lines.now.lines)) result }
+{
+    blocks_of(alloc, lines, kind)
+}
