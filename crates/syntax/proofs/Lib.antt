@@ -6,6 +6,7 @@ pub mod FileRanges
 pub mod FileRows
 pub mod LineRanges
 pub mod NamePlaces
+pub mod OwnPlaces
 pub mod ProgramDepths
 pub mod ProgramLemmas
 pub mod ScopeLemmas

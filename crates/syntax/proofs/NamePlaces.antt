@@ -22,11 +22,11 @@ pub not_both : {A : Type 0} (b : Bool) → b ≡ true → b ≡ false → A
 not_both true h k = absurd cc
 not_both false h k = absurd cc
 
-same : (x : Name) → bytes_eq x x ≡ true
+pub same : (x : Name) → bytes_eq x x ≡ true
 same x = (bytes_eq-Decides x x).1 refl
 
 -- how many names stand before one
-abbrev before_it : Name → List Name → ℕ
+abbrev pub before_it : Name → List Name → ℕ
 before_it x [] = 0
 before_it x (y ∷ ys) = if bytes_eq x y then 0 else 1 + before_it x ys
 
@@ -142,7 +142,7 @@ stay_first (x ∷ xs) ys h =
     untrue false k = refl
 
 -- a slot that a name has is one of those in use
-slot_within : (x : Name) (ls : List (List Name)) (k : ℕ) → slot_of x ls ≡ Some k → k < width ls
+pub slot_within : (x : Name) (ls : List (List Name)) (k : ℕ) → slot_of x ls ≡ Some k → k < width ls
 slot_within x [] k h = absurd cc
 slot_within x (l ∷ ls) k h = by (λ i. slot_within x ls k i) (position (bytes_eq x) l) refl
   where

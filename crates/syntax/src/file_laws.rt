@@ -1,11 +1,12 @@
 //! Laws of the trees of files, and of their faults.
 
-ghost use Rattle.std.specs.Prelude.{◌≡◌, ◌≤◌, ◌↔◌, ℕ, List, Ok, Err};
+ghost use Rattle.std.specs.Prelude.{◌≡◌, ◌≤◌, ◌↔◌, ◌∷◌, ◌++◌, ℕ, List, Some, Ok, Err, bytes_eq, length, map, position, true};
 ghost use Rattle.grammar.specs.Blocks.{Block};
-ghost use Rattle.grammar.specs.BareLines.{bare_lines};
+ghost use Rattle.grammar.specs.BareLines.{Lines, Param, bare_lines};
 ghost use Rattle.grammar.specs.BareDepth.{lines_depth};
 ghost use Rattle.syntax.specs.Files.{IsFile, syntax};
 ghost use Rattle.syntax.specs.FirstFault.{IsFault};
+ghost use Rattle.syntax.specs.Names.{Name, Scope, distinct, function_scope, param_name, slot, slot_of, stands_for};
 
 use lexer::{FileKind, SyntaxFault};
 
@@ -34,4 +35,16 @@ pub fn faults_are_the_first()
 /// In a file no expression is more than 200 deep.
 pub fn trees_are_shallow()
     ensures { (text : List ℕ) (kind : FileKind) (tree : Block) → IsFile text kind tree → lines_depth (bare_lines tree) ≤ 200 }
+{}
+
+/// Two names of one scope stand for two places: no slot and no number is that of two names.
+pub fn names_have_places_of_their_own()
+    ensures slots { (s : Scope) (x y : Name) (k : ℕ) → slot_of x s.levels ≡ Some k → slot_of y s.levels ≡ Some k → x ≡ y }
+    ensures globals { (s : Scope) (x y : Name) (k : ℕ) → position (bytes_eq x) s.globals ≡ Some k → position (bytes_eq y) s.globals ≡ Some k → x ≡ y }
+{}
+
+/// In a function whose parameters are distinct, as many slots come before that of a parameter as there are parameters
+/// before it.
+pub fn parameters_have_the_first_slots()
+    ensures { (s : Scope) (ps : List Param) (inner : Lines) (front behind : List Name) (x : Name) → distinct (map param_name ps) ≡ true → map param_name ps ≡ front ++ x ∷ behind → stands_for (function_scope s ps inner) x ≡ Some (slot (length front)) }
 {}

@@ -1,14 +1,18 @@
 //! Times the whole reading of texts of about 1,048,576 bytes, from their bytes to their trees: many small functions, one
 //! long list, deep displays, nothing but signs, one condition of many branches, many names that are loaded, names inside of
-//! 99 comprehensions, and many calls with keywords. The clock ends when the tree is there: giving it back isn't counted.
-//! Without the word `time` it prints the verdicts alone, which never change.
+//! 99 comprehensions, and many calls with keywords. The clock begins with the bytes and ends when the tree is there: making
+//! the text and giving the tree back aren't counted. Beside the time stands the peak of memory, which is what Linux says
+//! that the program had at most while it read the text, less what it had before: the tree, what is held until it is there,
+//! and what the allocator keeps, without the text. With the words `time` and a name it is that of one text in a program
+//! of its own; with `time` alone it comes out too low where an earlier text's memory is used again. Without a word it prints
+//! the verdicts alone, which never change.
 #![tactic(auto)]
 
 use anyhow::Result;
 use std::alloc::Global;
-use std::env;
-use std::rt::Clock;
+use std::rt::{Clock, Files};
 use std::time::Instant;
+use std::{env, fs};
 use syntax::{FileKind, ParseStop, parse};
 
 /// The length that each text comes near to, which is the longest that a workspace may hold.
@@ -140,8 +144,67 @@ fn calls(alloc: Global) -> Result<String> {
     Ok(text)
 }
 
-fn verdict(alloc: Global, text: &str) -> &'static str {
-    match parse(alloc, text, FileKind::Module) {
+/// A text that is read.
+#[derive(Clone, Copy)]
+enum Text {
+    Functions,
+    LongList,
+    DeepLists,
+    Signs,
+    Branches,
+    LoadedNames,
+    NamesInside,
+    Calls,
+}
+
+impl Text {
+    const ALL: [Text; 8] = [
+        Text::Functions,
+        Text::LongList,
+        Text::DeepLists,
+        Text::Signs,
+        Text::Branches,
+        Text::LoadedNames,
+        Text::NamesInside,
+        Text::Calls,
+    ];
+
+    fn name(self) -> &'static str {
+        match self {
+            Text::Functions => "functions",
+            Text::LongList => "long list",
+            Text::DeepLists => "deep lists",
+            Text::Signs => "signs",
+            Text::Branches => "branches",
+            Text::LoadedNames => "loaded names",
+            Text::NamesInside => "names inside",
+            Text::Calls => "calls",
+        }
+    }
+
+    fn kind(self) -> FileKind {
+        match self {
+            Text::Calls => FileKind::Build,
+            _ => FileKind::Module,
+        }
+    }
+
+    fn make(self, alloc: Global) -> Result<String> {
+        match self {
+            Text::Functions => functions(alloc),
+            Text::LongList => long_list(alloc),
+            Text::DeepLists => deep_lists(alloc),
+            Text::Signs => signs(alloc),
+            Text::Branches => branches(alloc),
+            Text::LoadedNames => loaded_names(alloc),
+            Text::NamesInside => names_inside(alloc),
+            Text::Calls => calls(alloc),
+        }
+    }
+}
+
+fn verdict(alloc: Global, text: &str, kind: FileKind) -> &'static str {
+    match parse(alloc, text, kind) {
         Ok(_) => "a tree",
         Err(ParseStop::Fault(_)) => "a fault",
         Err(ParseStop::NoMemory) => "no memory",
@@ -149,62 +212,72 @@ fn verdict(alloc: Global, text: &str) -> &'static str {
 }
 
 /// The least time of some rounds, in nanoseconds. What is read is given back behind the clock.
-fn least_time(rt: &impl Clock, alloc: Global, text: &str) -> Result<u128> {
+fn least_time(rt: &impl Clock, alloc: Global, text: &str, kind: FileKind) -> Result<u128> {
     let mut least = u128::MAX;
     for _ in 0..ROUNDS {
         let start = Instant::now(rt)?;
-        let _read = parse(alloc, text, FileKind::Module);
+        let _read = parse(alloc, text, kind);
         least = least.min(start.elapsed(rt)?.as_nanos());
     }
     Ok(least)
 }
 
-fn report<R: Print + Clock>(
+/// What Linux says of the program's memory under a name, in bytes; 0 where it says nothing.
+fn memory<R: Files + AllocGlobal>(rt: &R, name: &str) -> Result<u128> {
+    let status = fs::read_to_string(rt, "/proc/self/status")?;
+    for line in status.lines() {
+        if let Some(size) = line.strip_prefix(name) {
+            let words = size.trim().strip_suffix(" kB").unwrap_or("0");
+            return Ok(words.parse::<u64>().unwrap_or(0) as u128 * 1024);
+        }
+    }
+    Ok(0)
+}
+
+/// The peak of memory while a text is read, beyond what there was before, in bytes.
+fn peak<R: Files + AllocGlobal>(rt: &R, text: &str, kind: FileKind) -> Result<u128> {
+    fs::write(rt, "/proc/self/clear_refs", "5")?;
+    let before = memory(rt, "VmRSS:")?;
+    let _read = parse(rt.alloc(), text, kind);
+    Ok(memory(rt, "VmHWM:")?.saturating_sub(before))
+}
+
+fn report<R: Print + Clock + Files + AllocGlobal>(
     rt: &R,
     alloc: Global,
-    name: &str,
-    text: &str,
+    which: Text,
     timed: bool,
 ) -> Result<()> {
-    let found = verdict(alloc, text);
-    if !timed {
-        println!(rt; "{name}: {found}")?;
+    let text = which.make(alloc)?;
+    let (name, text, kind) = (which.name(), text.as_str(), which.kind());
+    let bytes = text.len() as u128;
+    if !timed || bytes == 0 {
+        println!(rt; "{name}: {}", verdict(alloc, text, kind))?;
         return Ok(());
     }
-    let bytes = text.len() as u128;
-    if bytes > 0 {
-        let tenths = least_time(rt, alloc, text)?.saturating_mul(10) / bytes;
-        println!(rt;
-            "{name}: {found}, {}.{} ns a byte",
-            tenths / 10,
-            tenths % 10
-        )?;
-    }
+    let peak = peak(rt, text, kind)? / bytes;
+    let tenths = least_time(rt, alloc, text, kind)?.saturating_mul(10) / bytes;
+    println!(rt;
+        "{name}: {}, {}.{} ns a byte, {peak} bytes a byte at most",
+        verdict(alloc, text, kind),
+        tenths / 10,
+        tenths % 10
+    )?;
     Ok(())
 }
 
 fn main(rt: HostRuntime) -> Result<()> {
-    let timed = env::args(&rt)?.count() > 1;
     let alloc = rt.alloc();
-    report(&rt, alloc, "functions", functions(alloc)?.as_str(), timed)?;
-    report(&rt, alloc, "long list", long_list(alloc)?.as_str(), timed)?;
-    report(&rt, alloc, "deep lists", deep_lists(alloc)?.as_str(), timed)?;
-    report(&rt, alloc, "signs", signs(alloc)?.as_str(), timed)?;
-    report(&rt, alloc, "branches", branches(alloc)?.as_str(), timed)?;
-    report(
-        &rt,
-        alloc,
-        "loaded names",
-        loaded_names(alloc)?.as_str(),
-        timed,
-    )?;
-    report(
-        &rt,
-        alloc,
-        "names inside",
-        names_inside(alloc)?.as_str(),
-        timed,
-    )?;
-    report(&rt, alloc, "calls", calls(alloc)?.as_str(), timed)?;
+    let words: Vec<String> = env::args(&rt)?.collect(alloc)?;
+    let timed = words.len() > 1;
+    for which in Text::ALL {
+        let wanted = match words.get(2) {
+            Some(name) => name.as_str() == which.name(),
+            None => true,
+        };
+        if wanted {
+            report(&rt, alloc, which, timed)?;
+        }
+    }
     Ok(())
 }
