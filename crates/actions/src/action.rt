@@ -2,7 +2,7 @@
 ghost use Rattle.std.specs.Prelude.{◌≡◌, ◌++◌, ◌∷◌, [], length, OnOk, OnErr};
 
 use depsets::{Depset, FileRef};
-use plain::Text;
+use plain::{Shared, Text};
 use std::alloc::{AllocError, Global};
 use std::marker::Model;
 
@@ -36,7 +36,7 @@ pub struct Owned {
 /// Files, in order.
 #[derive(Drop)]
 pub struct Files {
-    items: Vec<FileRef>,
+    items: Vec<Shared<FileRef>>,
 }
 
 impl Model for Files {
@@ -59,7 +59,7 @@ impl Files {
     }
 
     /// Puts a File last. After a refusal of memory they are as they were.
-    pub fn push(&mut self, file: FileRef) -> Result<(), AllocError>
+    pub fn push(&mut self, file: Shared<FileRef>) -> Result<(), AllocError>
         ensures ok { OnOk result (self.new ≡ self.old ++ file ∷ []) }
         ensures err { OnErr result (self.new ≡ self.old) }
     {
@@ -68,7 +68,7 @@ impl Files {
     }
 
     /// All of them, in order.
-    pub fn as_slice(&self) -> &[FileRef]
+    pub fn as_slice(&self) -> &[Shared<FileRef>]
         ensures { result.now ≡ self.now }
     {
         self.items.as_slice()

@@ -4,7 +4,7 @@ ghost use Rattle.actions.specs.Claims.{claim_on, claims_of, claims_from, put_in_
 
 use crate::Owned;
 use depsets::FileRef;
-use plain::Text;
+use plain::{Shared, Text};
 use std::alloc::{AllocError, Global};
 use std::collections::BTreeSet;
 
@@ -43,11 +43,11 @@ fn add_claim(
     claims: &mut BTreeSet<Claim>,
     place: usize,
     label: &Text,
-    file: &FileRef,
+    file: &Shared<FileRef>,
 ) -> Result<(), AllocError>
     ensures { OnOk result (claims.new.keys ≡ put_in_order claims.old.keys (claim_on place label.now file.now)) }
 {
-    let path = file.path.share()?;
+    let path = file.get().path.share()?;
     let label = label.share()?;
     claims.insert(Claim { path, label, place })?;
     Ok(())

@@ -1,7 +1,7 @@
 //! Conflicts by path, and within one each label as often as its actions declare the path.
 use actions::{Action, Conflict, Files, Inputs, Owned, Words, conflicts};
 use depsets::FileRef;
-use plain::Text;
+use plain::{Shared, Text};
 use std::alloc::Global;
 use std::test::Fail;
 
@@ -11,7 +11,7 @@ fn action(alloc: Global, label: &str, paths: &[&str]) -> Result<Owned, Fail> {
     for path in paths {
         let path = Text::new(alloc, path)?;
         let owner = Text::new(alloc, label)?;
-        outputs.push(FileRef { path, owner })?;
+        outputs.push(Shared::new(alloc, FileRef { path, owner })?)?;
     }
     Ok(Owned {
         label: Text::new(alloc, label)?,

@@ -22,9 +22,9 @@ pub actions_sync : IsSync Actions.the_row
 actions_sync = search (action_sync, std.crosses, sendable) depth 60 fits 20000
 
 pub outcome_send : IsSend Outcome.the_row
-outcome_send = search (file.the_field_send, providers_send, actions_send, fault.the_field_send, sendable) depth 60 fits 20000
+outcome_send = search (file.the_send, file.the_sync, providers_send, actions_send, fault.the_field_send, std.crosses, sendable) depth 60 fits 20000
 
 pub outcome_sync : IsSync Outcome.the_row
-outcome_sync = search (file.the_field_sync, providers_sync, actions_sync, fault.the_field_sync, sendable) depth 60 fits 20000
+outcome_sync = search (file.the_send, file.the_sync, providers_sync, actions_sync, fault.the_field_sync, std.crosses, sendable) depth 60 fits 20000
 
 pub ruleset crosses = (frozen_send, frozen_sync, action_send, action_sync, outcome_send, outcome_sync, std.crosses, sendable)

@@ -1,7 +1,7 @@
 //! An outcome of a node as workers hand it on: a source file, providers with actions, or a fault.
 use actions::{Action, Words};
 use depsets::FileRef;
-use plain::Text;
+use plain::{Shared, Text};
 use std::marker::Model;
 use values::{Frozen, Kind};
 
@@ -63,7 +63,7 @@ pub enum TargetFault {
 
 /// What becomes of a node.
 pub enum Outcome {
-    Source(FileRef),
+    Source(Shared<FileRef>),
     Done(Providers, Actions),
     Failed(TargetFault),
 }

@@ -2,7 +2,7 @@
 ghost use Rattle.std.specs.Prelude.{◌≡◌, IfOk};
 ghost use Rattle.depsets.specs.Elements.{type_of, same_element};
 
-use plain::Text;
+use plain::{Shared, Text};
 use std::alloc::AllocError;
 
 /// A file: its path, and the label of the target or of the source file that it belongs to.
@@ -14,17 +14,6 @@ pub struct FileRef {
     pub owner: Text,
 }
 
-impl FileRef {
-    /// Another name of the same file. Its texts are shared and not copied.
-    pub fn share(&self) -> Result<FileRef, AllocError>
-        ensures { IfOk result (λ f. f ≡ self.now) }
-    {
-        let path = self.path.share()?;
-        let owner = self.owner.share()?;
-        Ok(FileRef { path, owner })
-    }
-}
-
 /// An element of a depset. A label is its text.
 #[derive(PartialEq, Eq, Hash, Drop)]
 pub enum Element {
@@ -32,7 +21,7 @@ pub enum Element {
     Number(i64),
     Truth(bool),
     Label(Text),
-    File(FileRef),
+    File(Shared<FileRef>),
 }
 
 /// The type of an element: all elements of a depset and of those below it have one.

@@ -1,6 +1,6 @@
 //! Worked depsets: orders, mixed orders, refusals in order, levels, steps and sizes at their exact numbers.
 use depsets::{Depset, DepsetError, Element, FileRef, Id, ListError, Order};
-use plain::Text;
+use plain::{Shared, Text};
 use std::alloc::Global;
 use std::test::Fail;
 
@@ -132,7 +132,12 @@ fn elements_of_each_type(rt: HostRuntime) -> Result<(), Fail> {
     assert!(rt; lists_itself(alloc, Element::Label(Text::new(alloc, "//a:x")?))?);
     let path = Text::new(alloc, "a/x.txt")?;
     let owner = Text::new(alloc, "//a:x")?;
-    assert!(rt; lists_itself(alloc, Element::File(FileRef { path, owner }))?);
+    assert!(rt;
+        lists_itself(
+            alloc,
+            Element::File(Shared::new(alloc, FileRef { path, owner })?)
+        )?
+    );
     Ok(())
 }
 

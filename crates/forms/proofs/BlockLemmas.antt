@@ -14,8 +14,8 @@ use Rattle.workspace.specs.Labels.{LabelParts, is_label, label_text, relative_na
 use Rattle.forms.specs.NodeBlocks.{block_key, block_of, text_at}
 use Rattle.forms.specs.NodePlan.{AreOnce}
 use Rattle.forms.specs.NodeValues.{AreClosed, AreValues, listed_text, values_at, values_of}
-use Rattle.values.specs.Texts.{text_of}
-use Rattle.values.specs.Tree.{list, trees}
+use Rattle.printing.specs.Texts.{text_of}
+use Rattle.values.specs.Tree.{branch, list, trees}
 use Rattle.report.specs.Outcomes.{Node, Outcome, done, with_default_info}
 use Rattle.report.specs.Lines.{node_text, outcome_text}
 use Rattle.forms.specs.SecondAnswer.{all_placed, node_key, node_of, placed, reached, second_answer}
@@ -88,7 +88,7 @@ module _ (f : SecondParts) (are : AreDeclared (second_package f) [] f.build.targ
       ∙ ap (λ o. step_of f (at t.name) (map (second_outcome f) (labels_of (second_package f) o)) o) e
 
   pub target-value : (t : Target) → Contains f.build.targets t
-      → provided f (second_outcome f (label_in (second_package f) t.name)) ≡ list (trees (map (provided f) (map (second_outcome f) (labels_of (second_package f) (Some t)))))
+      → provided f (second_outcome f (label_in (second_package f) t.name)) ≡ branch (list (trees (map (provided f) (map (second_outcome f) (labels_of (second_package f) (Some t))))))
   target-value t has = ap (provided f) (target-done t has) ∙ provided_done f (at t.name) (outcomes t)
 
   texts-of : (ds : List (List ℕ))

@@ -4,8 +4,8 @@ use Rattle.text_forms.specs.Targets.{Target}
 use Rattle.workspace.specs.Labels.{LabelParts}
 use Rattle.forms.specs.NodeValues.{AreClosed, are_named_in, joined, listed_text, later_texts}
 use Rattle.depsets.specs.Listed.{flat}
-use Rattle.values.specs.Texts.{joined as value_joined, joined_from, text_of, texts_by}
-use Rattle.values.specs.Tree.{list, trees}
+use Rattle.printing.specs.Texts.{joined as value_joined, joined_from, text_of, texts_by}
+use Rattle.values.specs.Tree.{branch, list, trees}
 use Rattle.values.specs.View.{FrozenTree}
 use Rattle.forms.specs.SecondAnswer.{reached, with_reached}
 
@@ -39,6 +39,6 @@ joined-same : (ts : List (List ℕ)) → value_joined ts ≡ joined ts
 joined-same [] = refl
 joined-same (t ∷ ts) = ap (λ (r : List ℕ). t ++ r) (joined-behind (0 + 1) ts (omega arith))
 
-pub list-text : (vs : List FrozenTree) → text_of (list (trees vs)) ≡ listed_text (map text_of vs)
+pub list-text : (vs : List FrozenTree) → text_of (branch (list (trees vs))) ≡ listed_text (map text_of vs)
 list-text vs =
     ap (λ (t : List ℕ). codes "[" ++ t ++ codes "]") (ap value_joined (tree-texts vs) ∙ joined-same (map text_of vs))

@@ -8,7 +8,7 @@ use Rattle.std.specs.List.{list_any, list_all}
 use Rattle.std.specs.Str.{bytes_eq}
 use Rattle.text_forms.specs.Targets.{Target}
 use Rattle.workspace.specs.Labels.{LabelParts, relative_name}
-use Rattle.values.specs.Tree.{list, trees}
+use Rattle.values.specs.Tree.{branch, list, trees}
 use Rattle.report.specs.Outcomes.{Outcome, done, with_default_info}
 use Rattle.forms.specs.SecondForm.{SecondParts, AreDeclared, has_name, names, label_in, labels_of, outcome_within, provided, second_dependencies, second_outcome, second_package, second_returned, second_step, target_named, target_of}
 use Rattle.report.proofs.TruthLemmas.{cases_of, neither, both, all_in, or_left, or_right, same_bytes, bytes_same}
@@ -191,5 +191,5 @@ module _ (f : SecondParts) where
             (named_dependency (second_package f) [] targets l.name t d are (target_in l t e).1 has))
 
   -- what a target provides, by what its dependencies do
-  pub provided_done : (l : LabelParts) (os : List Outcome) → provided f (done (with_default_info l (second_returned f os)) []) ≡ list (trees (map (provided f) os))
+  pub provided_done : (l : LabelParts) (os : List Outcome) → provided f (done (with_default_info l (second_returned f os)) []) ≡ branch (list (trees (map (provided f) os)))
   provided_done l os = rw (same_bytes f.module_file.0, same_bytes f.rules.provider, same_bytes f.rules.field) refl

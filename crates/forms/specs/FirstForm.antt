@@ -10,8 +10,8 @@ use Rattle.text_forms.specs.declared.first_text.BuildForm.{BuildForm}
 use Rattle.text_forms.specs.declared.first_text.ModuleForm.{ModuleForm}
 use Rattle.lexer.specs.declared.file_kind.FileKind.TheVariants as file
 use Rattle.text_forms.specs.declared.first_text.FileForm.TheVariants as found
-use Rattle.values.specs.Tree.{leaf}
-use Rattle.values.specs.declared.leaf.Leaf.TheVariants as plain
+use Rattle.values.specs.Tree.{key}
+use Rattle.values.specs.declared.key.Key.TheVariants as index
 use Rattle.report.specs.Answer.{Meaning}
 use Rattle.forms.specs.Instances.{instance_of}
 use Rattle.workspace.specs.FileKinds.{is_build_file, is_module, package_of}
@@ -61,7 +61,7 @@ pub record IsFirst (workspace : List Pair) (f : FirstParts) : Type 0 where
 -- what the rule's function returns: one instance of the module's provider, with the number in its field
 abbrev pub returned : FirstParts → List Provider
 returned f =
-    instance_of f.module_file.0 f.rules.provider f.rules.field (leaf (plain.Number (pos f.rules.number))) ∷ []
+    instance_of f.module_file.0 f.rules.provider f.rules.field (key (index.Number (pos f.rules.number))) ∷ []
 
 -- what becomes of a label: its package has no BUILD file; or it is the target, a source file, or nothing
 abbrev pub first_outcome : FirstParts → LabelParts → Outcome

@@ -1,23 +1,22 @@
 -- Instances of a module's provider.
 use Rattle.std.specs.Prelude.{ℕ, Bool, false, List}
 use Rattle.std.specs.Str.{bytes_eq}
-use Rattle.values.specs.Tree.{Pairs, pair, stop}
+use Rattle.values.specs.Tree.{pair, stop}
 use Rattle.values.specs.View.{FrozenTree}
 use Rattle.values.specs.declared.leaf.ExportName.{ExportName}
 use Rattle.values.specs.declared.leaf.ExportName.TheVariants as export
-use Rattle.values.specs.declared.leaf.Key.{Key}
-use Rattle.values.specs.declared.leaf.Key.TheVariants as key
-use Rattle.values.specs.declared.leaf.Leaf.{Leaf}
+use Rattle.values.specs.declared.key.Key.{Key}
+use Rattle.values.specs.declared.key.Key.TheVariants as key
 use Rattle.values.specs.declared.leaf.ProviderRef.{ProviderRef}
 use Rattle.values.specs.declared.leaf.ProviderRef.TheVariants as provider
-use Rattle.report.specs.Outcomes.{Provider}
+use Rattle.report.specs.Outcomes.{FrozenFields, Provider}
 
 -- the provider of this name in the module at a path
 abbrev pub provider_of : List ℕ → List ℕ → ProviderRef
 provider_of path name = provider.Exported (record { path = path; name = export.Global name })
 
 -- one field, with this value
-abbrev pub one_field : List ℕ → FrozenTree → Pairs Leaf Key ProviderRef
+abbrev pub one_field : List ℕ → FrozenTree → FrozenFields
 one_field field value = pair (key.Text field) value stop
 
 -- an instance with this value in its one field

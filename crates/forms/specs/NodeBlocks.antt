@@ -3,7 +3,7 @@ use Rattle.std.specs.Prelude.{ℕ, List}
 use Rattle.text_forms.specs.Targets.{Target}
 use Rattle.forms.specs.declared.blocks.Block.{Block}
 use Rattle.workspace.specs.Labels.{label_text}
-use Rattle.values.specs.Texts.{text_of}
+use Rattle.printing.specs.Texts.{text_of}
 use Rattle.report.specs.Lines.{node_text}
 use Rattle.forms.specs.SecondAnswer.{node_of}
 use Rattle.forms.specs.SecondForm.{SecondParts, label_in, provided, second_outcome, second_package}

@@ -12,10 +12,9 @@ use Rattle.text_forms.specs.Targets.{Declared, Target}
 use Rattle.text_forms.specs.declared.second_text.DepsModuleForm.{DepsModuleForm}
 use Rattle.lexer.specs.declared.file_kind.FileKind.TheVariants as file
 use Rattle.text_forms.specs.declared.first_text.FileForm.TheVariants as found
-use Rattle.values.specs.Tree.{Pairs, list, none, pair, stop, trees}
+use Rattle.values.specs.Tree.{branch, list, none, pair, stop, trees}
 use Rattle.values.specs.View.{FrozenTree}
-use Rattle.values.specs.declared.leaf.Key.{Key}
-use Rattle.values.specs.declared.leaf.Leaf.{Leaf}
+use Rattle.values.specs.declared.key.Key.{Key}
 use Rattle.values.specs.declared.leaf.ProviderRef.{ProviderRef}
 use Rattle.values.specs.declared.leaf.ProviderRef.TheVariants as provider
 use Rattle.report.specs.Answer.{Meaning}
@@ -24,7 +23,7 @@ use Rattle.workspace.specs.FileKinds.{package_of}
 use Rattle.forms.specs.FirstForm.{AreFiles}
 use Rattle.workspace.specs.Labels.{LabelParts, is_label, label_path, relative_name}
 use Rattle.workspace.specs.Paths.{last_segment}
-use Rattle.report.specs.Outcomes.{Outcome, source, done, failed, cycle, no_such_target, Provider, with_default_info}
+use Rattle.report.specs.Outcomes.{FrozenFields, Outcome, source, done, failed, cycle, no_such_target, Provider, with_default_info}
 use Rattle.workspace.specs.Workspaces.{Pair}
 
 -- a BUILD file and a module, each with its path and text, and the free parts of the two texts
@@ -99,8 +98,8 @@ abbrev pub second_dependencies : SecondParts → LabelParts → List LabelParts
 second_dependencies f l = labels_of (second_package f) (target_of f l)
 
 -- the value of a field, where it was given
-abbrev pub given : List ℕ → Pairs Leaf Key ProviderRef → FrozenTree
-given field stop = list none
+abbrev pub given : List ℕ → FrozenFields → FrozenTree
+given field stop = branch (list none)
 given field (pair k x xs) = if is_field field k then x else given field xs
 
 -- it is the module's provider
@@ -110,20 +109,20 @@ is_own f (provider.Exported e) = bytes_eq e.path f.module_file.0 && is_global f.
 
 -- the value of the field in the instance of the module's provider, where there is one
 abbrev pub value_in : SecondParts → List Provider → FrozenTree
-value_in f [] = list none
+value_in f [] = branch (list none)
 value_in f (p ∷ ps) = if is_own f p.name then given f.rules.field p.fields else value_in f ps
 
 -- `d[I].n`, where this became of the dependency `d`
 abbrev pub provided : SecondParts → Outcome → FrozenTree
 provided f (done providers actions) = value_in f providers
-provided f (source path) = list none
-provided f (failed fault) = list none
+provided f (source path) = branch (list none)
+provided f (failed fault) = branch (list none)
 
 -- what the rule's function returns, where this became of the dependencies: one instance of the module's provider, with the
 -- list of what they have in its field
 abbrev pub second_returned : SecondParts → List Outcome → List Provider
 second_returned f dependencies =
-    instance_of f.module_file.0 f.rules.provider f.rules.field (list (trees (map (provided f) dependencies))) ∷ []
+    instance_of f.module_file.0 f.rules.provider f.rules.field (branch (list (trees (map (provided f) dependencies)))) ∷ []
 
 -- what becomes of a label that is no target: its package has no BUILD file, or it is a source file or nothing
 abbrev pub other_outcome : SecondParts → LabelParts → Outcome

@@ -5,9 +5,9 @@ use Rattle.forms.specs.declared.answer.ListInstance.{ListInstance}
 use Rattle.report.specs.Lines.{line}
 use Rattle.forms.specs.declared.first.FirstWorkspace.{FirstWorkspace}
 use Rattle.workspace.specs.declared.workspace.File.{File}
-use Rattle.values.specs.Tree.{leaf}
+use Rattle.values.specs.Tree.{key}
 use Rattle.values.specs.View.{FrozenTree}
-use Rattle.values.specs.declared.leaf.Leaf.TheVariants as plain
+use Rattle.values.specs.declared.key.Key.TheVariants as index
 use Rattle.forms.specs.Instances.{instance_of}
 use Rattle.report.specs.Outcomes.{Provider}
 use Rattle.forms.specs.FirstForm.{FirstParts}
@@ -36,7 +36,7 @@ second_seen f = record {
 
 -- an instance with a number in its one field
 abbrev pub instance_seen : Instance → Provider
-instance_seen i = instance_of i.module.now i.provider.now i.field.now (leaf (plain.Number (pos i.number)))
+instance_seen i = instance_of i.module.now i.provider.now i.field.now (key (index.Number (pos i.number)))
 
 abbrev pub list_instance_seen : ListInstance → FrozenTree → Provider
 list_instance_seen i value = instance_of i.module.now i.provider.now i.field.now value

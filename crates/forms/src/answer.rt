@@ -1,7 +1,7 @@
 //! The texts of a report.
 
 ghost use Rattle.std.specs.Prelude.{◌≡◌, ◌∷◌, [], IfOk, string_bytes};
-ghost use Rattle.values.specs.Texts.{text_of};
+ghost use Rattle.printing.specs.Texts.{text_of};
 ghost use Rattle.values.specs.View.{FrozenTree};
 ghost use Rattle.report.specs.Outcomes.{done, with_default_info};
 ghost use Rattle.report.specs.Lines.{outcome_text};

@@ -10,10 +10,10 @@ use Rattle.depsets.specs.declared.element.FileRef.{FileRef}
 use Rattle.actions.specs.Clashes.{owners}
 use Rattle.actions.specs.declared.action.Action.{Action}
 use Rattle.actions.specs.declared.action.Inputs.TheVariants as inputs
-use Rattle.values.specs.Tree.{leaf, list, pair, stop, trees}
-use Rattle.values.specs.Texts.{quoted, text_of}
+use Rattle.values.specs.Tree.{key as key_tree, leaf, branch, list, pair, stop, trees}
+use Rattle.printing.specs.Texts.{quoted, text_of}
 use Rattle.values.specs.declared.leaf.ExportName.TheVariants as export
-use Rattle.values.specs.declared.leaf.Key.TheVariants as key
+use Rattle.values.specs.declared.key.Key.TheVariants as key
 use Rattle.values.specs.declared.leaf.Leaf.TheVariants as plain
 use Rattle.values.specs.declared.leaf.ProviderRef.TheVariants as provider
 use Rattle.workspace.specs.Labels.{LabelParts}
@@ -28,7 +28,7 @@ abbrev instance : List Provider
 instance =
     record {
       name = provider.Exported (record { path = codes "a/i.bzl"; name = export.Global (codes "I") });
-      fields = pair (key.Text (codes "n")) (leaf (plain.Number (pos 1))) stop;
+      fields = pair (key.Text (codes "n")) (key_tree (key.Number (pos 1))) stop;
     } ∷ []
 
 abbrev one_target : Answer
@@ -119,7 +119,7 @@ failing-text = refl
 abbrev zeros : Rose Own
 zeros = node (record { id = record { owner = codes "//a:x"; serial = 1 }; order = order.Preorder; direct = element.Number (pos 0) ∷ [] }) (roses [])
 
-nested-text : text_of (list (trees (list (trees []) ∷ leaf (plain.Number (negsuc 3)) ∷ leaf (plain.Depset zeros) ∷ [])))
+nested-text : text_of (branch (list (trees (branch (list (trees [])) ∷ key_tree (key.Number (negsuc 3)) ∷ leaf (plain.Depset zeros) ∷ []))))
     ≡ codes "[[], -4, depset(preorder, [0])]"
 unfolding digits
 nested-text = refl

@@ -1,5 +1,5 @@
 -- The lines of a report (docs/REPORT.md, "The report"; all texts are this project's own choice). Each line ends with a
--- newline. The texts of values are those of `values`.
+-- newline. The texts of values are those of `printing`.
 use Rattle.std.specs.Prelude.{ℕ, List, [], ◌∷◌, ◌++◌, map, Option, Some, None, codes, decimal}
 use Rattle.std.specs.List.{flat_map}
 use Rattle.lexer.specs.FaultText.{kind_text}
@@ -10,7 +10,9 @@ use Rattle.actions.specs.declared.action.Action.{Action}
 use Rattle.actions.specs.declared.action.Inputs.{Inputs}
 use Rattle.actions.specs.declared.action.Inputs.TheVariants as inputs
 use Rattle.actions.specs.declared.gather.Conflict.{Conflict}
-use Rattle.values.specs.Texts.{field_head, joined, pair_texts_by, provider_text, quoted}
+use Rattle.printing.specs.Texts.{field_head, joined, key_text, pair_texts_by, provider_text, quoted}
+use Rattle.values.specs.declared.key.Key.{Key}
+use Rattle.values.specs.declared.key.Key.TheVariants as key
 use Rattle.workspace.specs.Labels.{LabelParts, label_text}
 use Rattle.report.specs.Outcomes.{LoadFault, LoadFaultKind, syntax_fault, load_cycle, missing_file, loaded_module_failed, private_name, missing_name, unexported, Node, Outcome, source, done, failed, Provider, TargetFault, cycle, no_such_target, package_failed, dependency_failed}
 
@@ -21,9 +23,14 @@ line text = text ++ 10 ∷ []
 abbrev pub strings_text : List (List ℕ) → List ℕ
 strings_text texts = codes "[" ++ joined (map quoted texts) ++ codes "]"
 
+-- what stands before the value of a field: its name
+abbrev pub name_head : Key → List ℕ
+name_head (key.Text name) = field_head name
+name_head k = field_head (key_text k)
+
 -- each field with its value, a space before each
 abbrev pub fields_text : Provider → List ℕ
-fields_text p = flat_map (λ t. codes " " ++ t) (pair_texts_by flat field_head p.fields)
+fields_text p = flat_map (λ t. codes " " ++ t) (pair_texts_by flat name_head p.fields)
 
 abbrev pub provider_line : Provider → List ℕ
 provider_line p = line (codes "  provider " ++ provider_text p.name ++ fields_text p)

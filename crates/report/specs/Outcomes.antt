@@ -10,18 +10,23 @@ use Rattle.depsets.specs.declared.depset.Order.TheVariants as order
 use Rattle.lexer.specs.declared.fault.FaultKind.{FaultKind}
 use Rattle.actions.specs.declared.action.Action.{Action}
 use Rattle.values.specs.Tree.{Pairs, leaf, pair, stop}
-use Rattle.values.specs.declared.leaf.Key.{Key}
-use Rattle.values.specs.declared.leaf.Key.TheVariants as key
+use Rattle.values.specs.declared.key.Key.{Key}
+use Rattle.values.specs.declared.key.Key.TheVariants as key
 use Rattle.values.specs.declared.leaf.Leaf.{Leaf}
 use Rattle.values.specs.declared.leaf.Leaf.TheVariants as plain
+use Rattle.values.specs.declared.leaf.Provider.{Provider as Maker}
 use Rattle.values.specs.declared.leaf.ProviderRef.{ProviderRef}
 use Rattle.values.specs.declared.leaf.ProviderRef.TheVariants as provider
 use Rattle.workspace.specs.Labels.{LabelParts, label_text}
 
+-- names of fields, each with its frozen value
+abbrev pub FrozenFields : Type 0
+FrozenFields = Pairs Leaf Key Maker
+
 -- an instance of a provider: the fields that were given, in the order of the provider's `fields`, with frozen values
 pub record Provider : Type 0 where
   pub name : ProviderRef
-  pub fields : Pairs Leaf Key ProviderRef
+  pub fields : FrozenFields
 
 -- why a target has no providers
 pub data TargetFault : Type 0 where

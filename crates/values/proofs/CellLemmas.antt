@@ -1,6 +1,6 @@
--- What `put_at` does.
+-- What a change of one cell does.
 use Rattle.std.proofs.Common.{◌≡◌, ℕ, zero, suc, ◌≤◌, List, [], ◌∷◌, length, slice_get, slice_set, slice_index_or, ◌<◌, Some, Ok, Err, Result, refl, sym, ap, ◌∙◌, arith}
-use Rattle.values.specs.Cells.{put_at, after}
+use Rattle.values.specs.Cells.{put_at, after, walk_over, ended_at}
 use Rattle.values.specs.Ticking.{FaultOr}
 use Rattle.values.specs.declared.cells.Cell.{Cell}
 use Rattle.values.specs.declared.ticks.Broken.{Broken}
@@ -37,3 +37,17 @@ pub set_back : {X : Type 0} (xs : List X) (i : ℕ) (x y : X) → slice_get xs i
 set_back [] i x y p e = refl
 set_back (z ∷ zs) zero x y p e = let q : z ≡ x = cc in ap (λ w. w ∷ zs) (e ∙ sym q)
 set_back (z ∷ zs) (suc i) x y p e = ap (λ l. z ∷ l) (set_back zs i x y p e)
+
+pub fault-after : {A B : Type 0} (f : A → B) (r : Result A Kind) (e : Broken) → FaultOr r e → FaultOr (after f r) e
+fault-after f r (broken.Kind k) h = ap (after f) h
+fault-after f r broken.NoMemory h = tt
+
+pub ended_at-past : (h : List Cell) (i : ℕ) → length h ≤ i → ended_at h i ≡ h
+ended_at-past [] i l = refl
+ended_at-past (c ∷ cs) zero l = absurd (omega arith)
+ended_at-past (c ∷ cs) (suc i) l = ap (λ ds. c ∷ ds) (ended_at-past cs i (omega arith))
+
+pub ended_at-set : (h : List Cell) (i : ℕ) (c : Cell) → slice_get h i ≡ Some c → ended_at h i ≡ slice_set h i (walk_over c)
+ended_at-set [] i c p = absurd (cc)
+ended_at-set (x ∷ xs) zero c p = let e : x ≡ c = cc in ap (λ y. walk_over y ∷ xs) e
+ended_at-set (x ∷ xs) (suc i) c p = ap (λ ds. x ∷ ds) (ended_at-set xs i c p)

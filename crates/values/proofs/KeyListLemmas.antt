@@ -3,10 +3,10 @@ use Rattle.std.proofs.Common.{◌≡◌, ℕ, zero, suc, ◌+◌, false, ◌||�
 use Rattle.std.specs.List.{list_any, IsDistinct, AllByRecursion}
 use Rattle.indexmap.specs.IndexSet.{insert_key}
 use Rattle.values.specs.Visits.{keys_of}
-use Rattle.values.specs.declared.leaf.Key.{Key}
+use Rattle.values.specs.declared.key.Key.{Key}
 use Rattle.values.specs.declared.value.Value.{Value}
-use Rattle.values.specs.contracts.leaf.KeyPartialEq.TheImpl.{eq-value}
-use Rattle.values.specs.contracts.leaf.KeyEq.TheImpl.Laws.{laws-law}
+use Rattle.values.specs.contracts.key.KeyPartialEq.TheImpl.{eq-value}
+use Rattle.values.specs.contracts.key.KeyEq.TheImpl.Laws.{laws-law}
 
 all_at : (P : Key → Type 0) (ks : List Key) (i : ℕ) (k : Key) → AllByRecursion P ks → slice_get ks i ≡ Some k → P k
 all_at P [] i k a p = absurd (cc)

@@ -1,10 +1,6 @@
 pub mod CellLemmas
 pub mod SeeLemmas
-pub mod EqualLemmas
-pub mod TextLemmas
-pub mod TreeTextLemmas
-pub mod ReprLemmas
 pub mod VisitLemmas
-pub mod RevisitLemmas
 pub mod KeyListLemmas
 pub mod Crossing
+pub mod LawLemmas

@@ -2,10 +2,10 @@
 -- (Starlark's specification, "Freezing a value" and "For loops"; the limit of size is this project's own.)
 use Rattle.std.specs.Prelude.{◌≡◌, ℕ, zero, suc, ◌+◌, ◌-◌, ℤ, pos, negsuc, List, [], ◌∷◌, ◌++◌, length, Option, Some, None, ◌<◌, Result, Ok, Err, if◌then◌else◌, nat_lt, ◌&&◌, not, slice_set}
 use Rattle.indexmap.specs.IndexMap.{insert_entry}
-use Rattle.values.specs.View.{FrozenTree, is_list, is_dict, is_walkable}
+use Rattle.values.specs.View.{FrozenBranch, is_list, is_dict, is_walkable}
 use Rattle.values.specs.Leaves.{same_key}
 use Rattle.values.specs.Keyed.{has_key}
-use Rattle.values.specs.declared.leaf.Key.{Key}
+use Rattle.values.specs.declared.key.Key.{Key}
 use Rattle.values.specs.declared.value.Value.{Value}
 use Rattle.values.specs.declared.value.Value.TheVariants as value
 use Rattle.values.specs.declared.cells.Cell.{Cell}
@@ -58,14 +58,14 @@ abbrev pub in_list : (List Value → Result (List Value) Kind) → Cell → Resu
 in_list f (cell.List xs n) = unless_walked n (after (λ ys. cell.List ys n) (f xs))
 in_list f (cell.Tuple xs) = Err Wrong
 in_list f (cell.Dict es n) = Err Wrong
-in_list f (cell.Instance p es) = Err Wrong
+in_list f (cell.Instance p xs) = Err Wrong
 
 -- a change of the dict of a cell
 abbrev pub in_dict : (List (Key × Value) → Result (List (Key × Value)) Kind) → Cell → Result Cell Kind
 in_dict f (cell.List xs n) = Err Wrong
 in_dict f (cell.Tuple xs) = Err Wrong
 in_dict f (cell.Dict es n) = unless_walked n (after (λ fs. cell.Dict fs n) (f es))
-in_dict f (cell.Instance p es) = Err Wrong
+in_dict f (cell.Instance p xs) = Err Wrong
 
 abbrev pub pushed : Value → Cell → Result Cell Kind
 pushed v c = in_list (pushed_items v) c
@@ -84,14 +84,14 @@ abbrev pub walk_begun : Cell → Result Cell Kind
 walk_begun (cell.List xs n) = Ok (cell.List xs (n + 1))
 walk_begun (cell.Tuple xs) = Ok (cell.Tuple xs)
 walk_begun (cell.Dict es n) = Ok (cell.Dict es (n + 1))
-walk_begun (cell.Instance p es) = Err Wrong
+walk_begun (cell.Instance p xs) = Err Wrong
 
 -- and ends
-abbrev pub walk_over : Cell → Result Cell Kind
-walk_over (cell.List xs n) = Ok (cell.List xs (n - 1))
-walk_over (cell.Tuple xs) = Ok (cell.Tuple xs)
-walk_over (cell.Dict es n) = Ok (cell.Dict es (n - 1))
-walk_over (cell.Instance p es) = Err Wrong
+abbrev pub walk_over : Cell → Cell
+walk_over (cell.List xs n) = cell.List xs (n - 1)
+walk_over (cell.Tuple xs) = cell.Tuple xs
+walk_over (cell.Dict es n) = cell.Dict es (n - 1)
+walk_over (cell.Instance p xs) = cell.Instance p xs
 
 -- the heap with what becomes of the cell at the place
 abbrev pub put_at : List Cell → ℕ → (Cell → Result Cell Kind) → Result (List Cell) Kind
@@ -99,35 +99,46 @@ put_at [] i f = Err Wrong
 put_at (c ∷ cs) zero f = after (λ d. d ∷ cs) (f c)
 put_at (c ∷ cs) (suc i) f = after (λ ds. c ∷ ds) (put_at cs i f)
 
-abbrev pub list_refusal : FrozenTree → Kind
-list_refusal t = if is_list t then Frozen else Wrong
+abbrev pub list_refusal : FrozenBranch → Kind
+list_refusal b = if is_list b then Frozen else Wrong
 
-abbrev pub dict_refusal : FrozenTree → Kind
-dict_refusal t = if is_dict t then Frozen else Wrong
-
--- a frozen list, tuple or dict may be walked, and nothing is counted
-abbrev pub walk_of_tree : List Cell → FrozenTree → Result (List Cell) Kind
-walk_of_tree h t = if is_walkable t then Ok h else Err Wrong
+abbrev pub dict_refusal : FrozenBranch → Kind
+dict_refusal b = if is_dict b then Frozen else Wrong
 
 -- a change of a list
 abbrev pub list_changed : (Cell → Result Cell Kind) → List Cell → Value → Result (List Cell) Kind
+list_changed f h (value.Key k) = Err Wrong
 list_changed f h (value.Leaf l) = Err Wrong
 list_changed f h (value.Cell n) = put_at h n f
-list_changed f h (value.Frozen t) = Err (list_refusal t)
+list_changed f h (value.Frozen b) = Err (list_refusal b)
 
 -- a change of a dict
 abbrev pub dict_changed : (Cell → Result Cell Kind) → List Cell → Value → Result (List Cell) Kind
+dict_changed f h (value.Key k) = Err Wrong
 dict_changed f h (value.Leaf l) = Err Wrong
 dict_changed f h (value.Cell n) = put_at h n f
-dict_changed f h (value.Frozen t) = Err (dict_refusal t)
+dict_changed f h (value.Frozen b) = Err (dict_refusal b)
 
--- the count of walks changes
-abbrev pub walk_changed : (Cell → Result Cell Kind) → List Cell → Value → Result (List Cell) Kind
-walk_changed f h (value.Leaf l) = Err Wrong
-walk_changed f h (value.Cell n) = put_at h n f
-walk_changed f h (value.Frozen t) = walk_of_tree h t
+-- A walk begins over a value, with the cell in which it is counted: a frozen list, tuple or dict may be walked, and
+-- nothing is counted.
+abbrev pub walk_begun_at : List Cell → Value → Result (Option ℕ × List Cell) Kind
+walk_begun_at h (value.Key k) = Err Wrong
+walk_begun_at h (value.Leaf l) = Err Wrong
+walk_begun_at h (value.Cell n) = after (λ g. (Some n, g)) (put_at h n walk_begun)
+walk_begun_at h (value.Frozen b) = if is_walkable b then Ok (None, h) else Err Wrong
+
+-- the walk that is counted in the cell at the place is over
+abbrev pub ended_at : List Cell → ℕ → List Cell
+ended_at [] i = []
+ended_at (c ∷ cs) zero = walk_over c ∷ cs
+ended_at (c ∷ cs) (suc i) = c ∷ ended_at cs i
+
+-- a walk is over, and where it is counted in no cell nothing changes
+abbrev pub walk_ended : List Cell → Option ℕ → List Cell
+walk_ended h None = h
+walk_ended h (Some n) = ended_at h n
 
 -- the cell that a walk counts in is there, and where it counts in none the value may be walked
 abbrev pub IsWalked : List Cell → Value → Option ℕ → Type 0
 IsWalked h v (Some n) = (n < length h) × (v ≡ value.Cell n)
-IsWalked h v None = (f : Cell → Result Cell Kind) → walk_changed f h v ≡ Ok h
+IsWalked h v None = walk_begun_at h v ≡ Ok (None, h)

@@ -1,14 +1,15 @@
 -- Each part of a frozen value weighs less than it.
-use Rattle.std.specs.Prelude.{◌≡◌, ◌+◌, ◌≤◌, max, List, [], ◌∷◌, length}
+use Rattle.std.specs.Prelude.{◌≡◌, ◌+◌, ◌≤◌, max, List, [], ◌∷◌, length, Option, Some, None}
 use Rattle.std.proofs.Common.{arith}
 use denote.Param.Weighed.{most}
-use Rattle.values.specs.Tree.{Tree, weight, weights, pair_weights, trees, pairs}
+use Rattle.values.specs.Tree.{Tree, weight, branch_weight, weights, pair_weights, slot_weights, trees, pairs, slots}
 use Rattle.values.specs.declared.frozen.Held.{Held}
-use Rattle.values.specs.declared.frozen.Held.TheVariants.{Leaf, Shared}
+use Rattle.values.specs.declared.frozen.Held.TheVariants.{Key as key, Leaf, Branch}
 use Rattle.values.specs.declared.frozen.Node.{Node}
 use Rattle.values.specs.declared.frozen.Node.TheVariants.{List as list, Tuple, Dict, Instance}
-use Rattle.values.specs.View.{tree_of, node_tree, IsPaired, IsPairedNode}
-use Rattle.values.specs.declared.frozen.Frozen.TheDeep.{deep-Held, deep-Node}
+use Rattle.values.specs.View.{FrozenTree, tree_of, node_branch, IsPaired}
+use Rattle.values.specs.declared.frozen.Branch.TheDeep.{deep-Held, deep-Node}
+use Rattle.values.specs.declared.frozen.Branch.TheShapes.{weighed-Node-Instance-1-at-1}
 
 module _ {L K P : Type 0} where
   most_le-weights : (ts : List (Tree L K P)) → most (λ t. weight t + 1) ts ≤ weights (trees ts) + 1
@@ -21,12 +22,18 @@ module _ {L K P : Type 0} where
   most_le-pairs (k ∷ ks) [] h = absurd (omega arith)
   most_le-pairs (k ∷ ks) (t ∷ ts) h = let rest = most_le-pairs ks ts (omega arith) in omega (arith, rest)
 
-below : (n : Node) → IsPairedNode n → max (deep-Node n) 0 ≤ weight (node_tree n)
-below (list v) h = omega (arith, most_le-weights v.items)
-below (Tuple v) h = omega (arith, most_le-weights v.items)
-below (Dict ks v) h = omega (arith, most_le-pairs ks.keys v.items h)
-below (Instance p ks v) h = omega (arith, most_le-pairs ks.keys v.items h)
+most_le-slots : (os : List (Option FrozenTree)) → most (λ o. weighed-Node-Instance-1-at-1.weight FrozenTree (λ t. weight t + 1) o) os ≤ slot_weights (slots os) + 1
+most_le-slots [] = omega arith
+most_le-slots (None ∷ os) = omega (arith, most_le-slots os)
+most_le-slots (Some t ∷ os) = omega (arith, most_le-slots os)
 
-pub deep_le-weight : (h : Held) → IsPaired h → max (deep-Held h) 0 ≤ weight (tree_of h)
-deep_le-weight (Leaf l) h = omega arith
-deep_le-weight (Shared n) h = let b = below n.value h in omega (arith, b)
+pub branch_deep_le-weight : (n : Node) → IsPaired n → max (deep-Node n) 0 ≤ branch_weight (node_branch n)
+branch_deep_le-weight (list v) h = omega (arith, most_le-weights v.items)
+branch_deep_le-weight (Tuple v) h = omega (arith, most_le-weights v.items)
+branch_deep_le-weight (Dict ks v) h = omega (arith, most_le-pairs ks.keys v.items h)
+branch_deep_le-weight (Instance p v) h = omega (arith, most_le-slots v.items)
+
+pub deep_le-weight : (h : Held) → max (deep-Held h) 0 ≤ weight (tree_of h)
+deep_le-weight (key k) = omega arith
+deep_le-weight (Leaf l) = omega arith
+deep_le-weight (Branch b) = omega arith

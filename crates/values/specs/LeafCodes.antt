@@ -1,12 +1,17 @@
 -- Codes of leaves, keys and providers.
-use Rattle.std.specs.Prelude.{◌≡◌, ℤ, ℕ, Bool, List, ◌⊎◌, refl}
-use Rattle.std.specs.Coded.{Coded, coded×, coded⊎, coded_ℤ, coded_ℕ, coded_bool, code_by}
+use Rattle.std.specs.Prelude.{◌≡◌, ℤ, ℕ, Bool, List, Option, ◌⊎◌, refl}
+use Rattle.std.specs.Coded.{Coded, coded×, coded⊎, coded_ℤ, coded_ℕ, coded_bool, coded_list, coded_option, code_by}
 use Rattle.std.proofs.Common.{inl, inr}
 use base.Stored.{coded_unit}
 use Rattle.depsets.specs.Rose.{Rose, coded_rose}
 use Rattle.depsets.specs.Own.{Own, own_code, text_code}
 use Rattle.depsets.specs.declared.element.FileRef.{FileRef}
+use Rattle.values.specs.declared.leaf.BuiltIn.{BuiltIn}
+use Rattle.values.specs.declared.leaf.BuiltIn.TheVariants as built_in
 use Rattle.values.specs.declared.leaf.FunctionRef.{FunctionRef}
+use Rattle.values.specs.declared.leaf.MadeId.{MadeId}
+use Rattle.values.specs.declared.leaf.Provider.{Provider}
+use Rattle.values.specs.declared.leaf.RuleRef.{RuleRef}
 use Rattle.values.specs.declared.leaf.Exported.{Exported}
 use Rattle.values.specs.declared.leaf.ExportName.{ExportName}
 use Rattle.values.specs.declared.leaf.ExportName.TheVariants as export
@@ -19,16 +24,19 @@ use Rattle.values.specs.declared.leaf.Object.{Object}
 use Rattle.values.specs.declared.leaf.Object.TheVariants as object
 use Rattle.values.specs.declared.leaf.Leaf.{Leaf}
 use Rattle.values.specs.declared.leaf.Leaf.TheVariants as plain
-use Rattle.values.specs.declared.leaf.Key.{Key}
-use Rattle.values.specs.declared.leaf.Key.TheVariants as key
+use Rattle.values.specs.declared.key.Key.{Key}
+use Rattle.values.specs.declared.key.Key.TheVariants as key
 
 abbrev pub file_code : Coded FileRef
 file_code = code_by (List ℕ × List ℕ) (coded× text_code text_code) (λ f. (f.path, f.owner)) (λ p. record { path = p.0; owner = p.1 }) (λ _. refl)
 
+abbrev pub made_code : Coded MadeId
+made_code = code_by (ℕ × ℕ) (coded× coded_ℕ coded_ℕ) (λ m. (m.«module», m.number)) (λ p. record { «module» = p.0; number = p.1 }) (λ _. refl)
+
 abbrev pub function_code : Coded FunctionRef
 function_code =
-    code_by (List ℕ × (List ℕ × ℕ)) (coded× text_code (coded× text_code coded_ℕ)) (λ f. (f.path, (f.name, f.number)))
-    (λ p. record { path = p.0; name = p.1.0; number = p.1.1 }) (λ _. refl)
+    code_by (MadeId × (List ℕ × List ℕ)) (coded× made_code (coded× text_code text_code)) (λ f. (f.id, (f.path, f.name)))
+    (λ p. record { id = p.0; path = p.1.0; name = p.1.1 }) (λ _. refl)
 
 abbrev pub ExportNameSum : Type 0
 ExportNameSum = (List ℕ) ⊎ ℕ
@@ -69,11 +77,22 @@ pub join_provider-split_provider : (x : ProviderRef) → join_provider (split_pr
 join_provider-split_provider provider.DefaultInfo = refl
 join_provider-split_provider (provider.Exported x) = refl
 
-abbrev pub provider_code : Coded ProviderRef
-provider_code =
+abbrev pub provider_name_code : Coded ProviderRef
+provider_name_code =
     code_by ProviderSum
     (coded⊎ coded_unit exported_code)
     split_provider join_provider join_provider-split_provider
+
+abbrev pub names_code : Coded (List (List ℕ))
+names_code = coded_list text_code
+
+abbrev pub provider_code : Coded Provider
+provider_code =
+    code_by (Option MadeId × (ProviderRef × List (List ℕ))) (coded× (coded_option made_code) (coded× provider_name_code names_code))
+    (λ p. (p.id, (p.name, p.fields))) (λ q. record { id = q.0; name = q.1.0; fields = q.1.1 }) (λ _. refl)
+
+abbrev pub rule_code : Coded RuleRef
+rule_code = code_by (MadeId × Exported) (coded× made_code exported_code) (λ r. (r.id, r.name)) (λ p. record { id = p.0; name = p.1 }) (λ _. refl)
 
 abbrev pub KindSum : Type 0
 KindSum = (Unit {0}) ⊎ ((Unit {0}) ⊎ ((Unit {0}) ⊎ ((Unit {0}) ⊎ ((Unit {0}) ⊎ (Unit {0})))))
@@ -143,46 +162,76 @@ object_code =
     (coded⊎ coded_unit (coded⊎ coded_unit (coded⊎ coded_unit (coded⊎ coded_unit coded_unit))))
     split_object join_object join_object-split_object
 
+abbrev pub BuiltInSum : Type 0
+BuiltInSum = (Unit {0}) ⊎ ((Unit {0}) ⊎ ((Unit {0}) ⊎ ((Unit {0}) ⊎ ((Unit {0}) ⊎ ((Unit {0}) ⊎ ((Unit {0}) ⊎ (Unit {0})))))))
+
+abbrev pub split_built_in : BuiltIn → BuiltInSum
+split_built_in built_in.Depset = inl tt
+split_built_in built_in.Fail = inr (inl tt)
+split_built_in built_in.Len = inr (inr (inl tt))
+split_built_in built_in.List = inr (inr (inr (inl tt)))
+split_built_in built_in.Provider = inr (inr (inr (inr (inl tt))))
+split_built_in built_in.Range = inr (inr (inr (inr (inr (inl tt)))))
+split_built_in built_in.Rule = inr (inr (inr (inr (inr (inr (inl tt))))))
+split_built_in built_in.Str = inr (inr (inr (inr (inr (inr (inr tt))))))
+
+abbrev pub join_built_in : BuiltInSum → BuiltIn
+join_built_in (inl u) = built_in.Depset
+join_built_in (inr (inl u)) = built_in.Fail
+join_built_in (inr (inr (inl u))) = built_in.Len
+join_built_in (inr (inr (inr (inl u)))) = built_in.List
+join_built_in (inr (inr (inr (inr (inl u))))) = built_in.Provider
+join_built_in (inr (inr (inr (inr (inr (inl u)))))) = built_in.Range
+join_built_in (inr (inr (inr (inr (inr (inr (inl u))))))) = built_in.Rule
+join_built_in (inr (inr (inr (inr (inr (inr (inr u))))))) = built_in.Str
+
+pub join_built_in-split_built_in : (x : BuiltIn) → join_built_in (split_built_in x) ≡ x
+join_built_in-split_built_in built_in.Depset = refl
+join_built_in-split_built_in built_in.Fail = refl
+join_built_in-split_built_in built_in.Len = refl
+join_built_in-split_built_in built_in.List = refl
+join_built_in-split_built_in built_in.Provider = refl
+join_built_in-split_built_in built_in.Range = refl
+join_built_in-split_built_in built_in.Rule = refl
+join_built_in-split_built_in built_in.Str = refl
+
+abbrev pub built_in_code : Coded BuiltIn
+built_in_code =
+    code_by BuiltInSum
+    (coded⊎ coded_unit (coded⊎ coded_unit (coded⊎ coded_unit (coded⊎ coded_unit (coded⊎ coded_unit (coded⊎ coded_unit (coded⊎ coded_unit coded_unit)))))))
+    split_built_in join_built_in join_built_in-split_built_in
+
 abbrev pub LeafSum : Type 0
-LeafSum = (Unit {0}) ⊎ (Bool ⊎ (ℤ ⊎ ((List ℕ) ⊎ ((List ℕ) ⊎ (FileRef ⊎ ((Rose Own) ⊎ (FunctionRef ⊎ ((List ℕ) ⊎ (ProviderRef ⊎ (Exported ⊎ (AttributeRef ⊎ (ℕ ⊎ Object))))))))))))
+LeafSum = (Unit {0}) ⊎ ((List ℕ) ⊎ (FileRef ⊎ ((Rose Own) ⊎ (FunctionRef ⊎ (BuiltIn ⊎ (Provider ⊎ (RuleRef ⊎ (AttributeRef ⊎ (ℕ ⊎ Object)))))))))
 
 abbrev pub split_leaf : Leaf → LeafSum
 split_leaf plain.None = inl tt
-split_leaf (plain.Truth x) = inr (inl x)
-split_leaf (plain.Number x) = inr (inr (inl x))
-split_leaf (plain.Text x) = inr (inr (inr (inl x)))
-split_leaf (plain.Label x) = inr (inr (inr (inr (inl x))))
-split_leaf (plain.File x) = inr (inr (inr (inr (inr (inl x)))))
-split_leaf (plain.Depset x) = inr (inr (inr (inr (inr (inr (inl x))))))
-split_leaf (plain.Function x) = inr (inr (inr (inr (inr (inr (inr (inl x)))))))
-split_leaf (plain.BuiltIn x) = inr (inr (inr (inr (inr (inr (inr (inr (inl x))))))))
-split_leaf (plain.Provider x) = inr (inr (inr (inr (inr (inr (inr (inr (inr (inl x)))))))))
-split_leaf (plain.Rule x) = inr (inr (inr (inr (inr (inr (inr (inr (inr (inr (inl x))))))))))
-split_leaf (plain.Attribute x) = inr (inr (inr (inr (inr (inr (inr (inr (inr (inr (inr (inl x)))))))))))
-split_leaf (plain.Target x) = inr (inr (inr (inr (inr (inr (inr (inr (inr (inr (inr (inr (inl x))))))))))))
-split_leaf (plain.Object x) = inr (inr (inr (inr (inr (inr (inr (inr (inr (inr (inr (inr (inr x))))))))))))
+split_leaf (plain.Label x) = inr (inl x)
+split_leaf (plain.File x) = inr (inr (inl x))
+split_leaf (plain.Depset x) = inr (inr (inr (inl x)))
+split_leaf (plain.Function x) = inr (inr (inr (inr (inl x))))
+split_leaf (plain.BuiltIn x) = inr (inr (inr (inr (inr (inl x)))))
+split_leaf (plain.Provider x) = inr (inr (inr (inr (inr (inr (inl x))))))
+split_leaf (plain.Rule x) = inr (inr (inr (inr (inr (inr (inr (inl x)))))))
+split_leaf (plain.Attribute x) = inr (inr (inr (inr (inr (inr (inr (inr (inl x))))))))
+split_leaf (plain.Target x) = inr (inr (inr (inr (inr (inr (inr (inr (inr (inl x)))))))))
+split_leaf (plain.Object x) = inr (inr (inr (inr (inr (inr (inr (inr (inr (inr x)))))))))
 
 abbrev pub join_leaf : LeafSum → Leaf
 join_leaf (inl u) = plain.None
-join_leaf (inr (inl x)) = plain.Truth x
-join_leaf (inr (inr (inl x))) = plain.Number x
-join_leaf (inr (inr (inr (inl x)))) = plain.Text x
-join_leaf (inr (inr (inr (inr (inl x))))) = plain.Label x
-join_leaf (inr (inr (inr (inr (inr (inl x)))))) = plain.File x
-join_leaf (inr (inr (inr (inr (inr (inr (inl x))))))) = plain.Depset x
-join_leaf (inr (inr (inr (inr (inr (inr (inr (inl x)))))))) = plain.Function x
-join_leaf (inr (inr (inr (inr (inr (inr (inr (inr (inl x))))))))) = plain.BuiltIn x
-join_leaf (inr (inr (inr (inr (inr (inr (inr (inr (inr (inl x)))))))))) = plain.Provider x
-join_leaf (inr (inr (inr (inr (inr (inr (inr (inr (inr (inr (inl x))))))))))) = plain.Rule x
-join_leaf (inr (inr (inr (inr (inr (inr (inr (inr (inr (inr (inr (inl x)))))))))))) = plain.Attribute x
-join_leaf (inr (inr (inr (inr (inr (inr (inr (inr (inr (inr (inr (inr (inl x))))))))))))) = plain.Target x
-join_leaf (inr (inr (inr (inr (inr (inr (inr (inr (inr (inr (inr (inr (inr x))))))))))))) = plain.Object x
+join_leaf (inr (inl x)) = plain.Label x
+join_leaf (inr (inr (inl x))) = plain.File x
+join_leaf (inr (inr (inr (inl x)))) = plain.Depset x
+join_leaf (inr (inr (inr (inr (inl x))))) = plain.Function x
+join_leaf (inr (inr (inr (inr (inr (inl x)))))) = plain.BuiltIn x
+join_leaf (inr (inr (inr (inr (inr (inr (inl x))))))) = plain.Provider x
+join_leaf (inr (inr (inr (inr (inr (inr (inr (inl x)))))))) = plain.Rule x
+join_leaf (inr (inr (inr (inr (inr (inr (inr (inr (inl x))))))))) = plain.Attribute x
+join_leaf (inr (inr (inr (inr (inr (inr (inr (inr (inr (inl x)))))))))) = plain.Target x
+join_leaf (inr (inr (inr (inr (inr (inr (inr (inr (inr (inr x)))))))))) = plain.Object x
 
 pub join_leaf-split_leaf : (x : Leaf) → join_leaf (split_leaf x) ≡ x
 join_leaf-split_leaf plain.None = refl
-join_leaf-split_leaf (plain.Truth x) = refl
-join_leaf-split_leaf (plain.Number x) = refl
-join_leaf-split_leaf (plain.Text x) = refl
 join_leaf-split_leaf (plain.Label x) = refl
 join_leaf-split_leaf (plain.File x) = refl
 join_leaf-split_leaf (plain.Depset x) = refl
@@ -197,7 +246,7 @@ join_leaf-split_leaf (plain.Object x) = refl
 abbrev pub leaf_code : Coded Leaf
 leaf_code =
     code_by LeafSum
-    (coded⊎ coded_unit (coded⊎ coded_bool (coded⊎ coded_ℤ (coded⊎ text_code (coded⊎ text_code (coded⊎ file_code (coded⊎ (coded_rose own_code) (coded⊎ function_code (coded⊎ text_code (coded⊎ provider_code (coded⊎ exported_code (coded⊎ attribute_code (coded⊎ coded_ℕ object_code)))))))))))))
+    (coded⊎ coded_unit (coded⊎ text_code (coded⊎ file_code (coded⊎ (coded_rose own_code) (coded⊎ function_code (coded⊎ built_in_code (coded⊎ provider_code (coded⊎ rule_code (coded⊎ attribute_code (coded⊎ coded_ℕ object_code))))))))))
     split_leaf join_leaf join_leaf-split_leaf
 
 abbrev pub KeySum : Type 0

@@ -1,31 +1,46 @@
--- When providers, rules and keys are the same, and a key as a value.
-use Rattle.std.specs.Prelude.{Bool, true, false, ◌&&◌, nat_eq}
+-- When providers, rules, functions and keys are the same, and what built-in functions are called.
+use Rattle.std.specs.Prelude.{ℕ, Bool, true, false, ◌&&◌, List, Option, Some, None, nat_eq, codes}
 use Rattle.std.specs.Ordering.{int_eq}
 use Rattle.std.specs.Str.{bytes_eq}
 use Rattle.depsets.specs.Elements.{same_truth}
-use Rattle.values.specs.declared.leaf.Exported.{Exported}
-use Rattle.values.specs.declared.leaf.ExportName.{ExportName}
-use Rattle.values.specs.declared.leaf.ExportName.TheVariants.{Global, Making}
-use Rattle.values.specs.declared.leaf.ProviderRef.{ProviderRef}
-use Rattle.values.specs.declared.leaf.ProviderRef.TheVariants as provider
-use Rattle.values.specs.declared.leaf.Leaf.{Leaf}
-use Rattle.values.specs.declared.leaf.Leaf.TheVariants as plain
-use Rattle.values.specs.declared.leaf.Key.{Key}
-use Rattle.values.specs.declared.leaf.Key.TheVariants.{Text, Number, Truth}
+use Rattle.values.specs.declared.leaf.BuiltIn.{BuiltIn}
+use Rattle.values.specs.declared.leaf.BuiltIn.TheVariants as built_in
+use Rattle.values.specs.declared.leaf.FunctionRef.{FunctionRef}
+use Rattle.values.specs.declared.leaf.MadeId.{MadeId}
+use Rattle.values.specs.declared.leaf.Provider.{Provider}
+use Rattle.values.specs.declared.leaf.RuleRef.{RuleRef}
+use Rattle.values.specs.declared.key.Key.{Key}
+use Rattle.values.specs.declared.key.Key.TheVariants.{Text, Number, Truth}
 
-abbrev pub same_name : ExportName → ExportName → Bool
-same_name (Global a) (Global b) = bytes_eq a b
-same_name (Making n) (Making m) = nat_eq n m
-same_name _ _ = false
+-- What a module makes is told apart by numbers: the module's, and its own among those of its kind there.
+abbrev pub same_made : MadeId → MadeId → Bool
+same_made a b = nat_eq a.«module» b.«module» && nat_eq a.number b.number
 
--- A provider or a rule is the module that made it and its name there, or its number until it has one.
-abbrev pub same_exported : Exported → Exported → Bool
-same_exported a b = bytes_eq a.path b.path && same_name a.name b.name
+-- `DefaultInfo`, which no module makes, is itself alone
+abbrev pub same_maker : Option MadeId → Option MadeId → Bool
+same_maker None None = true
+same_maker (Some a) (Some b) = same_made a b
+same_maker _ _ = false
 
-abbrev pub same_provider : ProviderRef → ProviderRef → Bool
-same_provider provider.DefaultInfo provider.DefaultInfo = true
-same_provider (provider.Exported a) (provider.Exported b) = same_exported a b
-same_provider _ _ = false
+abbrev pub same_provider : Provider → Provider → Bool
+same_provider p q = same_maker p.id q.id
+
+abbrev pub same_rule : RuleRef → RuleRef → Bool
+same_rule r s = same_made r.id s.id
+
+abbrev pub same_function : FunctionRef → FunctionRef → Bool
+same_function f g = same_made f.id g.id
+
+-- (Bazel documentation, ".bzl files" and "All BUILD and .bzl files": the global functions of this project's language.)
+abbrev pub built_in_text : BuiltIn → List ℕ
+built_in_text built_in.Depset = codes "depset"
+built_in_text built_in.Fail = codes "fail"
+built_in_text built_in.Len = codes "len"
+built_in_text built_in.List = codes "list"
+built_in_text built_in.Provider = codes "provider"
+built_in_text built_in.Range = codes "range"
+built_in_text built_in.Rule = codes "rule"
+built_in_text built_in.Str = codes "str"
 
 -- Keys of different types are different, `True` and `1` among them.
 -- (Starlark's specification, "Dictionaries": keys are compared by equality.)
@@ -34,8 +49,3 @@ same_key (Text a) (Text b) = bytes_eq a b
 same_key (Number a) (Number b) = int_eq a b
 same_key (Truth a) (Truth b) = same_truth a b
 same_key _ _ = false
-
-abbrev pub key_leaf : Key → Leaf
-key_leaf (Text s) = plain.Text s
-key_leaf (Number n) = plain.Number n
-key_leaf (Truth b) = plain.Truth b

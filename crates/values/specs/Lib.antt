@@ -10,10 +10,6 @@ pub mod Cells
 pub mod CellCodes
 pub mod Shape
 pub mod Seeing
-pub mod Equal
+pub mod Laws
 pub mod Visits
-pub mod Freeze
-pub mod Revisit
-pub mod Texts
-pub mod Repr
 pub mod KindText

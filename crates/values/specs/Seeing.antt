@@ -1,20 +1,24 @@
 -- What the views of a value show.
 use Rattle.std.specs.Prelude.{List, map, true, false, Option, Some, None}
-use Rattle.values.specs.Shape.{Shape, atom, items, entries, fields, nothing, value_of, zip}
-use Rattle.values.specs.declared.leaf.Key.{Key}
+use Rattle.values.specs.Shape.{Shape, key, atom, items, entries, fields, nothing, value_of, slot_of, zip}
+use Rattle.values.specs.declared.key.Key.{Key}
 use Rattle.values.specs.declared.value.Value.{Value}
+use Rattle.values.specs.declared.value.Value.TheVariants as value
 use Rattle.values.specs.declared.sees.Item.{Item}
 use Rattle.values.specs.declared.sees.Item.TheVariants as item
 use Rattle.values.specs.declared.sees.Group.{Group}
 use Rattle.values.specs.declared.sees.Group.TheVariants as group
 use Rattle.values.specs.declared.sees.Table.{Table}
 use Rattle.values.specs.declared.sees.Table.TheVariants as table
+use Rattle.values.specs.declared.sees.Slots.{Slots}
+use Rattle.values.specs.declared.sees.Slots.TheVariants as slot
 use Rattle.values.specs.declared.sees.Seen.{Seen}
 use Rattle.values.specs.declared.sees.Seen.TheVariants as see
 
 abbrev pub item_value : Item → Value
 item_value (item.Value v) = v.now
 item_value (item.Tree t) = value_of t.now
+item_value (item.Key k) = value.Key k.now
 
 abbrev pub option_value : Option Item → Option Value
 option_value (Some i) = Some (item_value i)
@@ -28,10 +32,15 @@ abbrev pub table_entries : Table → List (Key × Value)
 table_entries (table.Values e) = e.now
 table_entries (table.Trees ks ts) = zip ks.now.keys ts.now
 
+abbrev pub slot_values : Slots → List (Option Value)
+slot_values (slot.Values s) = s.now
+slot_values (slot.Trees s) = map slot_of s.now
+
 abbrev pub seen : Seen → Shape
+seen (see.Key k) = key k.now
 seen (see.Leaf l) = atom l.now
 seen (see.List g) = items true (group_items g)
 seen (see.Tuple g) = items false (group_items g)
 seen (see.Dict t) = entries (table_entries t)
-seen (see.Instance p t) = fields p.now (table_entries t)
+seen (see.Instance p s) = fields p.now (slot_values s)
 seen see.Nothing = nothing

@@ -1,33 +1,37 @@
--- What a value shows to equality, freezing and `str`, wherever it stands: a leaf, items, entries or fields.
+-- What a value shows to equality, freezing and `str`, wherever it stands: a key, a leaf, items, entries or fields.
 -- A frozen list and a list of the heap show the same.
 use Rattle.std.specs.Prelude.{Bool, true, false, List, [], ◌∷◌, map, Option, Some, None, slice_get}
-use Rattle.values.specs.Tree.{leaf, list, tuple, dict, instance, tree_list, pair_list}
-use Rattle.values.specs.View.{FrozenTree}
+use Rattle.values.specs.Tree.{key as key_tree, leaf, branch, list, tuple, dict, instance, tree_list, pair_list, slot_list}
+use Rattle.values.specs.View.{FrozenTree, FrozenBranch}
 use Rattle.values.specs.declared.leaf.Leaf.{Leaf}
-use Rattle.values.specs.declared.leaf.Key.{Key}
-use Rattle.values.specs.declared.leaf.ProviderRef.{ProviderRef}
+use Rattle.values.specs.declared.leaf.Provider.{Provider}
+use Rattle.values.specs.declared.key.Key.{Key}
 use Rattle.values.specs.declared.value.Value.{Value}
 use Rattle.values.specs.declared.value.Value.TheVariants as value
 use Rattle.values.specs.declared.cells.Cell.{Cell}
 use Rattle.values.specs.declared.cells.Cell.TheVariants as cell
 
+-- the fields of an instance stand by the places of their names in the provider
 pub data Shape : Type 0 where
+  key : Key → Shape
   atom : Leaf → Shape
   items : Bool → List Value → Shape
   entries : List (Key × Value) → Shape
-  fields : ProviderRef → List (Key × Value) → Shape
+  fields : Provider → List (Option Value) → Shape
   nothing : Shape
 
--- a frozen value as a value: a leaf is itself
+-- a frozen value as a value: a key or a leaf is itself
 abbrev pub value_of : FrozenTree → Value
+value_of (key_tree k) = value.Key k
 value_of (leaf l) = value.Leaf l
-value_of (list ts) = value.Frozen (list ts)
-value_of (tuple ts) = value.Frozen (tuple ts)
-value_of (dict ps) = value.Frozen (dict ps)
-value_of (instance p ps) = value.Frozen (instance p ps)
+value_of (branch b) = value.Frozen b
 
 abbrev pub entry_of : Key × FrozenTree → Key × Value
 entry_of e = (e.0, value_of e.1)
+
+abbrev pub slot_of : Option FrozenTree → Option Value
+slot_of None = None
+slot_of (Some t) = Some (value_of t)
 
 -- keys and values by place
 abbrev pub zip : List Key → List FrozenTree → List (Key × Value)
@@ -35,21 +39,26 @@ zip [] ts = []
 zip (k ∷ ks) [] = []
 zip (k ∷ ks) (t ∷ ts) = (k, value_of t) ∷ zip ks ts
 
+abbrev pub branch_shape : FrozenBranch → Shape
+branch_shape (list ts) = items true (map value_of (tree_list ts))
+branch_shape (tuple ts) = items false (map value_of (tree_list ts))
+branch_shape (dict ps) = entries (map entry_of (pair_list ps))
+branch_shape (instance p ss) = fields p (map slot_of (slot_list ss))
+
 abbrev pub tree_shape : FrozenTree → Shape
+tree_shape (key_tree k) = key k
 tree_shape (leaf l) = atom l
-tree_shape (list ts) = items true (map value_of (tree_list ts))
-tree_shape (tuple ts) = items false (map value_of (tree_list ts))
-tree_shape (dict ps) = entries (map entry_of (pair_list ps))
-tree_shape (instance p ps) = fields p (map entry_of (pair_list ps))
+tree_shape (branch b) = branch_shape b
 
 abbrev pub cell_shape : Option Cell → Shape
 cell_shape (Some (cell.List xs n)) = items true xs
 cell_shape (Some (cell.Tuple xs)) = items false xs
 cell_shape (Some (cell.Dict es n)) = entries es
-cell_shape (Some (cell.Instance p es)) = fields p es
+cell_shape (Some (cell.Instance p xs)) = fields p xs
 cell_shape None = nothing
 
 abbrev pub shape : List Cell → Value → Shape
+shape h (value.Key k) = key k
 shape h (value.Leaf l) = atom l
 shape h (value.Cell n) = cell_shape (slice_get h n)
-shape h (value.Frozen t) = tree_shape t
+shape h (value.Frozen b) = branch_shape b

@@ -1,17 +1,22 @@
--- Frozen values as trees: leaves, lists, tuples, dicts with their entries in order, and provider instances
--- with their fields in order. Generic in leaves, keys and providers. And a code of them.
-use Rattle.std.specs.Prelude.{◌≡◌, ℕ, ◌+◌, List, [], ◌∷◌, refl}
+-- Frozen values as trees: keys, leaves, and branches. A branch is a list, a tuple, a dict with its entries in order, or
+-- a provider instance with its fields by the places of their names in the provider. Generic in leaves, keys and
+-- providers. And a code of them.
+use Rattle.std.specs.Prelude.{◌≡◌, ℕ, ◌+◌, List, [], ◌∷◌, Option, Some, None, refl}
 use Rattle.std.specs.Coded.{Coded}
 use Rattle.std.proofs.Common.{ap, sym, subst, arith}
 use base.Stored.{Gv, gnil, gnum, gcons}
 
 mutual
   pub data Tree (L K P : Type 0) : Type 0 where
+    key : K → Tree L K P
     leaf : L → Tree L K P
-    list : Trees L K P → Tree L K P
-    tuple : Trees L K P → Tree L K P
-    dict : Pairs L K P → Tree L K P
-    instance : P → Pairs L K P → Tree L K P
+    branch : Branch L K P → Tree L K P
+
+  pub data Branch (L K P : Type 0) : Type 0 where
+    list : Trees L K P → Branch L K P
+    tuple : Trees L K P → Branch L K P
+    dict : Pairs L K P → Branch L K P
+    instance : P → Slots L K P → Branch L K P
 
   pub data Trees (L K P : Type 0) : Type 0 where
     none : Trees L K P
@@ -20,6 +25,12 @@ mutual
   pub data Pairs (L K P : Type 0) : Type 0 where
     stop : Pairs L K P
     pair : K → Tree L K P → Pairs L K P → Pairs L K P
+
+  -- the fields of an instance by place: one that wasn't given is missing
+  pub data Slots (L K P : Type 0) : Type 0 where
+    end : Slots L K P
+    missing : Slots L K P → Slots L K P
+    given : Tree L K P → Slots L K P → Slots L K P
 
 module _ {L K P : Type 0} where
   -- a list of trees, as the items of a tree
@@ -43,19 +54,30 @@ module _ {L K P : Type 0} where
   pair_list stop = []
   pair_list (pair k t ps) = (k, t) ∷ pair_list ps
 
-  -- and from one
-  abbrev pub pairs_of : List (K × Tree L K P) → Pairs L K P
-  pairs_of [] = stop
-  pairs_of (e ∷ es) = pair e.0 e.1 (pairs_of es)
+  -- fields by place, as those of a tree
+  abbrev pub slots : List (Option (Tree L K P)) → Slots L K P
+  slots [] = end
+  slots (None ∷ os) = missing (slots os)
+  slots (Some t ∷ os) = given t (slots os)
+
+  -- and back
+  abbrev pub slot_list : Slots L K P → List (Option (Tree L K P))
+  slot_list end = []
+  slot_list (missing ss) = None ∷ slot_list ss
+  slot_list (given t ss) = Some t ∷ slot_list ss
 
   abbrev mutual
     -- how many nodes a tree has
     pub weight : Tree L K P → ℕ
+    weight (key x) = 1
     weight (leaf x) = 1
-    weight (list ts) = weights ts + 1
-    weight (tuple ts) = weights ts + 1
-    weight (dict ps) = pair_weights ps + 1
-    weight (instance p ps) = pair_weights ps + 1
+    weight (branch b) = branch_weight b + 1
+
+    pub branch_weight : Branch L K P → ℕ
+    branch_weight (list ts) = weights ts + 1
+    branch_weight (tuple ts) = weights ts + 1
+    branch_weight (dict ps) = pair_weights ps + 1
+    branch_weight (instance p ss) = slot_weights ss + 1
 
     pub weights : Trees L K P → ℕ
     weights none = 0
@@ -64,6 +86,11 @@ module _ {L K P : Type 0} where
     pub pair_weights : Pairs L K P → ℕ
     pair_weights stop = 0
     pair_weights (pair k t ps) = weight t + pair_weights ps
+
+    pub slot_weights : Slots L K P → ℕ
+    slot_weights end = 0
+    slot_weights (missing ss) = slot_weights ss
+    slot_weights (given t ss) = weight t + slot_weights ss
 
 abbrev head : Gv → Gv
 head gnil = gnil
@@ -90,11 +117,15 @@ tag (gcons (gcons a c) b) = 0
 module _ {L K P : Type 0} (l : Coded L) (k : Coded K) (p : Coded P) where
   mutual
     pub tree_gv : Tree L K P → Gv
-    tree_gv (leaf x) = gcons (gnum 0) (l.code x)
-    tree_gv (list ts) = gcons (gnum 1) (trees_gv ts)
-    tree_gv (tuple ts) = gcons (gnum 2) (trees_gv ts)
-    tree_gv (dict ps) = gcons (gnum 3) (pairs_gv ps)
-    tree_gv (instance x ps) = gcons (gnum 4) (gcons (p.code x) (pairs_gv ps))
+    tree_gv (key x) = gcons (gnum 0) (k.code x)
+    tree_gv (leaf x) = gcons (gnum 1) (l.code x)
+    tree_gv (branch b) = gcons (gnum 2) (branch_gv b)
+
+    pub branch_gv : Branch L K P → Gv
+    branch_gv (list ts) = gcons (gnum 1) (trees_gv ts)
+    branch_gv (tuple ts) = gcons (gnum 2) (trees_gv ts)
+    branch_gv (dict ps) = gcons (gnum 3) (pairs_gv ps)
+    branch_gv (instance x ss) = gcons (gnum 4) (gcons (p.code x) (slots_gv ss))
 
     pub trees_gv : Trees L K P → Gv
     trees_gv none = gnil
@@ -104,17 +135,27 @@ module _ {L K P : Type 0} (l : Coded L) (k : Coded K) (p : Coded P) where
     pairs_gv stop = gnil
     pairs_gv (pair x t ps) = gcons (k.code x) (gcons (tree_gv t) (pairs_gv ps))
 
+    pub slots_gv : Slots L K P → Gv
+    slots_gv end = gcons (gnum 0) gnil
+    slots_gv (missing ss) = gcons (gnum 1) (slots_gv ss)
+    slots_gv (given t ss) = gcons (gnum 2) (gcons (tree_gv t) (slots_gv ss))
+
   mutual
-    unfolding tree_gv trees_gv pairs_gv
+    unfolding tree_gv branch_gv trees_gv pairs_gv slots_gv
 
     pub tree_inj : (t u : Tree L K P) → tree_gv t ≡ tree_gv u → t ≡ u
+    tree_inj (key x) (key y) e = ap key (k.inj x y (ap tail e))
     tree_inj (leaf x) (leaf y) e = ap leaf (l.inj x y (ap tail e))
-    tree_inj (list x) (list y) e = ap list (trees_inj x y (ap tail e))
-    tree_inj (tuple x) (tuple y) e = ap tuple (trees_inj x y (ap tail e))
-    tree_inj (dict x) (dict y) e = ap dict (pairs_inj x y (ap tail e))
-    tree_inj (instance x ps) (instance y qs) e =
-        λ i. instance (p.inj x y (ap (λ g. head (tail g)) e) i) (pairs_inj ps qs (ap (λ g. tail (tail g)) e) i)
+    tree_inj (branch b) (branch c) e = ap branch (branch_inj b c (ap tail e))
     tree_inj _ _ e = let h = ap tag e in absurd (omega (arith, h))
+
+    pub branch_inj : (b c : Branch L K P) → branch_gv b ≡ branch_gv c → b ≡ c
+    branch_inj (list x) (list y) e = ap list (trees_inj x y (ap tail e))
+    branch_inj (tuple x) (tuple y) e = ap tuple (trees_inj x y (ap tail e))
+    branch_inj (dict x) (dict y) e = ap dict (pairs_inj x y (ap tail e))
+    branch_inj (instance x ss) (instance y rs) e =
+        λ i. instance (p.inj x y (ap (λ g. head (tail g)) e) i) (slots_inj ss rs (ap (λ g. tail (tail g)) e) i)
+    branch_inj _ _ e = let h = ap tag e in absurd (omega (arith, h))
 
     pub trees_inj : (ts us : Trees L K P) → trees_gv ts ≡ trees_gv us → ts ≡ us
     trees_inj none none e = refl
@@ -129,5 +170,15 @@ module _ {L K P : Type 0} (l : Coded L) (k : Coded K) (p : Coded P) where
     pairs_inj (pair x t ts) (pair y u us) e =
         λ i. pair (k.inj x y (ap head e) i) (tree_inj t u (ap (λ g. head (tail g)) e) i) (pairs_inj ts us (ap (λ g. tail (tail g)) e) i)
 
+    pub slots_inj : (ss rs : Slots L K P) → slots_gv ss ≡ slots_gv rs → ss ≡ rs
+    slots_inj end end e = refl
+    slots_inj (missing ss) (missing rs) e = ap missing (slots_inj ss rs (ap tail e))
+    slots_inj (given t ss) (given u rs) e =
+        λ i. given (tree_inj t u (ap (λ g. head (tail g)) e) i) (slots_inj ss rs (ap (λ g. tail (tail g)) e) i)
+    slots_inj _ _ e = let h = ap tag e in absurd (omega (arith, h))
+
   abbrev pub coded_tree : Coded (Tree L K P)
   coded_tree = record { code = tree_gv; inj = tree_inj }
+
+  abbrev pub coded_branch : Coded (Branch L K P)
+  coded_branch = record { code = branch_gv; inj = branch_inj }

@@ -1,9 +1,9 @@
 -- The tree of a frozen value.
 use Rattle.std.specs.Prelude.{◌≡◌, length, Bool, true, false}
-use Rattle.values.specs.Tree.{Tree, leaf, list, tuple, dict, instance, trees, pairs}
+use Rattle.values.specs.Tree.{Tree, Branch, key, leaf, branch, list, tuple, dict, instance, trees, pairs, slots}
 use Rattle.values.specs.declared.leaf.Leaf.{Leaf}
-use Rattle.values.specs.declared.leaf.Key.{Key}
-use Rattle.values.specs.declared.leaf.ProviderRef.{ProviderRef}
+use Rattle.values.specs.declared.key.Key.{Key}
+use Rattle.values.specs.declared.leaf.Provider.{Provider}
 use Rattle.values.specs.declared.frozen.Held.{Held}
 use Rattle.values.specs.declared.frozen.Held.TheVariants as held
 use Rattle.values.specs.declared.frozen.Node.{Node}
@@ -11,39 +11,39 @@ use Rattle.values.specs.declared.frozen.Node.TheVariants as node
 
 -- a frozen value, to a contract
 abbrev pub FrozenTree : Type 0
-FrozenTree = Tree Leaf Key ProviderRef
+FrozenTree = Tree Leaf Key Provider
 
-abbrev pub node_tree : Node → FrozenTree
-node_tree (node.List v) = list (trees v.items)
-node_tree (node.Tuple v) = tuple (trees v.items)
-node_tree (node.Dict ks v) = dict (pairs ks.keys v.items)
-node_tree (node.Instance p ks v) = instance p (pairs ks.keys v.items)
+-- a frozen value with parts
+abbrev pub FrozenBranch : Type 0
+FrozenBranch = Branch Leaf Key Provider
 
 abbrev pub tree_of : Held → FrozenTree
+tree_of (held.Key k) = key k
 tree_of (held.Leaf l) = leaf l
-tree_of (held.Shared n) = node_tree n.value
+tree_of (held.Branch b) = branch b
 
--- of a dict and of an instance, the keys and the values stand by place
-abbrev pub IsPairedNode : Node → Type 0
-IsPairedNode (node.List v) = Unit {0}
-IsPairedNode (node.Tuple v) = Unit {0}
-IsPairedNode (node.Dict ks v) = length ks.keys ≡ length v.items
-IsPairedNode (node.Instance p ks v) = length ks.keys ≡ length v.items
+abbrev pub node_branch : Node → FrozenBranch
+node_branch (node.List v) = list (trees v.items)
+node_branch (node.Tuple v) = tuple (trees v.items)
+node_branch (node.Dict ks v) = dict (pairs ks.keys v.items)
+node_branch (node.Instance p v) = instance p (slots v.items)
 
-abbrev pub IsPaired : Held → Type 0
-IsPaired (held.Leaf l) = Unit {0}
-IsPaired (held.Shared n) = IsPairedNode n.value
+-- of a dict, the keys and the values stand by place
+abbrev pub IsPaired : Node → Type 0
+IsPaired (node.List v) = Unit {0}
+IsPaired (node.Tuple v) = Unit {0}
+IsPaired (node.Dict ks v) = length ks.keys ≡ length v.items
+IsPaired (node.Instance p v) = Unit {0}
 
-abbrev pub is_list : FrozenTree → Bool
+abbrev pub is_list : FrozenBranch → Bool
 is_list (list ts) = true
 is_list _ = false
 
-abbrev pub is_dict : FrozenTree → Bool
+abbrev pub is_dict : FrozenBranch → Bool
 is_dict (dict ps) = true
 is_dict _ = false
 
 -- lists, tuples and dicts may be walked
-abbrev pub is_walkable : FrozenTree → Bool
-is_walkable (leaf l) = false
-is_walkable (instance p ps) = false
+abbrev pub is_walkable : FrozenBranch → Bool
+is_walkable (instance p ss) = false
 is_walkable _ = true

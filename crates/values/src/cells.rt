@@ -1,13 +1,14 @@
-//! The cells of a heap: what names share. Their items and entries are lists to a contract.
+//! The cells of a heap: what names share. Their items, entries and fields are lists to a contract.
 ghost use Rattle.indexmap.specs.IndexMap.{insert_entry};
 ghost use Rattle.std.specs.Map.{lookup};
 ghost use Rattle.values.specs.Leaves.{same_key};
 ghost use Rattle.values.specs.Keyed.{has_key};
 ghost use Rattle.values.specs.Visits.{keys_of};
-ghost use Rattle.std.specs.Prelude.{◌≡◌, ◌++◌, ◌∷◌, [], ◌<◌, IfOk, IfSome, OnOk, OnErr, length, slice_get, slice_set, option_copied, MatchOption, ◌≤◌, Some};
+ghost use Rattle.std.specs.Prelude.{◌≡◌, ◌++◌, ◌∷◌, [], ◌<◌, IfOk, OnOk, OnErr, length, slice_get, slice_set, option_copied, MatchOption, ◌≤◌, Some};
 
-use crate::{Key, ProviderRef, Value};
+use crate::{Key, Provider, Value};
 use indexmap::{IndexMap, IndexSet};
+use plain::Shared;
 use std::alloc::{AllocError, Global};
 use std::marker::Model;
 
@@ -15,12 +16,12 @@ use std::marker::Model;
 pub const LARGEST: usize = 1_048_576;
 
 /// A cell: a list or a dict with the number of walks over it that go on, or a tuple or an instance, which
-/// never changes. The fields of an instance are entries whose keys are their names.
+/// never changes. An instance has its fields by the places of their names in the provider.
 pub enum Cell {
     List(Items, u64),
     Tuple(Items),
     Dict(Entries, u64),
-    Instance(ProviderRef, Entries),
+    Instance(Shared<Provider>, Fields),
 }
 
 /// The items of a list or a tuple.
@@ -49,6 +50,14 @@ impl Items {
         Items {
             items: Vec::new(alloc),
         }
+    }
+
+    /// No items, with memory for so many.
+    pub fn with_capacity(alloc: Global, items: usize) -> Result<Items, AllocError>
+        ensures { IfOk result (λ i. i ≡ []) }
+    {
+        let items = Vec::with_capacity(alloc, items)?;
+        Ok(Items { items })
     }
 
     /// How many there are.
@@ -93,33 +102,85 @@ impl Items {
     }
 }
 
-/// The entries of a dict, or the fields of an instance, in order of insertion, with hashed looks.
+/// The fields of an instance, by the places of their names in the provider: None for each that wasn't given.
+#[derive(Drop)]
+pub struct Fields {
+    fields: Vec<Option<Value>>,
+}
+
+impl Model for Fields {
+    ghost use Rattle.std.specs.Prelude.{List, Option};
+    ghost use Rattle.values.specs.declared.value.Value.{Value as Held};
+    ghost use Rattle.values.specs.ValueCodes.{fields_code};
+
+    ghost Value = { List (Option Held) };
+
+    ghost coded = { fields_code };
+
+    ghost view = { λ f. f.fields.items };
+}
+
+impl Fields {
+    /// No fields, with memory for so many.
+    pub fn with_capacity(alloc: Global, fields: usize) -> Result<Fields, AllocError>
+        ensures { IfOk result (λ f. f ≡ []) }
+    {
+        let fields = Vec::with_capacity(alloc, fields)?;
+        Ok(Fields { fields })
+    }
+
+    /// Puts the value of the next field, or None. After a refusal of memory they are as they were.
+    pub fn push(&mut self, value: Option<Value>) -> Result<(), AllocError>
+        ensures ok { OnOk result (self.new ≡ self.old ++ value ∷ []) }
+        ensures err { OnErr result (self.new ≡ self.old) }
+    {
+        self.fields.push(value)?;
+        Ok(())
+    }
+
+    /// Sets the value of the field at a place.
+    pub fn set(&mut self, place: usize, value: Option<Value>)
+        requires { place < length self.old }
+        ensures { self.new ≡ slice_set self.old place value }
+    {
+        self.fields[place] = value;
+    }
+
+    /// All of them, in order.
+    pub fn as_slice(&self) -> &[Option<Value>]
+        ensures { result.now ≡ self.now }
+    {
+        self.fields.as_slice()
+    }
+}
+
+/// The entries of a dict, in order of insertion, with hashed looks.
 #[derive(Drop)]
 pub struct Entries {
-    map: IndexMap<Key, Value>,
+    map: Box<IndexMap<Key, Value>>,
 }
 
 impl Model for Entries {
     ghost use Rattle.std.specs.Prelude.{List};
     ghost use Rattle.values.specs.declared.value.Value.{Value as Held};
-    ghost use Rattle.values.specs.declared.leaf.Key.{Key as Index};
+    ghost use Rattle.values.specs.declared.key.Key.{Key as Index};
     ghost use Rattle.values.specs.ValueCodes.{entries_code};
 
     ghost Value = { List (Index × Held) };
 
     ghost coded = { entries_code };
 
-    ghost view = { λ e. e.map.entries };
+    ghost view = { λ e. e.map.value.entries };
 }
 
 impl Entries {
-    /// No entries.
-    pub fn new(alloc: Global) -> Entries
-        ensures { result ≡ [] }
+    /// No entries, with memory for so many.
+    pub fn with_capacity(alloc: Global, entries: usize) -> Result<Entries, AllocError>
+        ensures { IfOk result (λ e. e ≡ []) }
     {
-        Entries {
-            map: IndexMap::new(alloc),
-        }
+        let map = IndexMap::with_capacity(alloc, entries)?;
+        let map = Box::new(alloc, map)?;
+        Ok(Entries { map })
     }
 
     /// Gives the key the value: a key that is there keeps its place. After a refusal of memory they are as they were.
@@ -164,7 +225,7 @@ impl Entries {
         ensures { IfOk result (λ s. s.keys ≡ keys_of self.now) }
     {
         let entries = self.map.as_slice();
-        let mut keys = IndexSet::new(alloc);
+        let mut keys = IndexSet::with_capacity(alloc, entries.len())?;
         for i in 0..entries.len() {
             let Some((key, _)) = entries.get_index(i) else {
                 return Ok(keys);

@@ -1,16 +1,17 @@
 //! Frozen values: trees that never change.
 //!
-//! A leaf is held as it is, and every other frozen value is one counted node that has its parts by place,
+//! A key or a leaf is held as it is, and every other frozen value is one counted branch that has its parts by place,
 //! so a second name of it costs a count, also from another thread, and nothing below it is copied.
 ghost use Rattle.std.specs.Prelude.{◌≡◌, ◌<◌, IfOk, Some, length, slice_get};
-ghost use Rattle.values.specs.Tree.{Tree, leaf, list, tuple, dict, instance, trees, pairs};
-ghost use Rattle.values.specs.View.{tree_of, node_tree, is_list, is_dict, is_walkable};
-ghost use Rattle.values.specs.Shape.{tree_shape};
+ghost use Rattle.values.specs.Tree.{Tree, key, leaf, branch, list, tuple, dict, instance, trees, pairs, slots};
+ghost use Rattle.values.specs.View.{tree_of, node_branch, is_list, is_dict, is_walkable};
+ghost use Rattle.values.specs.Shape.{tree_shape, branch_shape, value_of};
 ghost use Rattle.values.specs.Seeing.{seen};
 
-use crate::sees::{Group, Seen, Table};
-use crate::{Key, Leaf, ProviderRef};
+use crate::sees::{Group, Seen, Slots, Table};
+use crate::{Key, Leaf, Provider, Value};
 use indexmap::IndexSet;
+use plain::Shared;
 use std::alloc::{AllocError, Global};
 use std::marker::Model;
 use std::sync::Arc;
@@ -22,48 +23,89 @@ pub struct Frozen {
     held: Held,
 }
 
+/// What a frozen value holds.
 #[derive(Drop)]
 #[cycle(frozen)]
-pub(crate) enum Held {
+pub enum Held {
+    Key(Key),
     Leaf(Leaf),
-    Shared(Arc<Node>),
+    Branch(Branch),
 }
 
-/// The parts of a frozen value. Of a dict and of an instance the keys and the values stand by place.
+/// A frozen list, tuple, dict or instance, whose parts may be shared.
 #[derive(Drop)]
 #[cycle(frozen)]
-pub(crate) enum Node {
+pub struct Branch {
+    node: Arc<Node>,
+}
+
+/// The parts of a branch. Of a dict the keys and the values stand by place, and of an instance the values, by the place
+/// of their names in the provider, with None for each field that wasn't given.
+#[derive(Drop)]
+#[cycle(frozen)]
+pub enum Node {
     List(Vec<Frozen>),
     Tuple(Vec<Frozen>),
     Dict(IndexSet<Key>, Vec<Frozen>),
-    Instance(ProviderRef, IndexSet<Key>, Vec<Frozen>),
+    Instance(Shared<Provider>, Vec<Option<Frozen>>),
 }
 
 impl Model for Frozen {
     ghost use Rattle.values.specs.Tree.{Tree, coded_tree, weight};
     ghost use Rattle.values.specs.LeafCodes.{leaf_code, key_code, provider_code};
     ghost use Rattle.values.specs.declared.leaf.Leaf.{Leaf as Plain};
-    ghost use Rattle.values.specs.declared.leaf.Key.{Key as Index};
-    ghost use Rattle.values.specs.declared.leaf.ProviderRef.{ProviderRef as Maker};
+    ghost use Rattle.values.specs.declared.key.Key.{Key as Index};
+    ghost use Rattle.values.specs.declared.leaf.Provider.{Provider as Maker};
 
     ghost Value = { Tree Plain Index Maker };
 
     ghost coded = { coded_tree leaf_code key_code provider_code };
 
-    ghost use Rattle.values.specs.View.{tree_of, IsPaired};
+    ghost use Rattle.values.specs.View.{tree_of};
 
     ghost view = { λ f. tree_of f.held };
-
-    ghost invariant = { λ f. IsPaired f.held };
 
     ghost size = { weight };
 
     ghost use Rattle.values.specs.Falls.{deep_le-weight};
 
-    ghost size_decreases = { λ f h. deep_le-weight f.held h };
+    ghost size_decreases = { λ f h. deep_le-weight f.held };
+}
+
+impl Model for Branch {
+    ghost use Rattle.values.specs.Tree.{Branch as Limb, coded_branch, branch_weight};
+    ghost use Rattle.values.specs.LeafCodes.{leaf_code, key_code, provider_code};
+    ghost use Rattle.values.specs.declared.leaf.Leaf.{Leaf as Plain};
+    ghost use Rattle.values.specs.declared.key.Key.{Key as Index};
+    ghost use Rattle.values.specs.declared.leaf.Provider.{Provider as Maker};
+
+    ghost Value = { Limb Plain Index Maker };
+
+    ghost coded = { coded_branch leaf_code key_code provider_code };
+
+    ghost use Rattle.values.specs.View.{node_branch, IsPaired};
+
+    ghost view = { λ b. node_branch b.node.value };
+
+    ghost invariant = { λ b. IsPaired b.node.value };
+
+    ghost size = { branch_weight };
+
+    ghost use Rattle.values.specs.Falls.{branch_deep_le-weight};
+
+    ghost size_decreases = { λ b h. branch_deep_le-weight b.node.value h };
 }
 
 impl Frozen {
+    /// A frozen key.
+    pub fn of_key(value: Key) -> Frozen
+        ensures { result ≡ key value }
+    {
+        Frozen {
+            held: Held::Key(value),
+        }
+    }
+
     /// A frozen leaf.
     pub fn of_leaf(value: Leaf) -> Frozen
         ensures { result ≡ leaf value }
@@ -73,109 +115,42 @@ impl Frozen {
         }
     }
 
-    /// A frozen list of these items.
-    pub fn list(alloc: Global, items: Vec<Frozen>) -> Result<Frozen, AllocError>
-        ensures { IfOk result (λ f. f ≡ list (trees items.items)) }
+    /// A frozen value with parts.
+    pub fn of_branch(value: Branch) -> Frozen
+        ensures { result ≡ branch value }
     {
-        let node = Arc::new(alloc, Node::List(items))?;
-        Ok(Frozen {
-            held: Held::Shared(node),
-        })
+        Frozen {
+            held: Held::Branch(value),
+        }
     }
 
-    /// A frozen tuple of these items.
-    pub fn tuple(alloc: Global, items: Vec<Frozen>) -> Result<Frozen, AllocError>
-        ensures { IfOk result (λ f. f ≡ tuple (trees items.items)) }
-    {
-        let node = Arc::new(alloc, Node::Tuple(items))?;
-        Ok(Frozen {
-            held: Held::Shared(node),
-        })
-    }
-
-    /// A frozen dict of these keys, each with the value at its place.
-    pub fn dict(
-        alloc: Global,
-        keys: IndexSet<Key>,
-        values: Vec<Frozen>,
-    ) -> Result<Frozen, AllocError>
-        requires { length keys.keys ≡ length values.items }
-        ensures { IfOk result (λ f. f ≡ dict (pairs keys.keys values.items)) }
-    {
-        let node = Arc::new(alloc, Node::Dict(keys, values))?;
-        Ok(Frozen {
-            held: Held::Shared(node),
-        })
-    }
-
-    /// A frozen instance of the provider, with these fields, each with the value at its place.
-    pub fn instance(
-        alloc: Global,
-        provider: ProviderRef,
-        fields: IndexSet<Key>,
-        values: Vec<Frozen>,
-    ) -> Result<Frozen, AllocError>
-        requires { length fields.keys ≡ length values.items }
-        ensures { IfOk result (λ f. f ≡ instance provider (pairs fields.keys values.items)) }
-    {
-        let node = Arc::new(alloc, Node::Instance(provider, fields, values))?;
-        Ok(Frozen {
-            held: Held::Shared(node),
-        })
-    }
-
-    /// Another name of the same frozen value: a count more, and no copy.
+    /// Another name of the same frozen value: at most a count more, and no copy.
     pub fn share(&self) -> Result<Frozen, AllocError>
         ensures { IfOk result (λ f. f ≡ self.now) }
     {
         match &self.held {
-            Held::Leaf(leaf) => Ok(Frozen {
-                held: Held::Leaf(leaf.share()?),
-            }),
-            Held::Shared(node) => {
-                let node = Arc::try_clone(node)?;
-                Ok(Frozen {
-                    held: Held::Shared(node),
-                })
-            }
+            Held::Key(key) => Ok(Frozen::of_key(key.share()?)),
+            Held::Leaf(leaf) => Ok(Frozen::of_leaf(leaf.share()?)),
+            Held::Branch(branch) => Ok(Frozen::of_branch(branch.share()?)),
         }
     }
 
-    /// Whether it is a list.
-    pub fn is_list(&self) -> bool
-        ensures { result ≡ is_list self.now }
-    {
-        match &self.held {
-            Held::Leaf(_) => false,
-            Held::Shared(node) => matches!(&**node, Node::List(_)),
-        }
-    }
-
-    /// Whether it is a dict.
-    pub fn is_dict(&self) -> bool
-        ensures { result ≡ is_dict self.now }
-    {
-        match &self.held {
-            Held::Leaf(_) => false,
-            Held::Shared(node) => matches!(&**node, Node::Dict(_, _)),
-        }
-    }
-
-    /// Whether it may be walked: a list, a tuple or a dict.
-    pub fn is_walkable(&self) -> bool
-        ensures { result ≡ is_walkable self.now }
-    {
-        match &self.held {
-            Held::Leaf(_) => false,
-            Held::Shared(node) => !matches!(&**node, Node::Instance(_, _, _)),
-        }
-    }
-
-    /// What holds its parts.
-    pub(crate) fn held(&self) -> &Held
+    /// What it holds.
+    pub fn held(&self) -> &Held
         ensures { tree_of result.now ≡ self.now }
     {
         &self.held
+    }
+
+    /// A name of it as a value: at most a count more.
+    pub fn to_value(&self) -> Result<Value, AllocError>
+        ensures { IfOk result (λ v. v ≡ value_of self.now) }
+    {
+        match &self.held {
+            Held::Key(key) => Ok(Value::Key(key.share()?)),
+            Held::Leaf(leaf) => Ok(Value::Leaf(leaf.share()?)),
+            Held::Branch(branch) => Ok(Value::Frozen(branch.share()?)),
+        }
     }
 
     /// What it shows, as a value.
@@ -183,14 +158,101 @@ impl Frozen {
         ensures { seen result ≡ tree_shape self.now }
     {
         match &self.held {
+            Held::Key(key) => Seen::Key(key),
             Held::Leaf(leaf) => Seen::Leaf(leaf),
-            Held::Shared(node) => node.see(),
+            Held::Branch(branch) => branch.see(),
         }
     }
 }
 
+impl Branch {
+    /// A frozen list of these items.
+    pub fn list(alloc: Global, items: Vec<Frozen>) -> Result<Branch, AllocError>
+        ensures { IfOk result (λ b. b ≡ list (trees items.items)) }
+    {
+        let node = Arc::new(alloc, Node::List(items))?;
+        Ok(Branch { node })
+    }
+
+    /// A frozen tuple of these items.
+    pub fn tuple(alloc: Global, items: Vec<Frozen>) -> Result<Branch, AllocError>
+        ensures { IfOk result (λ b. b ≡ tuple (trees items.items)) }
+    {
+        let node = Arc::new(alloc, Node::Tuple(items))?;
+        Ok(Branch { node })
+    }
+
+    /// A frozen dict of these keys, each with the value at its place.
+    pub fn dict(
+        alloc: Global,
+        keys: IndexSet<Key>,
+        values: Vec<Frozen>,
+    ) -> Result<Branch, AllocError>
+        requires { length keys.keys ≡ length values.items }
+        ensures { IfOk result (λ b. b ≡ dict (pairs keys.keys values.items)) }
+    {
+        let node = Arc::new(alloc, Node::Dict(keys, values))?;
+        Ok(Branch { node })
+    }
+
+    /// A frozen instance of the provider: the values of its fields by place, None for each that wasn't given.
+    pub fn instance(
+        alloc: Global,
+        provider: Shared<Provider>,
+        fields: Vec<Option<Frozen>>,
+    ) -> Result<Branch, AllocError>
+        ensures { IfOk result (λ b. b ≡ instance provider (slots fields.items)) }
+    {
+        let node = Arc::new(alloc, Node::Instance(provider, fields))?;
+        Ok(Branch { node })
+    }
+
+    /// Another name of the same frozen value: a count more, and no copy.
+    pub fn share(&self) -> Result<Branch, AllocError>
+        ensures { IfOk result (λ b. b ≡ self.now) }
+    {
+        let node = Arc::try_clone(&self.node)?;
+        Ok(Branch { node })
+    }
+
+    /// Its parts.
+    pub fn node(&self) -> &Node
+        ensures { node_branch result.now ≡ self.now }
+    {
+        &self.node
+    }
+
+    /// Whether it is a list.
+    pub fn is_list(&self) -> bool
+        ensures { result ≡ is_list self.now }
+    {
+        matches!(&*self.node, Node::List(_))
+    }
+
+    /// Whether it is a dict.
+    pub fn is_dict(&self) -> bool
+        ensures { result ≡ is_dict self.now }
+    {
+        matches!(&*self.node, Node::Dict(_, _))
+    }
+
+    /// Whether it may be walked: a list, a tuple or a dict.
+    pub fn is_walkable(&self) -> bool
+        ensures { result ≡ is_walkable self.now }
+    {
+        !matches!(&*self.node, Node::Instance(_, _))
+    }
+
+    /// What it shows, as a value.
+    pub fn see(&self) -> Seen<'_>
+        ensures { seen result ≡ branch_shape self.now }
+    {
+        self.node.see()
+    }
+}
+
 /// The frozen value at a place.
-pub(crate) fn tree_at(trees: &[Frozen], place: usize) -> &Frozen
+pub fn tree_at(trees: &[Frozen], place: usize) -> &Frozen
     requires { place < length trees.now }
     ensures { slice_get trees.now place ≡ Some result.now }
 {
@@ -198,16 +260,16 @@ pub(crate) fn tree_at(trees: &[Frozen], place: usize) -> &Frozen
 }
 
 impl Node {
-    /// What a frozen value of these parts shows.
+    /// What a branch of these parts shows.
     fn see(&self) -> Seen<'_>
-        ensures { seen result ≡ tree_shape (node_tree self.now) }
+        ensures { seen result ≡ branch_shape (node_branch self.now) }
     {
         match self {
             Node::List(items) => Seen::List(Group::Trees(items.as_slice())),
             Node::Tuple(items) => Seen::Tuple(Group::Trees(items.as_slice())),
             Node::Dict(keys, values) => Seen::Dict(Table::Trees(keys, values.as_slice())),
-            Node::Instance(provider, fields, values) => {
-                Seen::Instance(provider, Table::Trees(fields, values.as_slice()))
+            Node::Instance(provider, fields) => {
+                Seen::Instance(provider.get(), Slots::Trees(fields.as_slice()))
             }
         }
     }

@@ -4,12 +4,13 @@
 //! change leaves the heap as it was. Each change finds its cell, and has the one cell changed.
 ghost use Rattle.std.specs.Prelude.{◌≡◌, ◌+◌, ◌-◌, ◌++◌, ◌∷◌, [], ◌<◌, Ok, Some, None, length, slice_get, option_copied, IfOk, IfSome, OnErr, MatchResult};
 ghost use Rattle.values.specs.Ticking.{FaultOr};
-ghost use Rattle.values.specs.Cells.{made, pushed_items, joined_items, indexed_items, keyed_entries, pushed, joined, indexed, keyed, walk_begun, walk_over, place_of, list_changed, dict_changed, walk_changed, IsWalked};
+ghost use Rattle.values.specs.Cells.{made, pushed_items, joined_items, indexed_items, keyed_entries, pushed, joined, indexed, keyed, walk_begun, walk_begun_at, walk_over, walk_ended, ended_at, place_of, list_changed, dict_changed, IsWalked};
 ghost use Rattle.values.specs.declared.cells.Cell.{Cell as Kept};
 ghost use Rattle.values.specs.declared.ticks.Kind.{Kind as Fault};
 ghost use Rattle.std.specs.Prelude.{Result};
 
-use crate::{Broken, Cell, Entries, Items, Key, Kind, LARGEST, ProviderRef, Value};
+use crate::{Broken, Cell, Entries, Fields, Items, Key, Kind, LARGEST, Provider, Value};
+use plain::Shared;
 use std::alloc::{AllocError, Global};
 use std::marker::Model;
 
@@ -72,8 +73,12 @@ impl Heap {
         self.add(Cell::Dict(entries, 0), parts)
     }
 
-    /// A new instance of the provider in the next cell. It has as many fields as were given.
-    pub fn new_instance(&mut self, provider: ProviderRef, fields: Entries) -> Result<Value, Broken>
+    /// A new instance of the provider in the next cell, with its fields by place.
+    pub fn new_instance(
+        &mut self,
+        provider: Shared<Provider>,
+        fields: Fields,
+    ) -> Result<Value, Broken>
         ensures { MatchResult result (λ v. made self.old (Cell.Instance provider fields) 0 ≡ Ok (v, self.new)) (λ e. (self.new ≡ self.old) × FaultOr (made self.old (Cell.Instance provider fields) 0) e) }
     {
         self.add(Cell::Instance(provider, fields), 0)
@@ -94,8 +99,8 @@ impl Heap {
     }
 
     /// Puts an item last in a list: refused by `type`, `frozen`, `iterating` and `large`, in this order.
-    pub fn append(&mut self, list: &Value, item: &Value) -> Result<(), Broken>
-        ensures { MatchResult result (λ _. list_changed (pushed item.now) self.old list.now ≡ Ok self.new) (λ e. (self.new ≡ self.old) × FaultOr (list_changed (pushed item.now) self.old list.now) e) }
+    pub fn append(&mut self, list: &Value, item: Value) -> Result<(), Broken>
+        ensures { MatchResult result (λ _. list_changed (pushed item) self.old list.now ≡ Ok self.new) (λ e. (self.new ≡ self.old) × FaultOr (list_changed (pushed item) self.old list.now) e) }
     {
         let changed = match self.list_cell(list) {
             Ok(number) => number,
@@ -125,8 +130,8 @@ impl Heap {
 
     /// Sets the item of a list at an index, from the end where it is negative: refused by `type`, `frozen`,
     /// `iterating` and `index`, in this order.
-    pub fn set_index(&mut self, list: &Value, index: i64, item: &Value) -> Result<(), Broken>
-        ensures { MatchResult result (λ _. list_changed (indexed index item.now) self.old list.now ≡ Ok self.new) (λ e. (self.new ≡ self.old) × FaultOr (list_changed (indexed index item.now) self.old list.now) e) }
+    pub fn set_index(&mut self, list: &Value, index: i64, item: Value) -> Result<(), Broken>
+        ensures { MatchResult result (λ _. list_changed (indexed index item) self.old list.now ≡ Ok self.new) (λ e. (self.new ≡ self.old) × FaultOr (list_changed (indexed index item) self.old list.now) e) }
     {
         let number = match self.list_cell(list) {
             Ok(number) => number,
@@ -141,8 +146,8 @@ impl Heap {
 
     /// Gives a key of a dict the value; a key that is there keeps its place. Refused by `type`, `frozen`,
     /// `iterating` and, for a new key, `large`, in this order.
-    pub fn set_key(&mut self, dict: &Value, key: &Key, item: &Value) -> Result<(), Broken>
-        ensures { MatchResult result (λ _. dict_changed (keyed key.now item.now) self.old dict.now ≡ Ok self.new) (λ e. (self.new ≡ self.old) × FaultOr (dict_changed (keyed key.now item.now) self.old dict.now) e) }
+    pub fn set_key(&mut self, dict: &Value, key: Key, item: Value) -> Result<(), Broken>
+        ensures { MatchResult result (λ _. dict_changed (keyed key item) self.old dict.now ≡ Ok self.new) (λ e. (self.new ≡ self.old) × FaultOr (dict_changed (keyed key item) self.old dict.now) e) }
     {
         let number = match self.dict_cell(dict) {
             Ok(number) => number,
@@ -156,36 +161,39 @@ impl Heap {
     }
 
     /// A walk over a list, a tuple or a dict begins: until it is over, a list or a dict isn't changed.
-    /// All else is `type`. Of a frozen value nothing is counted.
-    pub fn begin_walk(&mut self, walked: &Value) -> Result<(), Broken>
-        ensures { MatchResult result (λ _. walk_changed walk_begun self.old walked.now ≡ Ok self.new) (λ e. (self.new ≡ self.old) × FaultOr (walk_changed walk_begun self.old walked.now) e) }
+    /// All else is `type`. It gives the cell in which the walk is counted, where there is one: in a frozen value
+    /// nothing is counted.
+    pub fn begin_walk(&mut self, walked: &Value) -> Result<Option<usize>, Broken>
+        ensures { MatchResult result (λ n. walk_begun_at self.old walked.now ≡ Ok (n, self.new)) (λ e. (self.new ≡ self.old) × FaultOr (walk_begun_at self.old walked.now) e) }
     {
         let number = match self.walked_cell(walked) {
             Ok(Some(number)) => number,
-            Ok(None) => return Ok(()),
+            Ok(None) => return Ok(None),
             Err(refused) => return Err(refused),
         };
         let cell = &mut self.cells[number];
         if let Err(broken) = begin_in(cell) {
             return Err(broken);
         }
-        Ok(())
+        Ok(Some(number))
     }
 
-    /// A walk that was begun is over.
-    pub fn end_walk(&mut self, walked: &Value) -> Result<(), Broken>
-        ensures { MatchResult result (λ _. walk_changed walk_over self.old walked.now ≡ Ok self.new) (λ e. (self.new ≡ self.old) × FaultOr (walk_changed walk_over self.old walked.now) e) }
+    /// A walk that was begun is over: what `begin_walk` gave.
+    pub fn end_walk(&mut self, counted: Option<usize>)
+        ensures { self.new ≡ walk_ended self.old counted }
     {
-        let number = match self.walked_cell(walked) {
-            Ok(Some(number)) => number,
-            Ok(None) => return Ok(()),
-            Err(refused) => return Err(refused),
-        };
-        let cell = &mut self.cells[number];
-        if let Err(broken) = end_in(cell) {
-            return Err(broken);
+        if let Some(number) = counted {
+            self.end_at(number);
         }
-        Ok(())
+    }
+
+    /// Takes a walk from the count of a cell.
+    fn end_at(&mut self, number: usize)
+        ensures { self.new ≡ ended_at self.old number }
+    {
+        if number < self.cells.len() {
+            end_in(&mut self.cells[number]);
+        }
     }
 
     /// The number of the cell that a change of a list changes, or why there is none.
@@ -193,8 +201,8 @@ impl Heap {
         ensures { MatchResult result (λ n. (n < length self.now) × (list.now ≡ Value.Cell n)) (λ e. (f : Kept → Result Kept Fault) → FaultOr (list_changed f self.now list.now) e) }
     {
         match list {
-            Value::Leaf(_) => Err(Broken::Kind(Kind::Wrong)),
-            Value::Frozen(tree) => Err(Broken::Kind(if tree.is_list() {
+            Value::Key(_) | Value::Leaf(_) => Err(Broken::Kind(Kind::Wrong)),
+            Value::Frozen(branch) => Err(Broken::Kind(if branch.is_list() {
                 Kind::Frozen
             } else {
                 Kind::Wrong
@@ -214,8 +222,8 @@ impl Heap {
         ensures { MatchResult result (λ n. (n < length self.now) × (dict.now ≡ Value.Cell n)) (λ e. (f : Kept → Result Kept Fault) → FaultOr (dict_changed f self.now dict.now) e) }
     {
         match dict {
-            Value::Leaf(_) => Err(Broken::Kind(Kind::Wrong)),
-            Value::Frozen(tree) => Err(Broken::Kind(if tree.is_dict() {
+            Value::Key(_) | Value::Leaf(_) => Err(Broken::Kind(Kind::Wrong)),
+            Value::Frozen(branch) => Err(Broken::Kind(if branch.is_dict() {
                 Kind::Frozen
             } else {
                 Kind::Wrong
@@ -232,12 +240,12 @@ impl Heap {
 
     /// The number of the cell that a walk counts in, None where it counts in none, or why it is refused.
     fn walked_cell(&self, walked: &Value) -> Result<Option<usize>, Broken>
-        ensures { MatchResult result (IsWalked self.now walked.now) (λ e. (f : Kept → Result Kept Fault) → FaultOr (walk_changed f self.now walked.now) e) }
+        ensures { MatchResult result (IsWalked self.now walked.now) (λ e. FaultOr (walk_begun_at self.now walked.now) e) }
     {
         match walked {
-            Value::Leaf(_) => Err(Broken::Kind(Kind::Wrong)),
-            Value::Frozen(tree) => {
-                if tree.is_walkable() {
+            Value::Key(_) | Value::Leaf(_) => Err(Broken::Kind(Kind::Wrong)),
+            Value::Frozen(branch) => {
+                if branch.is_walkable() {
                     Ok(None)
                 } else {
                     Err(Broken::Kind(Kind::Wrong))
@@ -255,8 +263,8 @@ impl Heap {
 }
 
 /// Puts an item last in the list of a cell.
-fn push_to(cell: &mut Cell, item: &Value) -> Result<(), Broken>
-    ensures { MatchResult result (λ _. pushed item.now cell.old ≡ Ok cell.new) (λ e. (cell.new ≡ cell.old) × FaultOr (pushed item.now cell.old) e) }
+fn push_to(cell: &mut Cell, item: Value) -> Result<(), Broken>
+    ensures { MatchResult result (λ _. pushed item cell.old ≡ Ok cell.new) (λ e. (cell.new ≡ cell.old) × FaultOr (pushed item cell.old) e) }
 {
     match cell {
         Cell::List(parts, walked) => {
@@ -291,8 +299,8 @@ fn join_to(cell: &mut Cell, more: Items) -> Result<(), Broken>
 }
 
 /// Sets an item of the list of a cell.
-fn set_in(cell: &mut Cell, index: i64, item: &Value) -> Result<(), Broken>
-    ensures { MatchResult result (λ _. indexed index item.now cell.old ≡ Ok cell.new) (λ e. (cell.new ≡ cell.old) × FaultOr (indexed index item.now cell.old) e) }
+fn set_in(cell: &mut Cell, index: i64, item: Value) -> Result<(), Broken>
+    ensures { MatchResult result (λ _. indexed index item cell.old ≡ Ok cell.new) (λ e. (cell.new ≡ cell.old) × FaultOr (indexed index item cell.old) e) }
 {
     match cell {
         Cell::List(parts, walks) => {
@@ -309,8 +317,8 @@ fn set_in(cell: &mut Cell, index: i64, item: &Value) -> Result<(), Broken>
 }
 
 /// Gives a key of the dict of a cell the value.
-fn put_in(cell: &mut Cell, key: &Key, item: &Value) -> Result<(), Broken>
-    ensures { MatchResult result (λ _. keyed key.now item.now cell.old ≡ Ok cell.new) (λ e. (cell.new ≡ cell.old) × FaultOr (keyed key.now item.now cell.old) e) }
+fn put_in(cell: &mut Cell, key: Key, item: Value) -> Result<(), Broken>
+    ensures { MatchResult result (λ _. keyed key item cell.old ≡ Ok cell.new) (λ e. (cell.new ≡ cell.old) × FaultOr (keyed key item cell.old) e) }
 {
     match cell {
         Cell::Dict(parts, walks) => {
@@ -327,13 +335,12 @@ fn put_in(cell: &mut Cell, key: &Key, item: &Value) -> Result<(), Broken>
 }
 
 /// Puts an item last, unless there are as many as a list may have.
-fn push(items: &mut Items, item: &Value) -> Result<(), Broken>
-    ensures { MatchResult result (λ _. pushed_items item.now items.old ≡ Ok items.new) (λ e. (items.new ≡ items.old) × FaultOr (pushed_items item.now items.old) e) }
+fn push(items: &mut Items, item: Value) -> Result<(), Broken>
+    ensures { MatchResult result (λ _. pushed_items item items.old ≡ Ok items.new) (λ e. (items.new ≡ items.old) × FaultOr (pushed_items item items.old) e) }
 {
     if items.len() >= LARGEST {
         return Err(Broken::Kind(Kind::Large));
     }
-    let item = item.share()?;
     items.push(item)?;
     Ok(())
 }
@@ -352,13 +359,12 @@ fn join(items: &mut Items, more: Items) -> Result<(), Broken>
 }
 
 /// Sets the item that an index means, if it means one.
-fn set(items: &mut Items, index: i64, item: &Value) -> Result<(), Broken>
-    ensures { MatchResult result (λ _. indexed_items index item.now items.old ≡ Ok items.new) (λ e. (items.new ≡ items.old) × FaultOr (indexed_items index item.now items.old) e) }
+fn set(items: &mut Items, index: i64, item: Value) -> Result<(), Broken>
+    ensures { MatchResult result (λ _. indexed_items index item items.old ≡ Ok items.new) (λ e. (items.new ≡ items.old) × FaultOr (indexed_items index item items.old) e) }
 {
     match place_of(index, items.len()) {
         None => Err(Broken::Kind(Kind::Index)),
         Some(place) => {
-            let item = item.share()?;
             items.set(place, item);
             Ok(())
         }
@@ -366,14 +372,12 @@ fn set(items: &mut Items, index: i64, item: &Value) -> Result<(), Broken>
 }
 
 /// Gives a key the value, unless it would be one more than a dict may have.
-fn put(entries: &mut Entries, key: &Key, item: &Value) -> Result<(), Broken>
-    ensures { MatchResult result (λ _. keyed_entries key.now item.now entries.old ≡ Ok entries.new) (λ e. (entries.new ≡ entries.old) × FaultOr (keyed_entries key.now item.now entries.old) e) }
+fn put(entries: &mut Entries, key: Key, item: Value) -> Result<(), Broken>
+    ensures { MatchResult result (λ _. keyed_entries key item entries.old ≡ Ok entries.new) (λ e. (entries.new ≡ entries.old) × FaultOr (keyed_entries key item entries.old) e) }
 {
-    if !entries.has(key) && entries.len() >= LARGEST {
+    if entries.len() >= LARGEST && !entries.has(&key) {
         return Err(Broken::Kind(Kind::Large));
     }
-    let key = key.share()?;
-    let item = item.share()?;
     entries.put(key, item)?;
     Ok(())
 }
@@ -413,21 +417,15 @@ fn count_up(walks: &mut u64) -> Result<(), Broken>
     }
 }
 
-/// Takes a walk over a cell from the count.
-fn end_in(cell: &mut Cell) -> Result<(), Broken>
-    ensures { MatchResult result (λ _. walk_over cell.old ≡ Ok cell.new) (λ e. (cell.new ≡ cell.old) × FaultOr (walk_over cell.old) e) }
+/// Takes a walk over a cell from its count.
+fn end_in(cell: &mut Cell)
+    ensures { cell.new ≡ walk_over cell.old }
 {
     match cell {
-        Cell::List(_, walks) => {
-            count_down(walks);
-            Ok(())
-        }
-        Cell::Dict(_, walks) => {
-            count_down(walks);
-            Ok(())
-        }
-        Cell::Tuple(_) => Ok(()),
-        Cell::Instance(_, _) => Err(Broken::Kind(Kind::Wrong)),
+        Cell::List(_, walks) => count_down(walks),
+        Cell::Dict(_, walks) => count_down(walks),
+        Cell::Tuple(_) => {}
+        Cell::Instance(_, _) => {}
     }
 }
 

@@ -1,63 +1,92 @@
-//! Values without parts that can be visited: numbers, strings, labels, Files, and what a module or a
-//! target's evaluation makes. A leaf is plain data to a contract, and stands in a heap and in a frozen
-//! value alike.
-ghost use Rattle.std.specs.Prelude.{◌≡◌, IfOk};
-ghost use Rattle.values.specs.Leaves.{same_exported, same_provider, key_leaf};
+//! Values without parts that can be visited, and no keys: labels, Files, and what a module or a target's
+//! evaluation makes. A leaf is a tag and one word, it is plain data to a contract, and it stands in a heap and in a
+//! frozen value alike.
+ghost use Rattle.std.specs.Prelude.{◌≡◌, ◌<◌, ◌≤◌, ◌++◌, ◌∷◌, [], IfOk, OnOk, OnErr, length, MatchOption, Some, slice_get};
+ghost use Rattle.values.specs.Leaves.{same_provider, same_rule, same_function, built_in_text};
 
 use depsets::{Depset, FileRef};
-use plain::Text;
-use std::alloc::AllocError;
+use plain::{Shared, Text};
+use std::alloc::{AllocError, Global};
+use std::marker::Model;
 
-/// A value without parts that equality would visit.
+/// A value without parts that equality would visit, which is no key of a dict.
 pub enum Leaf {
     None,
-    Truth(bool),
-    /// A whole number of 64 bits, signed.
-    Number(i64),
-    Text(Text),
     /// A label, as its text.
     Label(Text),
-    File(FileRef),
+    File(Shared<FileRef>),
     Depset(Depset),
-    Function(FunctionRef),
-    /// A built-in function, by its name.
-    BuiltIn(Text),
-    Provider(ProviderRef),
-    Rule(Exported),
-    Attribute(AttributeRef),
+    Function(Shared<FunctionRef>),
+    BuiltIn(BuiltIn),
+    Provider(Shared<Provider>),
+    Rule(Shared<RuleRef>),
+    Attribute(Shared<AttributeRef>),
     /// A dependency of the target that is analysed, by its place among them.
     Target(usize),
     Object(Object),
 }
 
-/// A function written in Starlark: the path of its module, its name there, and its number among the module's functions.
-#[derive(PartialEq, Eq)]
+/// What a module made, by numbers: the module's among those that are loaded, and its own among those of its kind that
+/// the module makes.
+#[derive(Clone, Copy, PartialEq, Eq, Debug)]
+pub struct MadeId {
+    pub module: u32,
+    pub number: u32,
+}
+
+/// A function written in Starlark. It is told from others by its numbers; its texts, the path of its module and its name
+/// there, are for reports alone.
 pub struct FunctionRef {
+    pub id: MadeId,
     pub path: Text,
     pub name: Text,
-    pub number: u64,
 }
 
 /// What a provider or a rule is called: by the first global of its module that has it as its value, and
 /// until the module's end by its number among those that the module has made.
-#[derive(PartialEq, Eq)]
 pub enum ExportName {
     Global(Text),
     Making(u64),
 }
 
-/// A provider or a rule: the path of the module that made it, and what it is called there.
-#[derive(PartialEq, Eq)]
+/// How a provider or a rule is printed: the path of the module that made it, and what it is called there.
 pub struct Exported {
     pub path: Text,
     pub name: ExportName,
 }
 
-/// A provider: `DefaultInfo`, which every file knows, or one that a module made.
-#[derive(PartialEq, Eq)]
+/// How a provider is printed: `DefaultInfo`, which every file knows, or one that a module made.
 pub enum ProviderRef {
     DefaultInfo,
     Exported(Exported),
+}
+
+/// A provider: its numbers, where a module made it, how it is printed, and the names of its fields, in order. It is told
+/// from others by its numbers alone.
+pub struct Provider {
+    /// None for `DefaultInfo`, which no module makes.
+    pub id: Option<MadeId>,
+    pub name: ProviderRef,
+    pub fields: Names,
+}
+
+/// A rule: its numbers, by which it is told from others, and how it is printed.
+pub struct RuleRef {
+    pub id: MadeId,
+    pub name: Exported,
+}
+
+/// The built-in functions that every file knows.
+#[derive(Clone, Copy, PartialEq, Eq, Debug)]
+pub enum BuiltIn {
+    Depset,
+    Fail,
+    Len,
+    List,
+    Provider,
+    Range,
+    Rule,
+    Str,
 }
 
 /// The kinds of attributes (Bazel's documentation of `attr`).
@@ -72,7 +101,6 @@ pub enum AttributeKind {
 }
 
 /// An attribute declaration: its kind, the path of the module that made it, and its number among those of the module.
-#[derive(PartialEq, Eq)]
 pub struct AttributeRef {
     pub kind: AttributeKind,
     pub path: Text,
@@ -89,132 +117,109 @@ pub enum Object {
     ContextActions,
 }
 
-/// A key of a dict: a string, a whole number or a bool. The fields of an instance are keyed by their names.
-#[derive(PartialEq, Eq, Hash)]
-pub enum Key {
-    Text(Text),
-    Number(i64),
-    Truth(bool),
+/// Names, in order.
+#[derive(Drop)]
+pub struct Names {
+    names: Vec<Text>,
 }
 
-impl Exported {
-    /// Another name of the same provider or rule.
-    pub fn share(&self) -> Result<Exported, AllocError>
-        ensures { IfOk result (λ e. e ≡ self.now) }
+impl Model for Names {
+    ghost use Rattle.std.specs.Prelude.{ℕ, List};
+
+    ghost Value = { List (List ℕ) };
+
+    ghost view = { λ n. n.names.items };
+}
+
+impl Names {
+    /// No names.
+    pub fn new(alloc: Global) -> Names
+        ensures { result ≡ [] }
     {
-        let path = self.path.share()?;
-        match &self.name {
-            ExportName::Global(global) => Ok(Exported {
-                path,
-                name: ExportName::Global(global.share()?),
-            }),
-            ExportName::Making(number) => Ok(Exported {
-                path,
-                name: ExportName::Making(*number),
-            }),
+        Names {
+            names: Vec::new(alloc),
         }
     }
 
-    /// Whether both are the same provider or the same rule: by module and name.
-    pub fn is_same(&self, other: &Exported) -> bool
-        ensures { result ≡ same_exported self.now other.now }
+    /// Puts a name last. After a refusal of memory they are as they were.
+    pub fn push(&mut self, name: Text) -> Result<(), AllocError>
+        ensures ok { OnOk result (self.new ≡ self.old ++ name ∷ []) }
+        ensures err { OnErr result (self.new ≡ self.old) }
     {
-        *self == *other
+        self.names.push(name)?;
+        Ok(())
+    }
+
+    /// All of them, in order.
+    pub fn as_slice(&self) -> &[Text]
+        ensures { result.now ≡ self.now }
+    {
+        self.names.as_slice()
     }
 }
 
-impl ProviderRef {
-    /// Another name of the same provider.
-    pub fn share(&self) -> Result<ProviderRef, AllocError>
-        ensures { IfOk result (λ p. p ≡ self.now) }
-    {
-        match self {
-            ProviderRef::DefaultInfo => Ok(ProviderRef::DefaultInfo),
-            ProviderRef::Exported(exported) => Ok(ProviderRef::Exported(exported.share()?)),
-        }
-    }
-
-    /// Whether both are the same provider.
-    pub fn is_same(&self, other: &ProviderRef) -> bool
+impl Provider {
+    /// Whether both are the same provider: by their numbers.
+    pub fn is_same(&self, other: &Provider) -> bool
         ensures { result ≡ same_provider self.now other.now }
     {
-        *self == *other
+        self.id == other.id
+    }
+}
+
+impl RuleRef {
+    /// Whether both are the same rule: by their numbers.
+    pub fn is_same(&self, other: &RuleRef) -> bool
+        ensures { result ≡ same_rule self.now other.now }
+    {
+        self.id == other.id
     }
 }
 
 impl FunctionRef {
-    /// Another name of the same function.
-    pub fn share(&self) -> Result<FunctionRef, AllocError>
-        ensures { IfOk result (λ f. f ≡ self.now) }
+    /// Whether both are the same function: by their numbers.
+    pub fn is_same(&self, other: &FunctionRef) -> bool
+        ensures { result ≡ same_function self.now other.now }
     {
-        let path = self.path.share()?;
-        let name = self.name.share()?;
-        Ok(FunctionRef {
-            path,
-            name,
-            number: self.number,
-        })
+        self.id == other.id
     }
 }
 
-impl AttributeRef {
-    /// Another name of the same attribute declaration.
-    pub fn share(&self) -> Result<AttributeRef, AllocError>
-        ensures { IfOk result (λ a. a ≡ self.now) }
+impl BuiltIn {
+    /// Its name in the language.
+    pub fn name(self) -> &'static str
+        ensures { result.now ≡ built_in_text self }
     {
-        let path = self.path.share()?;
-        Ok(AttributeRef {
-            kind: self.kind,
-            path,
-            number: self.number,
-        })
+        match self {
+            BuiltIn::Depset => "depset",
+            BuiltIn::Fail => "fail",
+            BuiltIn::Len => "len",
+            BuiltIn::List => "list",
+            BuiltIn::Provider => "provider",
+            BuiltIn::Range => "range",
+            BuiltIn::Rule => "rule",
+            BuiltIn::Str => "str",
+        }
     }
 }
 
 impl Leaf {
-    /// Another name of the same value. Nothing below it is copied.
+    /// Another name of the same value: at most one count more, and nothing is copied.
     pub fn share(&self) -> Result<Leaf, AllocError>
         ensures { IfOk result (λ l. l ≡ self.now) }
     {
         match self {
             Leaf::None => Ok(Leaf::None),
-            Leaf::Truth(truth) => Ok(Leaf::Truth(*truth)),
-            Leaf::Number(number) => Ok(Leaf::Number(*number)),
-            Leaf::Text(text) => Ok(Leaf::Text(text.share()?)),
             Leaf::Label(text) => Ok(Leaf::Label(text.share()?)),
             Leaf::File(file) => Ok(Leaf::File(file.share()?)),
             Leaf::Depset(depset) => Ok(Leaf::Depset(depset.share()?)),
             Leaf::Function(function) => Ok(Leaf::Function(function.share()?)),
-            Leaf::BuiltIn(name) => Ok(Leaf::BuiltIn(name.share()?)),
+            Leaf::BuiltIn(function) => Ok(Leaf::BuiltIn(*function)),
             Leaf::Provider(provider) => Ok(Leaf::Provider(provider.share()?)),
             Leaf::Rule(rule) => Ok(Leaf::Rule(rule.share()?)),
             Leaf::Attribute(attribute) => Ok(Leaf::Attribute(attribute.share()?)),
             Leaf::Target(place) => Ok(Leaf::Target(*place)),
             Leaf::Object(object) => Ok(Leaf::Object(*object)),
-        }
-    }
-}
-
-impl Key {
-    /// Another name of the same key.
-    pub fn share(&self) -> Result<Key, AllocError>
-        ensures { IfOk result (λ k. k ≡ self.now) }
-    {
-        match self {
-            Key::Text(text) => Ok(Key::Text(text.share()?)),
-            Key::Number(number) => Ok(Key::Number(*number)),
-            Key::Truth(truth) => Ok(Key::Truth(*truth)),
-        }
-    }
-
-    /// The key as a value.
-    pub fn to_leaf(&self) -> Result<Leaf, AllocError>
-        ensures { IfOk result (λ l. l ≡ key_leaf self.now) }
-    {
-        match self {
-            Key::Text(text) => Ok(Leaf::Text(text.share()?)),
-            Key::Number(number) => Ok(Leaf::Number(*number)),
-            Key::Truth(truth) => Ok(Leaf::Truth(*truth)),
         }
     }
 }
@@ -225,9 +230,6 @@ impl Drop for Leaf {
     fn drop(self) {
         match self {
             Leaf::None => {}
-            Leaf::Truth(_) => {}
-            Leaf::Number(_) => {}
-            Leaf::Text(_) => {}
             Leaf::Label(_) => {}
             Leaf::File(_) => {}
             Leaf::Depset(_) => {}
@@ -245,9 +247,9 @@ impl Drop for Leaf {
 impl Drop for FunctionRef {
     fn drop(self) {
         let FunctionRef {
+            id: _,
             path: _,
             name: _,
-            number: _,
         } = self;
     }
 }
@@ -276,6 +278,22 @@ impl Drop for ProviderRef {
     }
 }
 
+impl Drop for Provider {
+    fn drop(self) {
+        let Provider {
+            id: _,
+            name: _,
+            fields: _,
+        } = self;
+    }
+}
+
+impl Drop for RuleRef {
+    fn drop(self) {
+        let RuleRef { id: _, name: _ } = self;
+    }
+}
+
 impl Drop for AttributeRef {
     fn drop(self) {
         let AttributeRef {
@@ -283,15 +301,5 @@ impl Drop for AttributeRef {
             path: _,
             number: _,
         } = self;
-    }
-}
-
-impl Drop for Key {
-    fn drop(self) {
-        match self {
-            Key::Text(_) => {}
-            Key::Number(_) => {}
-            Key::Truth(_) => {}
-        }
     }
 }

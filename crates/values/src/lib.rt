@@ -10,32 +10,27 @@
 #![tactic(auto)]
 
 mod cells;
-mod equals;
-mod freezes;
 mod frozen;
 mod heap;
+mod key;
+mod laws;
 mod leaf;
-mod reprs;
-mod revisit;
 mod sees;
-mod texts;
 mod ticks;
-mod tree_texts;
 mod value;
 
-pub use cells::{Cell, Entries, Items, LARGEST};
+pub use cells::{Cell, Entries, Fields, Items, LARGEST};
 pub use depsets::{
     Depset, DepsetError, Element, ElementType, FileRef, Id, ListError, Listing, Order,
 };
-pub use equals::{VISITED_LEVELS, equal};
-pub use freezes::freeze;
-pub use frozen::Frozen;
+pub use frozen::{Branch, Frozen, Held, Node, tree_at};
 pub use heap::{Heap, place_of};
+pub use key::Key;
+pub use laws::{changes_touch_one_cell, walked_cells_keep_their_items, walks_leave_walked_cells};
 pub use leaf::{
-    AttributeKind, AttributeRef, ExportName, Exported, FunctionRef, Key, Leaf, Object, ProviderRef,
+    AttributeKind, AttributeRef, BuiltIn, ExportName, Exported, FunctionRef, Leaf, MadeId, Names,
+    Object, Provider, ProviderRef, RuleRef,
 };
-pub use reprs::{LARGEST_TEXT, repr};
-pub use sees::{Group, Item, Seen, Table};
-pub use ticks::{Broken, Kind, Ticks};
-pub use tree_texts::text;
+pub use sees::{Group, Item, Seen, Slots, Table, key_at};
+pub use ticks::{Broken, Kind, Ticks, VISITED_LEVELS};
 pub use value::Value;

@@ -1,20 +1,22 @@
-//! One view of values, in the heap and frozen alike: what equality looks at.
+//! One view of values, in the heap and frozen alike: what equality, freezing and `str` look at.
 //!
 //! Nothing is shared or copied to look: a view borrows the heap and the value.
-ghost use Rattle.std.specs.Prelude.{◌≡◌, ◌<◌, ◌≤◌, length, slice_get, Some, MatchOption, map};
+ghost use Rattle.std.specs.Prelude.{◌≡◌, ◌<◌, ◌≤◌, IfOk, length, slice_get, Some, MatchOption, map};
 ghost use Rattle.std.specs.Map.{lookup};
 ghost use Rattle.values.specs.Leaves.{same_key};
-ghost use Rattle.values.specs.Shape.{shape, cell_shape, value_of, zip};
-ghost use Rattle.values.specs.Seeing.{item_value, option_value, group_items, table_entries, seen};
+ghost use Rattle.values.specs.Shape.{shape, cell_shape, value_of, slot_of, zip};
+ghost use Rattle.values.specs.Seeing.{item_value, option_value, group_items, table_entries, slot_values, seen};
 
-use crate::{Cell, Entries, Frozen, Heap, Key, Leaf, ProviderRef, Value};
+use crate::{Cell, Entries, Frozen, Heap, Key, Leaf, Provider, Value};
 use indexmap::IndexSet;
+use std::alloc::AllocError;
 
-/// A value, or a frozen value as one.
+/// A value wherever it lies: in the heap or with its owner, in a frozen value, or as a key of a dict.
 #[derive(Clone, Copy)]
 pub enum Item<'a> {
     Value(&'a Value),
     Tree(&'a Frozen),
+    Key(&'a Key),
 }
 
 /// The items of a list or tuple, wherever they stand.
@@ -24,23 +26,51 @@ pub enum Group<'a> {
     Trees(&'a [Frozen]),
 }
 
-/// The entries of a dict or the fields of an instance, wherever they stand, in order.
+/// The entries of a dict, wherever they stand, in order.
 #[derive(Clone, Copy)]
 pub enum Table<'a> {
     Values(&'a Entries),
     Trees(&'a IndexSet<Key>, &'a [Frozen]),
 }
 
+/// The fields of an instance, wherever they stand, by the places of their names in the provider.
+#[derive(Clone, Copy)]
+pub enum Slots<'a> {
+    Values(&'a [Option<Value>]),
+    Trees(&'a [Option<Frozen>]),
+}
+
 /// What a value shows.
 #[derive(Clone, Copy)]
 pub enum Seen<'a> {
+    Key(&'a Key),
     Leaf(&'a Leaf),
     List(Group<'a>),
     Tuple(Group<'a>),
     Dict(Table<'a>),
-    Instance(&'a ProviderRef, Table<'a>),
+    Instance(&'a Provider, Slots<'a>),
     /// The number of a cell that the heap doesn't have.
     Nothing,
+}
+
+impl<'a> Item<'a> {
+    /// A value of one's own, for a cell that keeps it: at most a count more.
+    pub fn to_value(self) -> Result<Value, AllocError>
+        ensures { IfOk result (λ v. v ≡ item_value self.entry) }
+    {
+        match self {
+            Item::Value(value) => value.share(),
+            Item::Tree(tree) => tree.to_value(),
+            Item::Key(key) => key_value(key),
+        }
+    }
+}
+
+fn key_value(key: &Key) -> Result<Value, AllocError>
+    ensures { IfOk result (λ v. v ≡ Value.Key key.now) }
+{
+    let key = key.share()?;
+    Ok(Value::Key(key))
 }
 
 impl<'a> Group<'a> {
@@ -78,6 +108,49 @@ fn tree_at<'a>(trees: &'a [Frozen], place: usize) -> Item<'a>
     ensures { slice_get (map value_of trees.now) place ≡ Some (item_value result) }
 {
     Item::Tree(&trees[place])
+}
+
+impl<'a> Slots<'a> {
+    /// How many fields the provider has.
+    pub fn len(&self) -> usize
+        ensures { result ≡ length (slot_values self.now) }
+    {
+        match self {
+            Slots::Values(values) => values.len(),
+            Slots::Trees(trees) => trees.len(),
+        }
+    }
+
+    /// The value of the field at a place, if it was given.
+    pub fn slot(&self, place: usize) -> Option<Item<'a>>
+        requires { place < length (slot_values self.now) }
+        ensures { slice_get (slot_values self.now) place ≡ Some (option_value result) }
+    {
+        match self {
+            Slots::Values(values) => value_slot(values, place),
+            Slots::Trees(trees) => tree_slot(trees, place),
+        }
+    }
+}
+
+fn value_slot<'a>(values: &'a [Option<Value>], place: usize) -> Option<Item<'a>>
+    requires { place < length values.now }
+    ensures { slice_get values.now place ≡ Some (option_value result) }
+{
+    match &values[place] {
+        Some(value) => Some(Item::Value(value)),
+        None => None,
+    }
+}
+
+fn tree_slot<'a>(trees: &'a [Option<Frozen>], place: usize) -> Option<Item<'a>>
+    requires { place < length trees.now }
+    ensures { slice_get (map slot_of trees.now) place ≡ Some (option_value result) }
+{
+    match &trees[place] {
+        Some(tree) => Some(Item::Tree(tree)),
+        None => None,
+    }
 }
 
 impl<'a> Table<'a> {
@@ -137,7 +210,8 @@ fn pair_at<'a>(
     Some((key_at(keys, place), tree_at(values, place)))
 }
 
-pub(crate) fn key_at(keys: &IndexSet<Key>, place: usize) -> &Key
+/// The key at a place.
+pub fn key_at(keys: &IndexSet<Key>, place: usize) -> &Key
     requires { place < length keys.now.keys }
     ensures { slice_get keys.now.keys place ≡ Some result.now }
 {
@@ -174,8 +248,9 @@ impl Heap {
         ensures { seen result ≡ shape self.now value.now }
     {
         match value {
+            Value::Key(key) => Seen::Key(key),
             Value::Leaf(leaf) => Seen::Leaf(leaf),
-            Value::Frozen(tree) => tree.see(),
+            Value::Frozen(branch) => branch.see(),
             Value::Cell(number) => match self.cell(*number) {
                 Some(cell) => cell.see(),
                 None => Seen::Nothing,
@@ -190,6 +265,7 @@ impl Heap {
         match item {
             Item::Value(value) => self.see(value),
             Item::Tree(tree) => tree.see(),
+            Item::Key(key) => Seen::Key(key),
         }
     }
 }
@@ -203,7 +279,9 @@ impl Cell {
             Cell::List(items, _) => Seen::List(Group::Values(items.as_slice())),
             Cell::Tuple(items) => Seen::Tuple(Group::Values(items.as_slice())),
             Cell::Dict(entries, _) => Seen::Dict(Table::Values(entries)),
-            Cell::Instance(provider, entries) => Seen::Instance(provider, Table::Values(entries)),
+            Cell::Instance(provider, fields) => {
+                Seen::Instance(provider.get(), Slots::Values(fields.as_slice()))
+            }
         }
     }
 }

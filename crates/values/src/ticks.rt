@@ -136,6 +136,9 @@ impl From<AllocError> for Broken {
     }
 }
 
+/// The greatest depth of a value that is visited: the whole value is at depth 1. (This project's own limit.)
+pub const VISITED_LEVELS: u32 = 64;
+
 /// Ticks used, of a limit.
 #[derive(Drop)]
 pub struct Ticks {

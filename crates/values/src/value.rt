@@ -1,25 +1,28 @@
 //! A value, as a name holds it.
 ghost use Rattle.std.specs.Prelude.{◌≡◌, IfOk};
 
-use crate::{Frozen, Leaf};
+use crate::{Branch, Key, Leaf};
 use std::alloc::AllocError;
 
-/// A value: a leaf, a cell of the heap by its number, or a frozen value.
+/// A value: a key, a leaf, a cell of the heap by its number, or a frozen value with parts. A frozen key or leaf is the
+/// key or the leaf, so that each value has one form.
 pub enum Value {
+    Key(Key),
     Leaf(Leaf),
     Cell(usize),
-    Frozen(Frozen),
+    Frozen(Branch),
 }
 
 impl Value {
-    /// Another name of the same value. Nothing below it is copied.
+    /// Another name of the same value: at most one count more, and nothing below it is copied.
     pub fn share(&self) -> Result<Value, AllocError>
         ensures { IfOk result (λ v. v ≡ self.now) }
     {
         match self {
+            Value::Key(key) => Ok(Value::Key(key.share()?)),
             Value::Leaf(leaf) => Ok(Value::Leaf(leaf.share()?)),
             Value::Cell(number) => Ok(Value::Cell(*number)),
-            Value::Frozen(tree) => Ok(Value::Frozen(tree.share()?)),
+            Value::Frozen(branch) => Ok(Value::Frozen(branch.share()?)),
         }
     }
 }
@@ -27,6 +30,7 @@ impl Value {
 impl Drop for Value {
     fn drop(self) {
         match self {
+            Value::Key(_) => {}
             Value::Leaf(_) => {}
             Value::Cell(_) => {}
             Value::Frozen(_) => {}

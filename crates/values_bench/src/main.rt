@@ -1,17 +1,20 @@
 //! Times what an analysis does most with values: a listing of many depsets over many elements, freezing small lists,
-//! comparing pairs, and dicts with many string keys. Without the word `time` it prints what was done alone, which
+//! comparing pairs, dicts with many string keys, and what calls do with functions, strings and instances. Without the word `time` it prints what was done alone, which
 //! never changes.
 #![tactic(auto)]
 
 use anyhow::Result;
-use plain::Text;
+use plain::{Shared, Text};
 use std::alloc::Global;
 use std::env;
+use std::mem::size_of;
 use std::rt::Clock;
 use std::time::Instant;
 use values::{
-    Depset, Element, Entries, Heap, Id, Items, Key, Leaf, Order, Ticks, Value, equal, freeze,
+    Cell, Depset, Element, Entries, ExportName, Exported, Fields, FunctionRef, Heap, Id, Item,
+    Items, Key, Leaf, MadeId, Names, Order, Provider, ProviderRef, Seen, Slots, Ticks, Value,
 };
+use visits::{equal, freeze};
 
 /// How many depsets stand in the chain, each over the one before.
 const DEPSETS: u64 = 1_000;
@@ -27,6 +30,15 @@ const PAIRS: usize = 1_000_000;
 
 /// How many string keys the dict has.
 const KEYS: u64 = 1_000_000;
+
+/// How many keys the small dict has that is read with keys that are made already.
+const READY: usize = 1_000;
+
+/// How often what takes some nanoseconds is done.
+const TURNS: u64 = 1_000_000;
+
+/// How many instances are made, read and frozen.
+const INSTANCES: u64 = 100_000;
 
 /// A text for the element of this number of the depset of that number.
 fn key_text(alloc: Global, serial: u64, element: u64) -> Result<Text> {
@@ -64,7 +76,7 @@ fn chain(alloc: Global) -> Result<Option<Depset>> {
 fn add_list(alloc: Global, heap: &mut Heap, values: &mut Items, length: usize) -> Result<()> {
     let mut items = Items::new(alloc);
     for _ in 0..length {
-        items.push(Value::Leaf(Leaf::Number(7)))?;
+        items.push(Value::Key(Key::Number(7)))?;
     }
     if let Ok(list) = heap.new_list(items) {
         values.push(list)?;
@@ -76,7 +88,7 @@ fn add_list(alloc: Global, heap: &mut Heap, values: &mut Items, length: usize) -
 fn freezes(alloc: Global, heap: &Heap, list: &Value) -> u64 {
     let mut ticks = Ticks::new(u64::MAX);
     for _ in 0..LISTS {
-        if freeze(alloc, list, heap, &mut ticks).is_err() {
+        if freeze(alloc, Item::Value(list), heap, &mut ticks).is_err() {
             return ticks.used();
         }
     }
@@ -86,7 +98,7 @@ fn freezes(alloc: Global, heap: &Heap, list: &Value) -> u64 {
 /// Compares two long lists, and gives the ticks if they are equal.
 fn compares(heap: &Heap, a: &Value, b: &Value) -> u64 {
     let mut ticks = Ticks::new(u64::MAX);
-    match equal(a, b, heap, &mut ticks) {
+    match equal(Item::Value(a), Item::Value(b), heap, &mut ticks) {
         Ok(true) => ticks.used(),
         _ => 0,
     }
@@ -101,7 +113,7 @@ fn key(alloc: Global, number: u64) -> Result<Key> {
 
 /// A dict of many keys.
 fn dict(alloc: Global) -> Result<Entries> {
-    let mut entries = Entries::new(alloc);
+    let mut entries = Entries::with_capacity(alloc, 0)?;
     for number in 0..KEYS {
         entries.put(key(alloc, number)?, Value::Leaf(Leaf::None))?;
     }
@@ -117,6 +129,85 @@ fn reads(alloc: Global, entries: &Entries) -> Result<u64> {
         }
     }
     Ok(found)
+}
+
+/// Reads of a small dict with keys that are made already.
+fn ready_reads(entries: &Entries, keys: &[Key]) -> u64 {
+    let mut found = 0u64;
+    for _ in 0..TURNS / 1_000 {
+        for key in keys {
+            if entries.has(key) {
+                found = found.saturating_add(1);
+            }
+        }
+    }
+    found
+}
+
+/// Strings made of two others.
+fn joins(alloc: Global, a: &Text, b: &Text) -> Result<u64> {
+    let mut bytes = 0u64;
+    for _ in 0..TURNS {
+        let mut text = String::with_capacity(alloc, a.len().saturating_add(b.len()))?;
+        text.push_str(a.as_str())?;
+        text.push_str(b.as_str())?;
+        let text = Text::from_string(text)?;
+        bytes = bytes.saturating_add(text.len() as u64);
+    }
+    Ok(bytes)
+}
+
+/// A provider of two fields.
+fn provider(alloc: Global) -> Result<Shared<Provider>> {
+    let mut fields = Names::new(alloc);
+    fields.push(Text::new(alloc, "m")?)?;
+    fields.push(Text::new(alloc, "n")?)?;
+    let id = Some(MadeId {
+        module: 0,
+        number: 1,
+    });
+    let path = Text::new(alloc, "a/f.bzl")?;
+    let name = ExportName::Global(Text::new(alloc, "P")?);
+    let name = ProviderRef::Exported(Exported { path, name });
+    Ok(Shared::new(alloc, Provider { id, name, fields })?)
+}
+
+/// How many of the instances have their second field.
+fn instances(alloc: Global) -> Result<u64> {
+    let mut heap = Heap::new(alloc);
+    let mut ticks = Ticks::new(u64::MAX);
+    let provider = provider(alloc)?;
+    let mut read = 0u64;
+    for _ in 0..INSTANCES {
+        let mut fields = Fields::with_capacity(alloc, 2)?;
+        fields.push(Some(Value::Key(Key::Number(1))))?;
+        fields.push(Some(Value::Key(Key::Number(2))))?;
+        let Ok(made) = heap.new_instance(provider.share()?, fields) else {
+            return Ok(read);
+        };
+        if let Seen::Instance(_, Slots::Values(fields)) = heap.see(&made) {
+            if let Some(Some(_)) = fields.get(1) {
+                read = read.saturating_add(1);
+            }
+        }
+        if freeze(alloc, Item::Value(&made), &heap, &mut ticks).is_err() {
+            return Ok(read);
+        }
+    }
+    Ok(read)
+}
+
+/// Second names of a value, put on a stack and taken off again, as calls do.
+fn pushes(alloc: Global, value: &Value) -> Result<u64> {
+    let mut stack = Vec::with_capacity(alloc, 8)?;
+    let mut taken = 0u64;
+    for _ in 0..TURNS {
+        stack.push(value.share()?)?;
+        if stack.pop().is_some() {
+            taken = taken.saturating_add(1);
+        }
+    }
+    Ok(taken)
 }
 
 /// What was done and how often, and with the word `time` how long each took.
@@ -178,10 +269,61 @@ fn dicts<R: Print + Clock>(rt: &R, alloc: Global, timed: bool) -> Result<()> {
     report(rt, "keys read", found, start, timed)
 }
 
+/// A small dict read with ready keys.
+fn small_dict<R: Print + Clock>(rt: &R, alloc: Global, timed: bool) -> Result<()> {
+    let mut keys = Vec::with_capacity(alloc, READY)?;
+    let mut entries = Entries::with_capacity(alloc, READY)?;
+    for number in 0..READY as u64 {
+        entries.put(key(alloc, number)?, Value::Leaf(Leaf::None))?;
+        keys.push(key(alloc, number)?)?;
+    }
+    let start = Instant::now(rt)?;
+    let found = ready_reads(&entries, keys.as_slice());
+    report(rt, "ready keys read", found, start, timed)
+}
+
+/// Values pushed and popped, and strings joined.
+fn small<R: Print + Clock>(rt: &R, alloc: Global, timed: bool) -> Result<()> {
+    let function = FunctionRef {
+        id: MadeId {
+            module: 0,
+            number: 1,
+        },
+        path: Text::new(alloc, "a/f.bzl")?,
+        name: Text::new(alloc, "f")?,
+    };
+    let function = Value::Leaf(Leaf::Function(Shared::new(alloc, function)?));
+    let start = Instant::now(rt)?;
+    let taken = pushes(alloc, &function)?;
+    report(rt, "functions pushed and popped", taken, start, timed)?;
+    let number = Value::Key(Key::Number(7));
+    let start = Instant::now(rt)?;
+    let taken = pushes(alloc, &number)?;
+    report(rt, "numbers pushed and popped", taken, start, timed)?;
+    let a = Text::new(alloc, "//package")?;
+    let b = Text::new(alloc, ":target")?;
+    let start = Instant::now(rt)?;
+    let bytes = joins(alloc, &a, &b)?;
+    report(rt, "strings joined", bytes / 16, start, timed)
+}
+
+/// Instances of two fields, made, read and frozen.
+fn all_instances<R: Print + Clock>(rt: &R, alloc: Global, timed: bool) -> Result<()> {
+    let start = Instant::now(rt)?;
+    let read = instances(alloc)?;
+    report(rt, "instances made, read and frozen", read, start, timed)?;
+    println!(rt; "bytes of a value: {}", size_of::<Value>())?;
+    println!(rt; "bytes of a cell: {}", size_of::<Cell>())?;
+    Ok(())
+}
+
 fn main(rt: HostRuntime) -> Result<()> {
     let timed = env::args(&rt)?.count() > 1;
     let alloc = rt.alloc();
     depsets(&rt, alloc, timed)?;
     lists(&rt, alloc, timed)?;
-    dicts(&rt, alloc, timed)
+    dicts(&rt, alloc, timed)?;
+    small_dict(&rt, alloc, timed)?;
+    small(&rt, alloc, timed)?;
+    all_instances(&rt, alloc, timed)
 }

@@ -3,7 +3,7 @@ use crate::script::{Ask, Make, all_hold};
 use crate::world::Change;
 use std::alloc::Global;
 use std::test::Fail;
-use values::{Broken, Frozen, Kind, LARGEST, Leaf, Ticks, place_of};
+use values::{Branch, Broken, Frozen, Kind, LARGEST, Leaf, Ticks, place_of};
 
 #[test]
 fn indexes_from_both_ends(rt: HostRuntime) {
@@ -97,7 +97,7 @@ fn frozen_values_do_not_change(rt: HostRuntime) -> Result<(), Fail> {
 /// A frozen pair of the value twice.
 fn twice(alloc: Global, value: &Frozen) -> Result<Frozen, Fail> {
     let both = Vec::from_array(alloc, [value.share()?, value.share()?])?;
-    Ok(Frozen::tuple(alloc, both)?)
+    Ok(Frozen::of_branch(Branch::tuple(alloc, both)?))
 }
 
 #[test]
@@ -107,7 +107,7 @@ fn second_names_are_no_copies(rt: HostRuntime) -> Result<(), Fail> {
     for _ in 0..60 {
         pair = twice(alloc, &pair)?;
     }
-    assert!(rt; pair.is_walkable(), "2^60 leaves, in 60 pairs");
+    assert!(rt; pair.share().is_ok(), "2^60 leaves, in 60 pairs");
     Ok(())
 }
 

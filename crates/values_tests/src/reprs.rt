@@ -1,17 +1,19 @@
 //! `str`: texts, ticks and refusals at their exact numbers.
 use crate::script::{Ask, Make, all_hold};
 use crate::world::{Change, World};
-use plain::Text;
+use plain::{Shared, Text};
+use printing::LARGEST_TEXT;
 use std::alloc::Global;
 use std::test::Fail;
 use values::{
-    AttributeKind, AttributeRef, FileRef, FunctionRef, LARGEST_TEXT, Leaf, Object, ProviderRef,
+    AttributeKind, AttributeRef, BuiltIn, FileRef, FunctionRef, Key, Leaf, MadeId, Names, Object,
+    Provider, ProviderRef, Value,
 };
 
-/// Whether `str` of the leaf is this text, and has it inside a list as the other one.
-fn prints(alloc: Global, leaf: Leaf, want: &str, inside: &str) -> Result<bool, Fail> {
+/// Whether `str` of the value is this text, and has it inside a list as the other one.
+fn prints(alloc: Global, value: Value, want: &str, inside: &str) -> Result<bool, Fail> {
     let mut world = World::new(alloc);
-    world.leaf(leaf)?;
+    world.value(value)?;
     world.list(&[0])?;
     Ok(world.prints(0, 1, want)? && world.prints(1, 2, inside)?)
 }
@@ -19,17 +21,17 @@ fn prints(alloc: Global, leaf: Leaf, want: &str, inside: &str) -> Result<bool, F
 /// Whether `str` refuses the leaf, alone and inside a list, after its tick.
 fn refuses(alloc: Global, leaf: Leaf) -> Result<bool, Fail> {
     let mut world = World::new(alloc);
-    world.leaf(leaf)?;
+    world.value(Value::Leaf(leaf))?;
     world.list(&[0])?;
     Ok(world.prints_not(0, 1, "type")? && world.prints_not(1, 2, "type")?)
 }
 
 #[test]
-fn leaves(rt: HostRuntime) -> Result<(), Fail> {
+fn keys_and_leaves(rt: HostRuntime) -> Result<(), Fail> {
     let alloc = rt.alloc();
-    assert!(rt; prints(alloc, Leaf::None, "None", "[None]")?);
-    assert!(rt; prints(alloc, Leaf::Truth(true), "True", "[True]")?);
-    let least = Leaf::Number(i64::MIN);
+    assert!(rt; prints(alloc, Value::Leaf(Leaf::None), "None", "[None]")?);
+    assert!(rt; prints(alloc, Value::Key(Key::Truth(true)), "True", "[True]")?);
+    let least = Value::Key(Key::Number(i64::MIN));
     assert!(rt;
         prints(
             alloc,
@@ -38,14 +40,21 @@ fn leaves(rt: HostRuntime) -> Result<(), Fail> {
             "[-9223372036854775808]"
         )?
     );
-    let text = Leaf::Text(Text::new(alloc, "'a\n\t\\\"b")?);
+    let text = Value::Key(Key::Text(Text::new(alloc, "'a\n\t\\\"b")?));
     assert!(rt; prints(alloc, text, "'a\n\t\\\"b", "[\"'a\\n\\t\\\\\\\"b\"]")?);
-    let label = Leaf::Label(Text::new(alloc, "//a:x")?);
+    let label = Value::Leaf(Leaf::Label(Text::new(alloc, "//a:x")?));
     assert!(rt; prints(alloc, label, "//a:x", "[//a:x]")?);
     let path = Text::new(alloc, "a/x.txt")?;
     let owner = Text::new(alloc, "//a:x")?;
-    let file = Leaf::File(FileRef { path, owner });
-    assert!(rt; prints(alloc, file, "<file a/x.txt>", "[<file a/x.txt>]")?);
+    let file = Leaf::File(Shared::new(alloc, FileRef { path, owner })?);
+    assert!(rt;
+        prints(
+            alloc,
+            Value::Leaf(file),
+            "<file a/x.txt>",
+            "[<file a/x.txt>]"
+        )?
+    );
     Ok(())
 }
 
@@ -53,19 +62,27 @@ fn leaves(rt: HostRuntime) -> Result<(), Fail> {
 fn leaves_without_a_text(rt: HostRuntime) -> Result<(), Fail> {
     let alloc = rt.alloc();
     let function = FunctionRef {
+        id: MadeId {
+            module: 0,
+            number: 1,
+        },
         path: Text::new(alloc, "a/f.bzl")?,
         name: Text::new(alloc, "f")?,
-        number: 1,
     };
-    assert!(rt; refuses(alloc, Leaf::Function(function))?);
-    assert!(rt; refuses(alloc, Leaf::BuiltIn(Text::new(alloc, "len")?))?);
-    assert!(rt; refuses(alloc, Leaf::Provider(ProviderRef::DefaultInfo))?);
+    assert!(rt; refuses(alloc, Leaf::Function(Shared::new(alloc, function)?))?);
+    assert!(rt; refuses(alloc, Leaf::BuiltIn(BuiltIn::Len))?);
+    let provider = Provider {
+        id: None,
+        name: ProviderRef::DefaultInfo,
+        fields: Names::new(alloc),
+    };
+    assert!(rt; refuses(alloc, Leaf::Provider(Shared::new(alloc, provider)?))?);
     let attribute = AttributeRef {
         kind: AttributeKind::Label,
         path: Text::new(alloc, "a/f.bzl")?,
         number: 1,
     };
-    assert!(rt; refuses(alloc, Leaf::Attribute(attribute))?);
+    assert!(rt; refuses(alloc, Leaf::Attribute(Shared::new(alloc, attribute)?))?);
     assert!(rt; refuses(alloc, Leaf::Target(0))?);
     assert!(rt; refuses(alloc, Leaf::Object(Object::Attr))?);
     Ok(())

@@ -2,7 +2,7 @@
 use crate::world::{Change, World};
 use std::alloc::Global;
 use std::test::Fail;
-use values::Leaf;
+use values::{Key, Leaf};
 
 /// A value that is made, or changed. Values are named by place in order of making.
 #[derive(Clone, Copy)]
@@ -46,7 +46,7 @@ pub(crate) enum Ask<'a> {
 fn perform(world: &mut World, step: Make<'_>) -> Result<(), Fail> {
     match step {
         Make::None => world.leaf(Leaf::None),
-        Make::Number(number) => world.leaf(Leaf::Number(number)),
+        Make::Number(number) => world.key(Key::Number(number)),
         Make::Text(text) => world.text(text),
         Make::Letters(bytes) => world.letters(bytes),
         Make::Target(place) => world.leaf(Leaf::Target(place)),

@@ -1,12 +1,18 @@
 //! The text of each kind of value, as the table of texts has it.
 use crate::script::{Ask, Make, all_hold};
 use indexmap::IndexSet;
-use plain::Text;
+use plain::{Shared, Text};
+use printing::text;
 use std::alloc::Global;
 use std::test::Fail;
 use values::{
-    AttributeKind, AttributeRef, Depset, Element, ExportName, Exported, FileRef, Frozen,
-    FunctionRef, Id, Key, Leaf, Order, ProviderRef, text,
+    AttributeKind, AttributeRef, Branch, BuiltIn, Depset, Element, ExportName, Exported, FileRef,
+    Frozen, FunctionRef, Id, Key, Leaf, MadeId, Names, Order, Provider, ProviderRef, RuleRef,
+};
+
+const MADE: MadeId = MadeId {
+    module: 0,
+    number: 1,
 };
 
 fn exported(alloc: Global, name: &str) -> Result<Exported, Fail> {
@@ -15,8 +21,23 @@ fn exported(alloc: Global, name: &str) -> Result<Exported, Fail> {
     Ok(Exported { path, name })
 }
 
-fn provider(alloc: Global, name: &str) -> Result<ProviderRef, Fail> {
-    Ok(ProviderRef::Exported(exported(alloc, name)?))
+/// A provider of these fields.
+fn provider(alloc: Global, name: ProviderRef, fields: &[&str]) -> Result<Shared<Provider>, Fail> {
+    let mut names = Names::new(alloc);
+    for field in fields {
+        names.push(Text::new(alloc, field)?)?;
+    }
+    let provider = Provider {
+        id: Some(MADE),
+        name,
+        fields: names,
+    };
+    Ok(Shared::new(alloc, provider)?)
+}
+
+/// The provider `P` of a module, with these fields.
+fn exported_provider(alloc: Global, fields: &[&str]) -> Result<Shared<Provider>, Fail> {
+    provider(alloc, ProviderRef::Exported(exported(alloc, "P")?), fields)
 }
 
 fn depset(
@@ -49,29 +70,29 @@ fn is_leaf_text(alloc: Global, leaf: Leaf, want: &str) -> Result<bool, Fail> {
     is_text(alloc, &Frozen::of_leaf(leaf.share()?), want)
 }
 
-/// Whether this is the text of the key as a leaf.
+/// Whether this is the text of a second name of the key.
 fn is_key_text(alloc: Global, key: Key, want: &str) -> Result<bool, Fail> {
-    is_leaf_text(alloc, key.to_leaf()?, want)
+    is_text(alloc, &Frozen::of_key(key.share()?), want)
 }
 
 fn number(number: i64) -> Frozen {
-    Frozen::of_leaf(Leaf::Number(number))
+    Frozen::of_key(Key::Number(number))
+}
+
+fn tuple(alloc: Global, items: Vec<Frozen>) -> Result<Frozen, Fail> {
+    Ok(Frozen::of_branch(Branch::tuple(alloc, items)?))
 }
 
 #[test]
 fn plain_leaves(rt: HostRuntime) -> Result<(), Fail> {
     let alloc = rt.alloc();
     assert!(rt; is_leaf_text(alloc, Leaf::None, "None")?);
-    assert!(rt; is_leaf_text(alloc, Leaf::Truth(true), "True")?);
-    assert!(rt; is_leaf_text(alloc, Leaf::Truth(false), "False")?);
-    assert!(rt; is_leaf_text(alloc, Leaf::Number(i64::MIN), "-9223372036854775808")?);
-    let escaped = Leaf::Text(Text::new(alloc, "'a\n\t\\\"b")?);
-    assert!(rt; is_leaf_text(alloc, escaped, "\"'a\\n\\t\\\\\\\"b\"")?);
     let label = Leaf::Label(Text::new(alloc, "//a:x")?);
     assert!(rt; is_leaf_text(alloc, label, "//a:x")?);
     let path = Text::new(alloc, "a/x.txt")?;
     let owner = Text::new(alloc, "//a:x")?;
-    assert!(rt; is_leaf_text(alloc, Leaf::File(FileRef { path, owner }), "<file a/x.txt>")?);
+    let file = Leaf::File(Shared::new(alloc, FileRef { path, owner })?);
+    assert!(rt; is_leaf_text(alloc, file, "<file a/x.txt>")?);
     Ok(())
 }
 
@@ -80,25 +101,37 @@ fn leaves_that_modules_make(rt: HostRuntime) -> Result<(), Fail> {
     let alloc = rt.alloc();
     let path = Text::new(alloc, "a/f.bzl")?;
     let name = Text::new(alloc, "f")?;
-    let function = Leaf::Function(FunctionRef {
+    let function = FunctionRef {
+        id: MADE,
         path,
         name,
-        number: 1,
-    });
+    };
+    let function = Leaf::Function(Shared::new(alloc, function)?);
     assert!(rt; is_leaf_text(alloc, function, "<function a/f.bzl%f>")?);
-    let made = Leaf::Provider(provider(alloc, "P")?);
+    let made = Leaf::Provider(exported_provider(alloc, &[])?);
     assert!(rt; is_leaf_text(alloc, made, "<provider a/f.bzl%P>")?);
-    let known = Leaf::Provider(ProviderRef::DefaultInfo);
+    let known = Leaf::Provider(provider(alloc, ProviderRef::DefaultInfo, &["files"])?);
     assert!(rt; is_leaf_text(alloc, known, "<provider DefaultInfo>")?);
-    let rule = Leaf::Rule(exported(alloc, "r")?);
+    let rule = RuleRef {
+        id: MADE,
+        name: exported(alloc, "r")?,
+    };
+    let rule = Leaf::Rule(Shared::new(alloc, rule)?);
     assert!(rt; is_leaf_text(alloc, rule, "<rule a/f.bzl%r>")?);
-    let built_in = Leaf::BuiltIn(Text::new(alloc, "len")?);
-    assert!(rt; is_leaf_text(alloc, built_in, "<built-in len>")?);
-    let attribute = Leaf::Attribute(AttributeRef {
+    Ok(())
+}
+
+#[test]
+fn built_in_functions_and_attributes(rt: HostRuntime) -> Result<(), Fail> {
+    let alloc = rt.alloc();
+    assert!(rt; is_leaf_text(alloc, Leaf::BuiltIn(BuiltIn::Len), "<built-in len>")?);
+    assert!(rt; is_leaf_text(alloc, Leaf::BuiltIn(BuiltIn::Depset), "<built-in depset>")?);
+    let attribute = AttributeRef {
         kind: AttributeKind::LabelList,
         path: Text::new(alloc, "a/f.bzl")?,
         number: 1,
-    });
+    };
+    let attribute = Leaf::Attribute(Shared::new(alloc, attribute)?);
     assert!(rt; is_leaf_text(alloc, attribute, "<attr label_list>")?);
     Ok(())
 }
@@ -121,32 +154,37 @@ fn depsets_by_their_listings(rt: HostRuntime) -> Result<(), Fail> {
 #[test]
 fn lists_tuples_dicts_and_instances(rt: HostRuntime) -> Result<(), Fail> {
     let alloc = rt.alloc();
-    let none = Frozen::tuple(alloc, Vec::new(alloc))?;
+    let none = tuple(alloc, Vec::new(alloc))?;
     assert!(rt; is_text(alloc, &none, "()")?);
-    let one = Frozen::tuple(alloc, Vec::from_array(alloc, [number(1)])?)?;
+    let one = tuple(alloc, Vec::from_array(alloc, [number(1)])?)?;
     assert!(rt; is_text(alloc, &one, "(1,)")?);
-    let two = Frozen::tuple(alloc, Vec::from_array(alloc, [number(1), number(2)])?)?;
+    let two = tuple(alloc, Vec::from_array(alloc, [number(1), number(2)])?)?;
     assert!(rt; is_text(alloc, &two, "(1, 2)")?);
-    let list = Frozen::list(alloc, Vec::from_array(alloc, [one, two])?)?;
+    let list = Frozen::of_branch(Branch::list(alloc, Vec::from_array(alloc, [one, two])?)?);
     assert!(rt; is_text(alloc, &list, "[(1,), (1, 2)]")?);
     let mut keys = IndexSet::new(alloc);
     keys.insert(Key::Text(Text::new(alloc, "a")?))?;
-    let dict = Frozen::dict(alloc, keys, Vec::from_array(alloc, [list])?)?;
+    let dict = Branch::dict(alloc, keys, Vec::from_array(alloc, [list])?)?;
+    let dict = Frozen::of_branch(dict);
     assert!(rt; is_text(alloc, &dict, "{\"a\": [(1,), (1, 2)]}")?);
-    let mut names = IndexSet::new(alloc);
-    names.insert(Key::Text(Text::new(alloc, "m")?))?;
-    let values = Vec::from_array(alloc, [dict])?;
-    let instance = Frozen::instance(alloc, provider(alloc, "P")?, names, values)?;
-    assert!(rt; is_text(alloc, &instance, "a/f.bzl%P(m={\"a\": [(1,), (1, 2)]})")?);
+    let fields = Vec::from_array(alloc, [None, Some(dict), None, Some(number(3))])?;
+    let names = ["l", "m", "n", "o"];
+    let instance = Branch::instance(alloc, exported_provider(alloc, &names)?, fields)?;
+    let want = "a/f.bzl%P(m={\"a\": [(1,), (1, 2)]}, o=3)";
+    assert!(rt; is_text(alloc, &Frozen::of_branch(instance), want)?);
     Ok(())
 }
 
 #[test]
-fn keys_as_leaves(rt: HostRuntime) -> Result<(), Fail> {
+fn keys(rt: HostRuntime) -> Result<(), Fail> {
     let alloc = rt.alloc();
     assert!(rt; is_key_text(alloc, Key::Text(Text::new(alloc, "a")?), "\"a\"")?);
+    let escaped = Key::Text(Text::new(alloc, "'a\n\t\\\"b")?);
+    assert!(rt; is_key_text(alloc, escaped, "\"'a\\n\\t\\\\\\\"b\"")?);
     assert!(rt; is_key_text(alloc, Key::Number(1), "1")?);
+    assert!(rt; is_key_text(alloc, Key::Number(i64::MIN), "-9223372036854775808")?);
     assert!(rt; is_key_text(alloc, Key::Truth(true), "True")?);
+    assert!(rt; is_key_text(alloc, Key::Truth(false), "False")?);
     Ok(())
 }
 

@@ -2,13 +2,16 @@
 //!
 //! A test says with how many ticks a call answers. Each check then makes the call twice: under exactly this limit,
 //! and under one less, which must be `steps`.
-use plain::Text;
+use plain::{Shared, Text};
+use printing::{repr, text};
 use std::alloc::Global;
 use std::marker::Model;
 use std::test::Fail;
 use values::{
-    Broken, Entries, Heap, Items, Key, Leaf, ProviderRef, Ticks, Value, equal, freeze, repr, text,
+    Broken, Entries, Fields, Frozen, Heap, Item, Items, Key, Leaf, Names, Provider, ProviderRef,
+    Ticks, Value,
 };
+use visits::{equal, freeze};
 
 #[derive(Drop)]
 pub(crate) struct World {
@@ -50,6 +53,35 @@ fn held(values: &Items, place: usize) -> Result<&Value, Fail> {
     }
 }
 
+/// The names of the fields of the instances that are made here.
+const NAMES: [&str; 3] = ["m", "n", "o"];
+
+/// A provider with these names, which is told from others by nothing: all instances here are of one provider.
+fn provider(alloc: Global) -> Result<Shared<Provider>, Fail> {
+    let mut fields = Names::new(alloc);
+    for name in NAMES {
+        fields.push(Text::new(alloc, name)?)?;
+    }
+    Ok(Shared::new(
+        alloc,
+        Provider {
+            id: None,
+            name: ProviderRef::DefaultInfo,
+            fields,
+        },
+    )?)
+}
+
+/// The place that was given for a name.
+fn given(fields: &[(&str, usize)], name: &str) -> Option<usize> {
+    for (field, place) in fields {
+        if *field == name {
+            return Some(*place);
+        }
+    }
+    None
+}
+
 /// Whether the answer is the fault of this name.
 fn is_kind<T>(answer: &Result<T, Broken>, name: &str) -> bool {
     match answer {
@@ -72,6 +104,10 @@ impl World {
         held(&self.values, place)
     }
 
+    fn item(&self, place: usize) -> Result<Item<'_>, Fail> {
+        Ok(Item::Value(self.at(place)?))
+    }
+
     fn parts(&self, places: &[usize]) -> Result<Items, Fail> {
         let mut items = Items::new(self.alloc);
         for place in places {
@@ -81,7 +117,7 @@ impl World {
     }
 
     fn entries(&self, entries: &[(&str, usize)]) -> Result<Entries, Fail> {
-        let mut made = Entries::new(self.alloc);
+        let mut made = Entries::with_capacity(self.alloc, entries.len())?;
         for (key, place) in entries {
             let key = Key::Text(Text::new(self.alloc, key)?);
             made.put(key, self.at(*place)?.share()?)?;
@@ -89,16 +125,38 @@ impl World {
         Ok(made)
     }
 
+    fn fields(&self, fields: &[(&str, usize)]) -> Result<Fields, Fail> {
+        let mut made = Fields::with_capacity(self.alloc, NAMES.len())?;
+        for name in NAMES {
+            let value = match given(fields, name) {
+                Some(place) => Some(self.at(place)?.share()?),
+                None => None,
+            };
+            made.push(value)?;
+        }
+        Ok(made)
+    }
+
+    /// Adds a value.
+    pub(crate) fn value(&mut self, value: Value) -> Result<(), Fail> {
+        self.values.push(value)?;
+        Ok(())
+    }
+
+    /// Adds a key.
+    pub(crate) fn key(&mut self, key: Key) -> Result<(), Fail> {
+        self.value(Value::Key(key))
+    }
+
     /// Adds a leaf.
     pub(crate) fn leaf(&mut self, leaf: Leaf) -> Result<(), Fail> {
-        self.values.push(Value::Leaf(leaf))?;
-        Ok(())
+        self.value(Value::Leaf(leaf))
     }
 
     /// Adds a string.
     pub(crate) fn text(&mut self, text: &str) -> Result<(), Fail> {
         let text = Text::new(self.alloc, text)?;
-        self.leaf(Leaf::Text(text))
+        self.key(Key::Text(text))
     }
 
     /// Adds a string of so many bytes.
@@ -107,7 +165,7 @@ impl World {
         for _ in 0..bytes {
             text.push_str("a")?;
         }
-        self.leaf(Leaf::Text(Text::from_string(text)?))
+        self.key(Key::Text(Text::from_string(text)?))
     }
 
     /// Adds a list of so many `None`.
@@ -160,8 +218,9 @@ impl World {
 
     /// Adds an instance of `DefaultInfo` with these fields, each with the value at a place.
     pub(crate) fn instance(&mut self, fields: &[(&str, usize)]) -> Result<(), Fail> {
-        let fields = self.entries(fields)?;
-        let instance = made(self.heap.new_instance(ProviderRef::DefaultInfo, fields))?;
+        let fields = self.fields(fields)?;
+        let provider = provider(self.alloc)?;
+        let instance = made(self.heap.new_instance(provider, fields))?;
         self.values.push(instance)?;
         Ok(())
     }
@@ -175,7 +234,7 @@ impl World {
 
     fn append(&mut self, list: usize, item: usize) -> Result<Result<(), Broken>, Fail> {
         let list = held(&self.values, list)?;
-        let item = held(&self.values, item)?;
+        let item = held(&self.values, item)?.share()?;
         Ok(self.heap.append(list, item))
     }
 
@@ -192,23 +251,34 @@ impl World {
         item: usize,
     ) -> Result<Result<(), Broken>, Fail> {
         let list = held(&self.values, list)?;
-        let item = held(&self.values, item)?;
+        let item = held(&self.values, item)?.share()?;
         Ok(self.heap.set_index(list, index, item))
     }
 
     fn set_key(&mut self, dict: usize, key: &str, item: usize) -> Result<Result<(), Broken>, Fail> {
         let key = Key::Text(Text::new(self.alloc, key)?);
         let dict = held(&self.values, dict)?;
-        let item = held(&self.values, item)?;
-        Ok(self.heap.set_key(dict, &key, item))
+        let item = held(&self.values, item)?.share()?;
+        Ok(self.heap.set_key(dict, key, item))
     }
 
     fn begin_walk(&mut self, walked: usize) -> Result<Result<(), Broken>, Fail> {
-        Ok(self.heap.begin_walk(held(&self.values, walked)?))
+        match self.heap.begin_walk(held(&self.values, walked)?) {
+            Ok(_) => Ok(Ok(())),
+            Err(refused) => Ok(Err(refused)),
+        }
     }
 
+    /// Ends a walk over the value, which stands in a cell of the heap.
     fn end_walk(&mut self, walked: usize) -> Result<Result<(), Broken>, Fail> {
-        Ok(self.heap.end_walk(held(&self.values, walked)?))
+        match held(&self.values, walked)? {
+            Value::Cell(number) => {
+                let counted = Some(*number);
+                self.heap.end_walk(counted);
+            }
+            _ => self.heap.end_walk(None),
+        }
+        Ok(Ok(()))
     }
 
     fn change(&mut self, change: Change<'_>) -> Result<Result<(), Broken>, Fail> {
@@ -243,9 +313,8 @@ impl World {
     /// Adds a frozen value, which takes so many ticks.
     pub(crate) fn frozen(&mut self, place: usize, used: u64) -> Result<(), Fail> {
         let mut ticks = Ticks::new(used);
-        let tree = freeze(self.alloc, self.at(place)?, &self.heap, &mut ticks);
-        match tree {
-            Ok(tree) => self.values.push(Value::Frozen(tree))?,
+        match freeze(self.alloc, self.item(place)?, &self.heap, &mut ticks) {
+            Ok(tree) => self.values.push(tree.to_value()?)?,
             Err(_) => return Err(Fail::from("a value is frozen")),
         }
         Ok(())
@@ -260,14 +329,14 @@ impl World {
     /// Whether two values compare like this, in so many ticks.
     pub(crate) fn compares(&self, a: usize, b: usize, used: u64, want: bool) -> Result<bool, Fail> {
         let mut ticks = Ticks::new(used);
-        let found = equal(self.at(a)?, self.at(b)?, &self.heap, &mut ticks);
+        let found = equal(self.item(a)?, self.item(b)?, &self.heap, &mut ticks);
         let short = self.equal_within(a, b, used.saturating_sub(1))?;
         Ok(found == Ok(want) && ticks.used() == used && is_kind(&short, "steps"))
     }
 
     fn equal_within(&self, a: usize, b: usize, limit: u64) -> Result<Result<bool, Broken>, Fail> {
         let mut ticks = Ticks::new(limit);
-        Ok(equal(self.at(a)?, self.at(b)?, &self.heap, &mut ticks))
+        Ok(equal(self.item(a)?, self.item(b)?, &self.heap, &mut ticks))
     }
 
     /// Whether equality is refused at this tick.
@@ -285,7 +354,7 @@ impl World {
 
     fn freeze_within(&self, place: usize, limit: u64) -> Result<Result<u64, Broken>, Fail> {
         let mut ticks = Ticks::new(limit);
-        match freeze(self.alloc, self.at(place)?, &self.heap, &mut ticks) {
+        match freeze(self.alloc, self.item(place)?, &self.heap, &mut ticks) {
             Ok(_) => Ok(Ok(ticks.used())),
             Err(broken) => Ok(Err(broken)),
         }
@@ -307,13 +376,13 @@ impl World {
 
     fn repr_within(&self, place: usize, limit: u64) -> Result<Result<String, Broken>, Fail> {
         let mut ticks = Ticks::new(limit);
-        Ok(repr(self.alloc, self.at(place)?, &self.heap, &mut ticks))
+        Ok(repr(self.alloc, self.item(place)?, &self.heap, &mut ticks))
     }
 
     /// Whether `str` gives this text, in so many ticks.
     pub(crate) fn prints(&self, place: usize, used: u64, want: &str) -> Result<bool, Fail> {
         let mut ticks = Ticks::new(used);
-        let found = repr(self.alloc, self.at(place)?, &self.heap, &mut ticks);
+        let found = repr(self.alloc, self.item(place)?, &self.heap, &mut ticks);
         let Ok(found) = found else {
             return Ok(false);
         };
@@ -330,10 +399,10 @@ impl World {
 
     /// Whether a report prints a frozen value by this text.
     pub(crate) fn reports(&self, place: usize, want: &str) -> Result<bool, Fail> {
-        let Value::Frozen(tree) = self.at(place)? else {
+        let Value::Frozen(limb) = self.at(place)? else {
             return Ok(false);
         };
-        let found = text(self.alloc, tree)?;
+        let found = text(self.alloc, &Frozen::of_branch(limb.share()?))?;
         Ok(found.as_str() == want)
     }
 

@@ -1,8 +1,8 @@
 use Rattle.std.proofs.Common.{◌∙◌, ap, List, ℕ, ◌++◌, codes}
 use Rattle.std.proofs.lemmas.Result.{IfOk-weaker}
 use Rattle.std.specs.Prelude.{pos}
-use Rattle.values.specs.Tree.{leaf}
-use Rattle.values.specs.declared.leaf.Leaf.TheVariants as plain
+use Rattle.values.specs.Tree.{key}
+use Rattle.values.specs.declared.key.Key.TheVariants as index
 use Rattle.forms.proofs.ReportLemmas.{done-text}
 use Rattle.report.specs.Lines.{provider_line}
 use Rattle.forms.specs.Seen.{instance_seen}
@@ -13,4 +13,4 @@ returns c =
     let i = instance_seen c.args.returned in
     IfOk-weaker c.format.result _ _ (λ s h. h
     ∙ ap (λ (t : List ℕ). codes "target " ++ (t ++ (codes " ok\n  provider DefaultInfo files=depset(default, [])\n" ++ provider_line i))) c.text-label.ensures
-    ∙ done-text c.args.label.now c.args.returned.module.now c.args.returned.provider.now c.args.returned.field.now (leaf (plain.Number (pos c.args.returned.number)))) c.format.ensures.ok
+    ∙ done-text c.args.label.now c.args.returned.module.now c.args.returned.provider.now c.args.returned.field.now (key (index.Number (pos c.args.returned.number)))) c.format.ensures.ok

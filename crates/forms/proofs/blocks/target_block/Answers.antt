@@ -1,8 +1,8 @@
 use Rattle.std.proofs.Common.{◌≡◌, ◌∙◌, ap, sym, [], ◌∷◌, map, Some, List, ℕ, true}
 use Rattle.workspace.specs.Labels.{LabelParts, is_label, label_text}
 use Rattle.forms.specs.NodeBlocks.{block_of}
-use Rattle.values.specs.Texts.{text_of}
-use Rattle.values.specs.Tree.{list, trees}
+use Rattle.printing.specs.Texts.{text_of}
+use Rattle.values.specs.Tree.{branch, list, trees}
 use Rattle.values.specs.View.{FrozenTree}
 use Rattle.report.specs.Outcomes.{done, with_default_info}
 use Rattle.report.specs.Lines.{node_text, outcome_text}
@@ -26,7 +26,7 @@ returns c =
     let t = c.args.target.now in
     let at : LabelParts = label_in (second_package f) t.name in
     let label : c.in_ok-label.label ≡ at = c.in_ok-label.ensures ∙ (λ i. record { «package» = c.package.ensures i; name = c.name.ensures i }) in
-    let z : FrozenTree = list (trees (map (provided f) (map (second_outcome f) (labels_of (second_package f) (Some t))))) in
+    let z : FrozenTree = branch (list (trees (map (provided f) (map (second_outcome f) (labels_of (second_package f) (Some t)))))) in
     let value = c.requires.value ∙ ap text_of (target-value f c.requires.declared t c.requires.target) in
     let lines : c.in_ok-lines-2.lines ≡ node_text (node_of f t) =
     c.in_ok-lines-2.ensures

@@ -2,12 +2,12 @@ use Rattle.std.proofs.Common.{◌≤◌, length, sym, subst, ap, ◌∙◌, arit
 use Rattle.std.specs.List.{IsDistinct}
 use Rattle.indexmap.specs.IndexSet.{insert_key}
 use Rattle.values.specs.Visits.{keys_of}
-use Rattle.values.specs.contracts.leaf.KeyPartialEq.TheImpl.{eq-value}
+use Rattle.values.specs.contracts.key.KeyPartialEq.TheImpl.{eq-value}
 use Rattle.values.proofs.KeyListLemmas.{keys-next, key_at-entry, length-keys_of}
 use Rattle.values.proofs.cells.Entries.keys.Goals as goal
 
 pub loop-i-init : goal.loop-i-init
-loop-i-init c = c.new-keys.ensures.empty
+loop-i-init c = c.in_ok-keys.ensures.empty
 
 -- no key came before, so each is put last
 pub loop-i-preserved : goal.loop-i-preserved
@@ -23,4 +23,4 @@ pub returns : goal.returns
 returns c =
     let es = c.as_slice-entries.result in
     let all : length (keys_of es) ≤ c.loop-i.i = omega (arith, length-keys_of es, c.len-i-end.ensures, c.loop-i-test.false) in
-    c.loop-i.invariant ∙ take_all c.loop-i.i (keys_of es) all ∙ ap keys_of (c.as_slice-entries.ensures.entries ∙ c.self.view_is)
+    c.loop-i.invariant ∙ take_all c.loop-i.i (keys_of es) all ∙ ap keys_of (c.as_slice-entries.ensures.entries ∙ ap (λ m. m.entries) c.deref.ensures ∙ c.self.view_is)

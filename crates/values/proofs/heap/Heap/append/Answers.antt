@@ -12,8 +12,8 @@ returns-in-Err-push_to c =
     let at = get_at c.self.inside.cells.items number c.index_mut-cell.result.now within c.index_mut-cell.ensures.value in
     let old = subst (λ h. slice_get h number ≡ Some c.index_mut-cell.result.now) c.self.view_is at in (
       set_back c.self.inside.cells.items number c.index_mut-cell.result.now _ at c.in-Err-push_to.ensures.0 ∙ c.self.view_is,
-      subst (λ v. FaultOr (list_changed (pushed c.args.item.now) c.args.self.now v) c.in-Err-push_to.broken) (sym c.in-Ok.ensures.1)
-          (fault_at (pushed c.args.item.now) c.args.self.now number c.index_mut-cell.result.now c.in-Err-push_to.broken old c.in-Err-push_to.ensures.1),
+      subst (λ v. FaultOr (list_changed (pushed c.args.item) c.args.self.now v) c.in-Err-push_to.broken) (sym c.in-Ok.ensures.1)
+          (fault_at (pushed c.args.item) c.args.self.now number c.index_mut-cell.result.now c.in-Err-push_to.broken old c.in-Err-push_to.ensures.1),
     )
 
 -- the cell is changed in its place
@@ -22,6 +22,6 @@ returns c =
     let number = c.in-Ok.number in
     let within : number < length c.self.inside.cells.items = subst (λ l. number < length l) (sym c.self.view_is) c.in-Ok.ensures.0 in
     let at = get_at c.self.inside.cells.items number c.index_mut-cell.result.now within c.index_mut-cell.ensures.value in
-    ap (λ v. list_changed (pushed c.args.item.now) c.args.self.now v) c.in-Ok.ensures.1
-    ∙ ap (λ h. put_at h number (pushed c.args.item.now)) (sym c.self.view_is)
-    ∙ put_at-ok (pushed c.args.item.now) c.self.inside.cells.items number c.index_mut-cell.result.now _ at c.in_default.ensures
+    ap (λ v. list_changed (pushed c.args.item) c.args.self.now v) c.in-Ok.ensures.1
+    ∙ ap (λ h. put_at h number (pushed c.args.item)) (sym c.self.view_is)
+    ∙ put_at-ok (pushed c.args.item) c.self.inside.cells.items number c.index_mut-cell.result.now _ at c.in_default.ensures

@@ -12,8 +12,8 @@ returns-in-Err-put_in c =
     let at = get_at c.self.inside.cells.items number c.index_mut-cell.result.now within c.index_mut-cell.ensures.value in
     let old = subst (λ h. slice_get h number ≡ Some c.index_mut-cell.result.now) c.self.view_is at in (
       set_back c.self.inside.cells.items number c.index_mut-cell.result.now _ at c.in-Err-put_in.ensures.0 ∙ c.self.view_is,
-      subst (λ v. FaultOr (dict_changed (keyed c.args.key.now c.args.item.now) c.args.self.now v) c.in-Err-put_in.broken) (sym c.in-Ok.ensures.1)
-          (fault_at (keyed c.args.key.now c.args.item.now) c.args.self.now number c.index_mut-cell.result.now c.in-Err-put_in.broken old c.in-Err-put_in.ensures.1),
+      subst (λ v. FaultOr (dict_changed (keyed c.args.key c.args.item) c.args.self.now v) c.in-Err-put_in.broken) (sym c.in-Ok.ensures.1)
+          (fault_at (keyed c.args.key c.args.item) c.args.self.now number c.index_mut-cell.result.now c.in-Err-put_in.broken old c.in-Err-put_in.ensures.1),
     )
 
 -- the cell is changed in its place
@@ -22,6 +22,6 @@ returns c =
     let number = c.in-Ok.number in
     let within : number < length c.self.inside.cells.items = subst (λ l. number < length l) (sym c.self.view_is) c.in-Ok.ensures.0 in
     let at = get_at c.self.inside.cells.items number c.index_mut-cell.result.now within c.index_mut-cell.ensures.value in
-    ap (λ v. dict_changed (keyed c.args.key.now c.args.item.now) c.args.self.now v) c.in-Ok.ensures.1
-    ∙ ap (λ h. put_at h number (keyed c.args.key.now c.args.item.now)) (sym c.self.view_is)
-    ∙ put_at-ok (keyed c.args.key.now c.args.item.now) c.self.inside.cells.items number c.index_mut-cell.result.now _ at c.in_default.ensures
+    ap (λ v. dict_changed (keyed c.args.key c.args.item) c.args.self.now v) c.in-Ok.ensures.1
+    ∙ ap (λ h. put_at h number (keyed c.args.key c.args.item)) (sym c.self.view_is)
+    ∙ put_at-ok (keyed c.args.key c.args.item) c.self.inside.cells.items number c.index_mut-cell.result.now _ at c.in_default.ensures

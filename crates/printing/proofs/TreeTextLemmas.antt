@@ -1,0 +1,128 @@
+-- The parts of a frozen value by place: their texts and their weights. And of a coherent value, that its text is
+-- that of the plain meaning.
+use Rattle.std.specs.Prelude.{codes}
+use Rattle.std.proofs.Common.{◌≡◌, ℕ, zero, suc, ◌+◌, ◌≤◌, ◌<◌, List, [], ◌∷◌, ◌++◌, length, drop, slice_get, Option, Some, None, refl, ap, ◌∙◌, arith, drop_of_length-le, min}
+use Rattle.depsets.proofs.Turns.{drop_at}
+use Rattle.depsets.proofs.Walked.{walked-flat}
+use Rattle.depsets.specs.Rose.{Rose, label}
+use Rattle.depsets.specs.Own.{Own}
+use Rattle.depsets.specs.Listed.{walked, flat}
+use Rattle.depsets.specs.declared.element.Element.{Element}
+use Rattle.values.specs.Tree.{Trees, Pairs, Slots, key as key_tree, leaf, branch, list, tuple, dict, instance, none, more, stop, pair, end, missing, given, trees, pairs, slots, weight, weights, pair_weights, slot_weights}
+use Rattle.values.specs.View.{FrozenTree, FrozenBranch}
+use Rattle.printing.specs.Texts.{separator, joined_from, joined, how_many, tuple_end, entry_head, field_head, provider_text, leaf_text, depset_text, text_by, branch_text_by, texts_by, pair_texts_by, field_texts_by, text_of, IsCoherentLeaf, IsCoherentTree, IsCoherentBranch, AreCoherent, AreCoherentPairs, AreCoherentSlots}
+use Rattle.values.specs.declared.leaf.Leaf.{Leaf}
+use Rattle.values.specs.declared.leaf.Leaf.TheVariants as plain
+use Rattle.values.specs.declared.key.Key.{Key}
+use Rattle.values.specs.declared.leaf.Provider.{Provider}
+use Rattle.values.proofs.SeeLemmas.{pairs-short}
+use Rattle.printing.proofs.TextLemmas.{parts-next, parts-end}
+
+pub weight_at : (ts : List FrozenTree) (i : ℕ) (t : FrozenTree) → slice_get ts i ≡ Some t → weight t ≤ weights (trees ts)
+weight_at [] i t p = absurd (cc)
+weight_at (u ∷ us) zero t p = let q : u ≡ t = cc in let e = ap weight q in omega arith
+weight_at (u ∷ us) (suc i) t p = let e = weight_at us i t p in omega arith
+
+pub pair_weight_at : (ks : List Key) (ts : List FrozenTree) (i : ℕ) (t : FrozenTree) → i < length ks → slice_get ts i ≡ Some t → weight t ≤ pair_weights (pairs ks ts)
+pair_weight_at [] ts i t l p = absurd (omega arith)
+pair_weight_at (k ∷ ks) [] i t l p = absurd (cc)
+pair_weight_at (k ∷ ks) (u ∷ us) zero t l p = let q : u ≡ t = cc in let e = ap weight q in omega arith
+pair_weight_at (k ∷ ks) (u ∷ us) (suc i) t l p = let e = pair_weight_at ks us i t (omega arith) p in omega arith
+
+pub slot_weight_at : (os : List (Option FrozenTree)) (i : ℕ) (t : FrozenTree) → slice_get os i ≡ Some (Some t) → weight t ≤ slot_weights (slots os)
+slot_weight_at [] i t p = absurd (cc)
+slot_weight_at (None ∷ os) zero t p = absurd (cc)
+slot_weight_at (Some u ∷ os) zero t p = let q : u ≡ t = cc in let e = ap weight q in omega arith
+slot_weight_at (None ∷ os) (suc i) t p = let e = slot_weight_at os i t p in omega arith
+slot_weight_at (Some u ∷ os) (suc i) t p = let e = slot_weight_at os i t p in omega arith
+
+pub how_many-trees : (ts : List FrozenTree) → how_many (trees ts) ≡ length ts
+how_many-trees [] = refl
+how_many-trees (t ∷ ts) = omega (arith, how_many-trees ts)
+
+module _ (listing : Rose Own → List Element) (n : ℕ) (out : List ℕ) where
+  pub trees-next : (ts : List FrozenTree) (t : FrozenTree) (then : List ℕ) → slice_get ts n ≡ Some t → then ≡ out ++ (separator n ++ text_by listing t)
+      → then ++ joined_from (n + 1) (texts_by listing (trees (drop (n + 1) ts))) ≡ out ++ joined_from n (texts_by listing (trees (drop n ts)))
+  trees-next ts t then p e =
+      parts-next n out (text_by listing t) (texts_by listing (trees (drop n ts))) (texts_by listing (trees (drop (n + 1) ts))) then
+      (ap (λ l. texts_by listing (trees l)) (drop_at ts n t p)) e
+
+  pub trees-end : (ts : List FrozenTree) → length ts ≤ n → out ++ joined_from n (texts_by listing (trees (drop n ts))) ≡ out
+  trees-end ts l = parts-end n out (texts_by listing (trees (drop n ts))) (ap (λ l. texts_by listing (trees l)) (drop_of_length-le ts l))
+
+  pub pairs-next : (head : Key → List ℕ) (ks : List Key) (ts : List FrozenTree) (k : Key) (t : FrozenTree) (then : List ℕ) → slice_get ks n ≡ Some k → slice_get ts n ≡ Some t
+      → then ≡ out ++ (separator n ++ (head k ++ text_by listing t))
+      → then ++ joined_from (n + 1) (pair_texts_by listing head (pairs (drop (n + 1) ks) (drop (n + 1) ts))) ≡ out ++ joined_from n (pair_texts_by listing head (pairs (drop n ks) (drop n ts)))
+  pairs-next head ks ts k t then p q e =
+      parts-next n out (head k ++ text_by listing t) (pair_texts_by listing head (pairs (drop n ks) (drop n ts))) (pair_texts_by listing head (pairs (drop (n + 1) ks) (drop (n + 1) ts))) then
+      (λ j. pair_texts_by listing head (pairs (drop_at ks n k p j) (drop_at ts n t q j))) e
+
+pub pairs-end : (listing : Rose Own → List Element) (n : ℕ) (out : List ℕ) (head : Key → List ℕ) (ks : List Key) (ts : List FrozenTree) → min (length ks) (length ts) ≤ n
+    → out ++ joined_from n (pair_texts_by listing head (pairs (drop n ks) (drop n ts))) ≡ out
+pairs-end listing n out head ks ts l =
+    parts-end n out (pair_texts_by listing head (pairs (drop n ks) (drop n ts))) (ap (pair_texts_by listing head) (pairs-short ks ts n l))
+
+module _ (listing : Rose Own → List Element) (w : ℕ) (out : List ℕ) (names : List (List ℕ)) (os : List (Option FrozenTree)) (i : ℕ) (name : List ℕ) (p : slice_get names i ≡ Some name) where
+  -- a field that was given is written
+  pub fields-next : (t : FrozenTree) (then : List ℕ) → slice_get os i ≡ Some (Some t) → then ≡ out ++ (separator w ++ (field_head name ++ text_by listing t))
+      → then ++ joined_from (w + 1) (field_texts_by listing (drop (i + 1) names) (slots (drop (i + 1) os))) ≡ out ++ joined_from w (field_texts_by listing (drop i names) (slots (drop i os)))
+  fields-next t then q e =
+      parts-next w out (field_head name ++ text_by listing t) (field_texts_by listing (drop i names) (slots (drop i os)))
+      (field_texts_by listing (drop (i + 1) names) (slots (drop (i + 1) os))) then
+      (λ j. field_texts_by listing (drop_at names i name p j) (slots (drop_at os i (Some t) q j))) e
+
+  -- and one that wasn't is not
+  pub fields-skip : slice_get os i ≡ Some None → field_texts_by listing (drop i names) (slots (drop i os)) ≡ field_texts_by listing (drop (i + 1) names) (slots (drop (i + 1) os))
+  fields-skip q = λ j. field_texts_by listing (drop_at names i name p j) (slots (drop_at os i None q j))
+
+none_given : (listing : Rose Own → List Element) (names : List (List ℕ)) → field_texts_by listing names end ≡ []
+none_given listing [] = refl
+none_given listing (n ∷ ns) = refl
+
+pub fields-short : (listing : Rose Own → List Element) (names : List (List ℕ)) (os : List (Option FrozenTree)) (i : ℕ) → min (length names) (length os) ≤ i
+    → field_texts_by listing (drop i names) (slots (drop i os)) ≡ []
+fields-short listing [] os i l = ap (λ ns. field_texts_by listing ns (slots (drop i os))) (drop_of_length-le [] {i = i} (omega arith))
+fields-short listing (n ∷ ns) [] i l = ap (λ xs. field_texts_by listing (drop i (n ∷ ns)) (slots xs)) (drop_of_length-le [] {i = i} (omega arith)) ∙ none_given listing (drop i (n ∷ ns))
+fields-short listing (n ∷ ns) (o ∷ os) zero l = absurd (omega arith)
+fields-short listing (n ∷ ns) (o ∷ os) (suc i) l = fields-short listing ns os i (omega arith)
+
+leaf-coherent : (l : Leaf) → IsCoherentLeaf l → leaf_text walked l ≡ leaf_text flat l
+leaf-coherent plain.None h = refl
+leaf-coherent (plain.Label x) h = refl
+leaf-coherent (plain.File x) h = refl
+leaf-coherent (plain.Depset d) h = ap (depset_text (label d).order) (walked-flat d h)
+leaf-coherent (plain.Function x) h = refl
+leaf-coherent (plain.BuiltIn x) h = refl
+leaf-coherent (plain.Provider x) h = refl
+leaf-coherent (plain.Rule x) h = refl
+leaf-coherent (plain.Attribute x) h = refl
+leaf-coherent (plain.Target x) h = refl
+leaf-coherent (plain.Object x) h = refl
+
+mutual
+  pub text-coherent : (t : FrozenTree) → IsCoherentTree t → text_by walked t ≡ text_of t
+  text-coherent (key_tree k) h = refl
+  text-coherent (leaf l) h = leaf-coherent l h
+  text-coherent (branch b) h = branch-coherent b h
+
+  branch-coherent : (b : FrozenBranch) → IsCoherentBranch b → branch_text_by walked b ≡ branch_text_by flat b
+  branch-coherent (list ts) h = ap (λ l. codes "[" ++ joined l ++ codes "]") (texts-coherent ts h)
+  branch-coherent (tuple ts) h = ap (λ l. codes "(" ++ joined l ++ tuple_end (how_many ts)) (texts-coherent ts h)
+  branch-coherent (dict ps) h = ap (λ l. codes "{" ++ joined l ++ codes "}") (pairs-coherent entry_head ps h)
+  branch-coherent (instance p ss) h = ap (λ l. provider_text p.name ++ codes "(" ++ joined l ++ codes ")") (slots-coherent p.fields ss h)
+
+  texts-coherent : (ts : Trees Leaf Key Provider) → AreCoherent ts → texts_by walked ts ≡ texts_by flat ts
+  texts-coherent none h = refl
+  texts-coherent (more t ts) h = λ j. text-coherent t h.0 j ∷ texts-coherent ts h.1 j
+
+  pairs-coherent : (head : Key → List ℕ) (ps : Pairs Leaf Key Provider) → AreCoherentPairs ps → pair_texts_by walked head ps ≡ pair_texts_by flat head ps
+  pairs-coherent head stop h = refl
+  pairs-coherent head (pair k t ps) h = λ j. (head k ++ text-coherent t h.0 j) ∷ pairs-coherent head ps h.1 j
+
+  slots-coherent : (ns : List (List ℕ)) (ss : Slots Leaf Key Provider) → AreCoherentSlots ss → field_texts_by walked ns ss ≡ field_texts_by flat ns ss
+  slots-coherent [] end h = refl
+  slots-coherent [] (missing ss) h = refl
+  slots-coherent [] (given t ss) h = refl
+  slots-coherent (n ∷ ns) end h = refl
+  slots-coherent (n ∷ ns) (missing ss) h = slots-coherent ns ss h
+  slots-coherent (n ∷ ns) (given t ss) h = λ j. (field_head n ++ text-coherent t h.0 j) ∷ slots-coherent ns ss h.1 j

@@ -1,0 +1,213 @@
+-- The text of a value, as a report prints it. Strings, numbers, lists, tuples and dicts are as in Starlark's
+-- specification ("repr"); all other texts are this project's own.
+use Rattle.std.specs.Prelude.{ℕ, zero, suc, ◌+◌, ◌/◌, ◌%◌, ◌==◌, Bool, true, false, List, [], ◌∷◌, ◌++◌, map, if◌then◌else◌, nat_lt, codes}
+use Rattle.std.specs.List.{flat_map}
+use Rattle.std.specs.Fmt.{decimal, signed_decimal}
+use Rattle.depsets.specs.Rose.{Rose, label}
+use Rattle.depsets.specs.Own.{Own}
+use Rattle.depsets.specs.Listed.{flat, IsCoherent}
+use Rattle.depsets.specs.declared.depset.Order.{Order}
+use Rattle.depsets.specs.declared.depset.Order.TheVariants as order
+use Rattle.depsets.specs.declared.element.Element.{Element}
+use Rattle.depsets.specs.declared.element.Element.TheVariants as element
+use Rattle.depsets.specs.declared.element.FileRef.{FileRef}
+use Rattle.values.specs.Leaves.{built_in_text}
+use Rattle.values.specs.Tree.{Trees, Pairs, Slots, key as key_tree, leaf, branch, list, tuple, dict, instance, none, more, stop, pair, end, missing, given}
+use Rattle.values.specs.View.{FrozenTree, FrozenBranch}
+use Rattle.values.specs.declared.leaf.Leaf.{Leaf}
+use Rattle.values.specs.declared.leaf.Leaf.TheVariants as plain
+use Rattle.values.specs.declared.key.Key.{Key}
+use Rattle.values.specs.declared.key.Key.TheVariants as key
+use Rattle.values.specs.declared.leaf.Exported.{Exported}
+use Rattle.values.specs.declared.leaf.ExportName.{ExportName}
+use Rattle.values.specs.declared.leaf.ExportName.TheVariants as export
+use Rattle.values.specs.declared.leaf.Provider.{Provider}
+use Rattle.values.specs.declared.leaf.ProviderRef.{ProviderRef}
+use Rattle.values.specs.declared.leaf.ProviderRef.TheVariants as provider
+use Rattle.values.specs.declared.leaf.AttributeKind.{AttributeKind}
+use Rattle.values.specs.declared.leaf.AttributeKind.TheVariants as attribute
+use Rattle.values.specs.declared.leaf.Object.{Object}
+use Rattle.values.specs.declared.leaf.Object.TheVariants as object
+
+-- a hexadecimal digit
+abbrev pub hex_digit : ℕ → ℕ
+hex_digit d = if nat_lt d 10 then 48 + d else 87 + d
+
+-- A byte that needs no escape. Strings of the language are ASCII; a byte past it is written by its number.
+abbrev pub unescaped : ℕ → List ℕ
+unescaped b = if nat_lt b 128 then b ∷ [] else codes "\\x" ++ hex_digit (b / 16) ∷ hex_digit (b % 16) ∷ []
+
+-- newline, tab, backslash and quote are escaped
+abbrev pub escape : ℕ → List ℕ
+escape b =
+    if b == 10 then codes "\\n" else (if b == 9 then codes "\\t" else (if b == 92 then codes "\\\\" else (if b == 34 then codes "\\\"" else unescaped b)))
+
+-- a string between quotes
+abbrev pub quoted : List ℕ → List ℕ
+quoted s = 34 ∷ flat_map escape s ++ 34 ∷ []
+
+-- what stands before the part at a place: a comma and a space, but before the first nothing
+abbrev pub separator : ℕ → List ℕ
+separator zero = []
+separator (suc n) = codes ", "
+
+-- the texts of the parts from a place on
+abbrev pub joined_from : ℕ → List (List ℕ) → List ℕ
+joined_from n [] = []
+joined_from n (t ∷ ts) = separator n ++ t ++ joined_from (n + 1) ts
+
+-- the texts of the parts, with commas between them
+abbrev pub joined : List (List ℕ) → List ℕ
+joined ts = joined_from 0 ts
+
+abbrev pub truth_text : Bool → List ℕ
+truth_text true = codes "True"
+truth_text false = codes "False"
+
+abbrev pub file_text : FileRef → List ℕ
+file_text f = codes "<file " ++ f.path ++ codes ">"
+
+abbrev pub export_text : ExportName → List ℕ
+export_text (export.Global s) = s
+export_text (export.Making n) = decimal n
+
+-- the module's path and the name, as `a/f.bzl%P`
+abbrev pub exported_text : Exported → List ℕ
+exported_text e = e.path ++ codes "%" ++ export_text e.name
+
+abbrev pub provider_text : ProviderRef → List ℕ
+provider_text provider.DefaultInfo = codes "DefaultInfo"
+provider_text (provider.Exported e) = exported_text e
+
+abbrev pub order_text : Order → List ℕ
+order_text order.Default = codes "default"
+order_text order.Postorder = codes "postorder"
+order_text order.Preorder = codes "preorder"
+
+abbrev pub attribute_text : AttributeKind → List ℕ
+attribute_text attribute.String = codes "string"
+attribute_text attribute.Int = codes "int"
+attribute_text attribute.Bool = codes "bool"
+attribute_text attribute.StringList = codes "string_list"
+attribute_text attribute.Label = codes "label"
+attribute_text attribute.LabelList = codes "label_list"
+
+-- targets and these objects are in no frozen value that an evaluation makes
+abbrev pub object_text : Object → List ℕ
+object_text object.Attr = codes "<attr>"
+object_text object.Context = codes "<ctx>"
+object_text object.ContextAttr = codes "<ctx.attr>"
+object_text object.ContextFiles = codes "<ctx.files>"
+object_text object.ContextActions = codes "<ctx.actions>"
+
+abbrev pub element_text : Element → List ℕ
+element_text (element.Text s) = quoted s
+element_text (element.Number n) = signed_decimal n
+element_text (element.Truth b) = truth_text b
+element_text (element.Label s) = s
+element_text (element.File f) = file_text f
+
+-- a depset with these items in its listing
+abbrev pub depset_text : Order → List Element → List ℕ
+depset_text o es = codes "depset(" ++ order_text o ++ codes ", [" ++ joined (map element_text es) ++ codes "])"
+
+-- a leaf, with the listing of its depset
+abbrev pub leaf_text : (Rose Own → List Element) → Leaf → List ℕ
+leaf_text listing plain.None = codes "None"
+leaf_text listing (plain.Label s) = s
+leaf_text listing (plain.File f) = file_text f
+leaf_text listing (plain.Depset d) = depset_text (label d).order (listing d)
+leaf_text listing (plain.Function f) = codes "<function " ++ f.path ++ codes "%" ++ f.name ++ codes ">"
+leaf_text listing (plain.BuiltIn b) = codes "<built-in " ++ built_in_text b ++ codes ">"
+leaf_text listing (plain.Provider p) = codes "<provider " ++ provider_text p.name ++ codes ">"
+leaf_text listing (plain.Rule r) = codes "<rule " ++ exported_text r.name ++ codes ">"
+leaf_text listing (plain.Attribute a) = codes "<attr " ++ attribute_text a.kind ++ codes ">"
+leaf_text listing (plain.Target n) = codes "<target>"
+leaf_text listing (plain.Object o) = object_text o
+
+abbrev pub key_text : Key → List ℕ
+key_text (key.Text s) = quoted s
+key_text (key.Number n) = signed_decimal n
+key_text (key.Truth b) = truth_text b
+
+-- what stands before the value of a dict's entry
+abbrev pub entry_head : Key → List ℕ
+entry_head k = key_text k ++ codes ": "
+
+-- what stands before the value of an instance's field
+abbrev pub field_head : List ℕ → List ℕ
+field_head name = name ++ codes "="
+
+-- a tuple of one item ends with a comma
+abbrev pub tuple_end : ℕ → List ℕ
+tuple_end n = if n == 1 then codes ",)" else codes ")"
+
+module _ {L K P : Type 0} where
+  abbrev pub how_many : Trees L K P → ℕ
+  how_many none = 0
+  how_many (more t ts) = how_many ts + 1
+
+module _ (listing : Rose Own → List Element) where
+  abbrev mutual
+    -- a frozen value, with the listings of its depsets
+    pub text_by : FrozenTree → List ℕ
+    text_by (key_tree k) = key_text k
+    text_by (leaf l) = leaf_text listing l
+    text_by (branch b) = branch_text_by b
+
+    pub branch_text_by : FrozenBranch → List ℕ
+    branch_text_by (list ts) = codes "[" ++ joined (texts_by ts) ++ codes "]"
+    branch_text_by (tuple ts) = codes "(" ++ joined (texts_by ts) ++ tuple_end (how_many ts)
+    branch_text_by (dict ps) = codes "{" ++ joined (pair_texts_by entry_head ps) ++ codes "}"
+    branch_text_by (instance p ss) = provider_text p.name ++ codes "(" ++ joined (field_texts_by p.fields ss) ++ codes ")"
+
+    pub texts_by : Trees Leaf Key Provider → List (List ℕ)
+    texts_by none = []
+    texts_by (more t ts) = text_by t ∷ texts_by ts
+
+    -- each value with what stands before it
+    pub pair_texts_by : (Key → List ℕ) → Pairs Leaf Key Provider → List (List ℕ)
+    pair_texts_by head stop = []
+    pair_texts_by head (pair k t ps) = (head k ++ text_by t) ∷ pair_texts_by head ps
+
+    -- each field that was given with its name, in the order of the provider's names
+    pub field_texts_by : List (List ℕ) → Slots Leaf Key Provider → List (List ℕ)
+    field_texts_by [] ss = []
+    field_texts_by (n ∷ ns) end = []
+    field_texts_by (n ∷ ns) (missing ss) = field_texts_by ns ss
+    field_texts_by (n ∷ ns) (given t ss) = (field_head n ++ text_by t) ∷ field_texts_by ns ss
+
+-- The text of a frozen value: a depset is printed by its listing.
+abbrev pub text_of : FrozenTree → List ℕ
+text_of t = text_by flat t
+
+-- The depset of a leaf is coherent.
+abbrev pub IsCoherentLeaf : Leaf → Type 0
+IsCoherentLeaf (plain.Depset d) = IsCoherent d
+IsCoherentLeaf _ = Unit {0}
+
+abbrev mutual
+  -- Each depset in a frozen value is coherent: no two parts of it with one id differ. What evaluations make is.
+  pub IsCoherentTree : FrozenTree → Type 0
+  IsCoherentTree (key_tree k) = Unit {0}
+  IsCoherentTree (leaf l) = IsCoherentLeaf l
+  IsCoherentTree (branch b) = IsCoherentBranch b
+
+  pub IsCoherentBranch : FrozenBranch → Type 0
+  IsCoherentBranch (list ts) = AreCoherent ts
+  IsCoherentBranch (tuple ts) = AreCoherent ts
+  IsCoherentBranch (dict ps) = AreCoherentPairs ps
+  IsCoherentBranch (instance p ss) = AreCoherentSlots ss
+
+  pub AreCoherent : Trees Leaf Key Provider → Type 0
+  AreCoherent none = Unit {0}
+  AreCoherent (more t ts) = IsCoherentTree t × AreCoherent ts
+
+  pub AreCoherentPairs : Pairs Leaf Key Provider → Type 0
+  AreCoherentPairs stop = Unit {0}
+  AreCoherentPairs (pair k t ps) = IsCoherentTree t × AreCoherentPairs ps
+
+  pub AreCoherentSlots : Slots Leaf Key Provider → Type 0
+  AreCoherentSlots end = Unit {0}
+  AreCoherentSlots (missing ss) = AreCoherentSlots ss
+  AreCoherentSlots (given t ss) = IsCoherentTree t × AreCoherentSlots ss

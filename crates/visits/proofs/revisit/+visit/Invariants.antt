@@ -1,0 +1,42 @@
+use Rattle.std.proofs.Common.{◌≡◌, ◌+◌, ◌*◌, drop}
+use Rattle.values.specs.Tree.{pairs}
+use Rattle.values.specs.Ticking.{entered}
+use Rattle.visits.specs.Revisit.{visit_at, all_visited, entry_visited, slot_visited, values_in}
+use Rattle.visits.proofs.revisit.+visit.Given as goal
+
+abbrev pub invariant-visit_trees-loop-i : goal.invariant-visit_trees-loop-i
+invariant-visit_trees-loop-i l =
+    all_visited (visit_at l.left) (drop l.i l.trees) l.ticks ≡ all_visited (visit_at l.left) l.trees l.initial.ticks
+
+abbrev pub invariant-visit_pairs-loop-i : goal.invariant-visit_pairs-loop-i
+invariant-visit_pairs-loop-i l =
+    all_visited (entry_visited (entered l.left) (visit_at l.left)) (values_in (pairs (drop l.i l.keys.keys) (drop l.i l.values))) l.ticks
+    ≡ all_visited (entry_visited (entered l.left) (visit_at l.left)) (values_in (pairs l.keys.keys l.values)) l.initial.ticks
+
+abbrev pub invariant-visit_slots-loop-i : goal.invariant-visit_slots-loop-i
+invariant-visit_slots-loop-i l =
+    all_visited (slot_visited (visit_at l.left)) (drop l.i l.slots) l.ticks ≡ all_visited (slot_visited (visit_at l.left)) l.slots l.initial.ticks
+
+abbrev pub decreases-visit_tree : goal.decreases-visit_tree
+decreases-visit_tree l = 6 * l.left + 1
+
+abbrev pub decreases-visit_entry : goal.decreases-visit_entry
+decreases-visit_entry l = 6 * l.left + 2
+
+abbrev pub decreases-visit_slot : goal.decreases-visit_slot
+decreases-visit_slot l = 6 * l.left + 2
+
+abbrev pub decreases-visit_slots : goal.decreases-visit_slots
+decreases-visit_slots l = 6 * l.left + 3
+
+abbrev pub decreases-visit_trees : goal.decreases-visit_trees
+decreases-visit_trees l = 6 * l.left + 3
+
+abbrev pub decreases-visit_pairs : goal.decreases-visit_pairs
+decreases-visit_pairs l = 6 * l.left + 3
+
+abbrev pub decreases-visit_node : goal.decreases-visit_node
+decreases-visit_node l = 6 * l.left + 4
+
+abbrev pub decreases-visit_held : goal.decreases-visit_held
+decreases-visit_held l = 6 * l.left + 5

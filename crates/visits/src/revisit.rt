@@ -1,0 +1,170 @@
+//! Freezing what is frozen already: each value in it is visited again, and the whole is shared by a count.
+ghost use Rattle.std.specs.Prelude.{◌≡◌, ◌<◌, Ok, Some, MatchResult, true, false, length, slice_get};
+ghost use Rattle.values.specs.Ticking.{Says, FaultOr, after_tick, entered};
+ghost use Rattle.values.specs.Tree.{branch, trees, pairs};
+ghost use Rattle.values.specs.View.{tree_of, node_branch};
+ghost use Rattle.visits.specs.Freeze.{can_freeze};
+ghost use Rattle.visits.specs.Revisit.{Goes, visit_at, visited, branch_visited, all_visited, entry_visited, slot_visited, leaf_visited, values_in};
+
+use indexmap::IndexSet;
+use values::{Branch, Broken, Frozen, Held, Key, Kind, Leaf, Node, Ticks, tree_at};
+
+/// A second name of a frozen value, after its visit.
+pub(crate) fn freeze_tree(left: u32, tree: &Frozen, ticks: &mut Ticks) -> Result<Frozen, Broken>
+    ensures { Says (after_tick (visit_at left tree.now ticks.old) (λ d. Ok (tree.now, d))) result ticks.new }
+{
+    if let Err(broken) = visit_tree(left, tree, ticks) {
+        return Err(broken);
+    }
+    let shared = tree.share()?;
+    Ok(shared)
+}
+
+/// A second name of a frozen value with parts, after its visit.
+pub(crate) fn freeze_branch(left: u32, limb: &Branch, ticks: &mut Ticks) -> Result<Frozen, Broken>
+    ensures { Says (after_tick (visit_at left (branch limb.now) ticks.old) (λ d. Ok (branch limb.now, d))) result ticks.new }
+{
+    if let Err(broken) = visit_branch(left, limb, ticks) {
+        return Err(broken);
+    }
+    let shared = limb.share()?;
+    Ok(Frozen::of_branch(shared))
+}
+
+/// The visit of a frozen value with parts, with this many levels left.
+fn visit_branch(left: u32, limb: &Branch, ticks: &mut Ticks) -> Result<(), Broken>
+    ensures { Goes (visit_at left (branch limb.now) ticks.old) result ticks.new }
+{
+    if let Err(broken) = ticks.enter(left) {
+        return Err(broken);
+    }
+    visit_node(left - 1, limb.node(), ticks)
+}
+
+/// Whether a leaf can be frozen.
+pub(crate) fn can_be_frozen(leaf: &Leaf) -> bool
+    ensures { result ≡ can_freeze leaf.now }
+{
+    !matches!(leaf, Leaf::Target(_) | Leaf::Object(_))
+}
+
+/// The visit of a leaf that is frozen.
+fn visit_leaf(leaf: &Leaf) -> Result<(), Broken>
+    ensures { MatchResult result (λ _. can_freeze leaf.now ≡ true) (λ e. (e ≡ Broken.Kind Kind.Wrong) × (can_freeze leaf.now ≡ false)) }
+{
+    if can_be_frozen(leaf) {
+        Ok(())
+    } else {
+        Err(Broken::Kind(Kind::Wrong))
+    }
+}
+
+/// The visit of a frozen value, with this many levels left.
+#[cycle(visit)]
+fn visit_tree(left: u32, tree: &Frozen, ticks: &mut Ticks) -> Result<(), Broken>
+    ensures { Goes (visit_at left tree.now ticks.old) result ticks.new }
+{
+    if let Err(broken) = ticks.enter(left) {
+        return Err(broken);
+    }
+    visit_held(left - 1, tree.held(), ticks)
+}
+
+/// The visits below a frozen value.
+#[cycle(visit)]
+fn visit_held(left: u32, held: &Held, ticks: &mut Ticks) -> Result<(), Broken>
+    ensures { Goes (visited (entered left) (visit_at left) (tree_of held.now) ticks.old) result ticks.new }
+{
+    match held {
+        Held::Key(_) => Ok(()),
+        Held::Leaf(leaf) => visit_leaf(leaf),
+        Held::Branch(limb) => visit_node(left, limb.node(), ticks),
+    }
+}
+
+/// The visits of the parts of a frozen value.
+#[cycle(visit)]
+fn visit_node(left: u32, node: &Node, ticks: &mut Ticks) -> Result<(), Broken>
+    ensures { Goes (branch_visited (entered left) (visit_at left) (node_branch node.now) ticks.old) result ticks.new }
+{
+    match node {
+        Node::List(items) => visit_trees(left, items.as_slice(), ticks),
+        Node::Tuple(items) => visit_trees(left, items.as_slice(), ticks),
+        Node::Dict(keys, values) => visit_pairs(left, keys, values.as_slice(), ticks),
+        Node::Instance(_, fields) => visit_slots(left, fields.as_slice(), ticks),
+    }
+}
+
+/// The visits of frozen values, from left to right.
+#[cycle(visit)]
+fn visit_trees(left: u32, trees: &[Frozen], ticks: &mut Ticks) -> Result<(), Broken>
+    ensures { Goes (all_visited (visit_at left) trees.now ticks.old) result ticks.new }
+{
+    for i in 0..trees.len() {
+        if let Err(broken) = visit_tree(left, tree_at(trees, i), ticks) {
+            return Err(broken);
+        }
+    }
+    Ok(())
+}
+
+/// The visits of frozen entries, from left to right: of each key, and then of its value.
+#[cycle(visit)]
+fn visit_pairs(
+    left: u32,
+    keys: &IndexSet<Key>,
+    values: &[Frozen],
+    ticks: &mut Ticks,
+) -> Result<(), Broken>
+    ensures { Goes (all_visited (entry_visited (entered left) (visit_at left)) (values_in (pairs keys.now.keys values.now)) ticks.old) result ticks.new }
+{
+    for i in 0..keys.len().min(values.len()) {
+        if let Err(broken) = visit_entry(left, tree_at(values, i), ticks) {
+            return Err(broken);
+        }
+    }
+    Ok(())
+}
+
+/// The visit of a key, and then that of its value.
+#[cycle(visit)]
+fn visit_entry(left: u32, tree: &Frozen, ticks: &mut Ticks) -> Result<(), Broken>
+    ensures { Goes (entry_visited (entered left) (visit_at left) tree.now ticks.old) result ticks.new }
+{
+    if let Err(broken) = ticks.enter(left) {
+        return Err(broken);
+    }
+    visit_tree(left, tree, ticks)
+}
+
+/// The field at a place.
+fn slot_at(slots: &[Option<Frozen>], place: usize) -> &Option<Frozen>
+    requires { place < length slots.now }
+    ensures { slice_get slots.now place ≡ Some result.now }
+{
+    &slots[place]
+}
+
+/// The visits of the fields that were given, in order.
+#[cycle(visit)]
+fn visit_slots(left: u32, slots: &[Option<Frozen>], ticks: &mut Ticks) -> Result<(), Broken>
+    ensures { Goes (all_visited (slot_visited (visit_at left)) slots.now ticks.old) result ticks.new }
+{
+    for i in 0..slots.len() {
+        if let Err(broken) = visit_slot(left, slot_at(slots, i), ticks) {
+            return Err(broken);
+        }
+    }
+    Ok(())
+}
+
+/// The visit of a field, where it was given.
+#[cycle(visit)]
+fn visit_slot(left: u32, slot: &Option<Frozen>, ticks: &mut Ticks) -> Result<(), Broken>
+    ensures { Goes (slot_visited (visit_at left) slot.now ticks.old) result ticks.new }
+{
+    match slot {
+        Some(tree) => visit_tree(left, tree, ticks),
+        None => Ok(()),
+    }
+}
