@@ -12,6 +12,6 @@ mod texts;
 #[cfg(test)]
 mod threads;
 #[cfg(test)]
-mod visits;
+mod visiting;
 #[cfg(test)]
 mod world;
