@@ -1,5 +1,0 @@
-use Rattle.code.proofs.LinkedLemmas.{linked_terminates}
-use Rattle.code.proofs.laws.compiled_code_ends.Goals as goal
-
-pub returns : goal.returns
-returns g c = linked_terminates
