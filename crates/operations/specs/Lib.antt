@@ -1,0 +1,13 @@
+pub mod States
+pub mod Reading
+pub mod Making
+pub mod Truth
+pub mod Equality
+pub mod Items
+pub mod Changes
+pub mod Walks
+pub mod Names
+pub mod Fields
+pub mod Arguments
+pub mod Depsets
+pub mod Instances

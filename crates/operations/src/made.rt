@@ -1,0 +1,22 @@
+//! What an operation gives, before it has a place in the state.
+
+use values::{Items, Key, Leaf};
+
+/// A value without parts, or the items of a new list or of a new tuple.
+pub enum Made {
+    Key(Key),
+    Leaf(Leaf),
+    List(Items),
+    Tuple(Items),
+}
+
+impl Drop for Made {
+    fn drop(self) {
+        match self {
+            Made::Key(_) => {}
+            Made::Leaf(_) => {}
+            Made::List(_) => {}
+            Made::Tuple(_) => {}
+        }
+    }
+}

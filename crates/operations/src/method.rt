@@ -1,0 +1,17 @@
+//! The methods of values, by number.
+
+/// A method of a list, a dict, a string or a depset.
+#[derive(Clone, Copy, PartialEq, Eq, Debug)]
+pub enum Method {
+    Append,
+    Extend,
+    Get,
+    Keys,
+    Values,
+    Items,
+    Join,
+    Split,
+    StartsWith,
+    EndsWith,
+    ToList,
+}
