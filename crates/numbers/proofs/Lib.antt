@@ -1,0 +1,3 @@
+pub mod Floors
+pub mod Rows
+pub mod Steps
