@@ -1,6 +1,6 @@
 -- Items of strings, lists, tuples and dicts. (Starlark's specification, "Index expressions" and "dict·get"; which values are
 -- keys is this project's own.)
-use Rattle.std.specs.Prelude.{ℕ, ℤ, List, [], ◌∷◌, length, Option, Some, None, slice_get, Result, Ok, Err}
+use Rattle.std.specs.Prelude.{ℕ, ℤ, List, [], ◌∷◌, length, Option, Some, None, slice_get, Result, Ok, Err, nat_lt, if◌then◌else◌}
 use Rattle.std.specs.Map.{lookup}
 use Rattle.values.specs.Cells.{place_of}
 use Rattle.values.specs.Leaves.{same_key}
@@ -27,11 +27,12 @@ at_place xs (Some i) = slice_get xs i
 abbrev pub item_at : List Value → ℤ → Result Value Kind
 item_at xs i = or_fault kind.Index (at_place xs (place_of i (length xs)))
 
+-- the string of a byte; those of the language's strings are below 128
 abbrev pub byte_text : Option ℕ → Result Value Kind
-byte_text (Some b) = Ok (text (b ∷ []))
+byte_text (Some b) = if nat_lt b 128 then Ok (text (b ∷ [])) else Err kind.Index
 byte_text None = Err kind.Index
 
--- the string of the byte there
+-- the string of the byte at an index
 abbrev pub byte_at : List ℕ → ℤ → Result Value Kind
 byte_at t i = byte_text (at_place t (place_of i (length t)))
 
@@ -39,14 +40,14 @@ byte_at t i = byte_text (at_place t (place_of i (length t)))
 abbrev pub value_at : List (Key × Value) → Key → Result Value Kind
 value_at es k = or_fault kind.Key (lookup (same_key k) es)
 
-abbrev pub key_item : Key → Shape → Result Value Kind
-key_item (index.Text t) i = of_type (number_in i) (byte_at t)
+abbrev pub key_item : Key → Option ℤ → Result Value Kind
+key_item (index.Text t) i = of_type i (byte_at t)
 key_item (index.Number n) i = Err kind.Wrong
 key_item (index.Truth b) i = Err kind.Wrong
 
 -- `b[i]` of what the base and the index show
 abbrev pub item_in : Shape → Shape → Result Value Kind
-item_in (key k) i = key_item k i
+item_in (key k) i = key_item k (number_in i)
 item_in (items j xs) i = of_type (number_in i) (item_at xs)
 item_in (entries es) i = of_type (key_in i) (value_at es)
 item_in (atom l) i = Err kind.Wrong

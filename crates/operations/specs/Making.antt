@@ -1,6 +1,6 @@
 -- New values. A list, a tuple or a dict takes the next cell. (Starlark's specification, "Identity and mutation"; the limit of
 -- size is this project's own.)
-use Rattle.std.specs.Prelude.{ℕ, ℤ, Bool, true, false, List, [], length, Result, Ok, Err}
+use Rattle.std.specs.Prelude.{ℕ, ℤ, Bool, true, false, List, [], length, Option, Some, None, Result, Ok, Err}
 use Rattle.values.specs.Cells.{made, list_changed, dict_changed, pushed, keyed}
 use Rattle.values.specs.Keyed.{has_key}
 use Rattle.values.specs.Shape.{Shape, key, atom, items, entries, fields, nothing, shape}
@@ -70,7 +70,12 @@ abbrev pub entries_in : Shape → List (Key × Value)
 entries_in (entries es) = es
 entries_in _ = []
 
--- a key that a dict has already is `key`
+-- whether it is a key that the dict has already
+abbrev pub is_held : List (Key × Value) → Option Key → Bool
+is_held es (Some k) = has_key es k
+is_held es None = false
+
+-- what is there already is `key`
 abbrev pub unless_there : Bool → Result (List Cell) Kind → Result (List Cell) Kind
 unless_there true r = Err kind.Key
 unless_there false r = r
@@ -79,5 +84,5 @@ unless_there false r = r
 -- where it stands there twice. (Starlark's specification, "Dictionary expressions".)
 abbrev pub enter : Value → Value → Value → Op (Unit {0})
 enter d k v s =
-    changed tt s (of_type (key_in (shape s.heap k))
-    (λ i. unless_there (has_key (entries_in (shape s.heap d)) i) (dict_changed (keyed i v) s.heap d)))
+    changed tt s (unless_there (is_held (entries_in (shape s.heap d)) (key_in (shape s.heap k)))
+    (of_type (key_in (shape s.heap k)) (λ i. dict_changed (keyed i v) s.heap d)))

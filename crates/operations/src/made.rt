@@ -3,20 +3,10 @@
 use values::{Items, Key, Leaf};
 
 /// A value without parts, or the items of a new list or of a new tuple.
+#[derive(Drop)]
 pub enum Made {
     Key(Key),
     Leaf(Leaf),
     List(Items),
     Tuple(Items),
-}
-
-impl Drop for Made {
-    fn drop(self) {
-        match self {
-            Made::Key(_) => {}
-            Made::Leaf(_) => {}
-            Made::List(_) => {}
-            Made::Tuple(_) => {}
-        }
-    }
 }

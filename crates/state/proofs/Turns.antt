@@ -1,0 +1,38 @@
+-- One turn of a loop over the items of a value.
+use Rattle.std.proofs.Common.{◌≡◌, ℕ, zero, suc, ◌+◌, ◌≤◌, Bool, true, List, [], ◌∷◌, ◌++◌, map, length, drop, slice_get, Option, Some, None, Ok, Err, if◌then◌else◌, refl, arith, sym, ap, ◌∙◌, append_assoc}
+use Rattle.values.specs.Visits.{keys_of}
+use Rattle.values.specs.declared.key.Key.{Key}
+use Rattle.values.specs.declared.value.Value.TheVariants as value
+use Rattle.depsets.proofs.Turns.{drop_at}
+use Rattle.values.specs.Ticking.{Count, Ticking, then_on, FaultOr}
+use Rattle.values.specs.declared.value.Value.{Value}
+use Rattle.values.specs.declared.ticks.Broken.{Broken}
+use Rattle.values.specs.declared.ticks.Broken.TheVariants as broken
+use Rattle.operations.specs.Equality.{among}
+
+module _ (eq : Value → Value → Count → Ticking Bool) (x : Value) (xs : List Value) (i : ℕ) (y : Value) (p : slice_get xs i ≡ Some y) (c : Count) where
+  pub among-then : (r : Ticking Bool) → eq y x c ≡ r → among eq x (drop i xs) c ≡ then_on r (λ b d. if b then Ok (true, d) else among eq x (drop (i + 1) xs) d)
+  among-then r e = ap (λ l. among eq x l c) (drop_at xs i y p) ∙ ap (λ r. then_on r (λ b d. if b then Ok (true, d) else among eq x (drop (i + 1) xs) d)) e
+
+  pub among-fault : (e : Broken) → FaultOr (eq y x c) e → FaultOr (among eq x (drop i xs) c) e
+  among-fault (broken.Kind k) h = among-then (Err k) h
+  among-fault broken.NoMemory h = tt
+
+-- an item more was copied
+pub copied : (xs gs : List Value) (i : ℕ) (v : Value) → slice_get gs i ≡ Some v → (xs ++ v ∷ []) ++ drop (i + 1) gs ≡ xs ++ drop i gs
+copied xs gs i v p = append_assoc xs (v ∷ []) (drop (i + 1) gs) ∙ ap (λ l. xs ++ l) (sym (drop_at gs i v p))
+
+abbrev first_key : Option (Key × Value) → Option Value
+first_key (Some f) = Some (value.Key f.0)
+first_key None = None
+
+-- the keys of entries as values, by place
+pub key_there : (es : List (Key × Value)) (i : ℕ) (k : Key) (v : Value) → slice_get es i ≡ Some (k, v) → slice_get (map value.Key (keys_of es)) i ≡ Some (value.Key k)
+key_there [] i k v p = absurd (cc)
+key_there (e ∷ es) zero k v p = ap first_key p
+key_there (e ∷ es) (suc i) k v p = key_there es i k v p
+
+pub no_key_there : (es : List (Key × Value)) (i : ℕ) → length es ≤ i → slice_get (map value.Key (keys_of es)) i ≡ None
+no_key_there [] i l = refl
+no_key_there (e ∷ es) zero l = absurd (omega arith)
+no_key_there (e ∷ es) (suc i) l = no_key_there es i (omega (arith, l))

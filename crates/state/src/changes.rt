@@ -1,0 +1,107 @@
+//! Changes of lists and dicts. Each is refused by the first of `type`, `frozen`, `iterating`, `index` and `large`.
+ghost use Rattle.std.specs.Prelude.{◌≡◌, ◌++◌, Ok, Err, Some, None, MatchResult, IfOk, OnOk};
+ghost use Rattle.values.specs.Ticking.{FaultOr};
+ghost use Rattle.values.specs.Cells.{list_changed, dict_changed, indexed, keyed, joined};
+ghost use Rattle.values.specs.Shape.{shape};
+ghost use Rattle.values.specs.Seeing.{seen, item_value, group_items};
+ghost use Rattle.operations.specs.States.{Does, Stays, changed};
+ghost use Rattle.operations.specs.Reading.{number_in, key_in, sequence_in, of_type};
+ghost use Rattle.operations.specs.Changes.{append, extend, set_item, set_in, extended};
+
+use crate::reading::{key_of, number_of, sequence_of};
+use operations::State;
+use std::alloc::{AllocError, Global};
+use values::{Broken, Group, Item, Items, Kind, Leaf, Seen, Value};
+
+/// `list.append(item)`.
+pub fn append(state: &mut State, list: &Value, item: Value) -> Result<Value, Broken>
+    ensures { Does (append list.now item) state.old result state.new }
+{
+    if let Err(broken) = state.heap.append(list, item) {
+        return Err(broken);
+    }
+    Ok(Value::Leaf(Leaf::None))
+}
+
+/// `list.extend(sequence)`, by the items that it has now.
+pub fn extend(
+    alloc: Global,
+    state: &mut State,
+    list: &Value,
+    sequence: &Value,
+) -> Result<Value, Broken>
+    ensures { Does (extend list.now sequence.now) state.old result state.new }
+{
+    let Some(items) = sequence_of(&state.heap.see(sequence)) else {
+        return Err(Broken::Kind(Kind::Wrong));
+    };
+    let items = copied(alloc, items)?;
+    if let Err(broken) = state.heap.extend(list, items) {
+        return Err(broken);
+    }
+    Ok(Value::Leaf(Leaf::None))
+}
+
+/// The items of a group.
+pub(crate) fn copied(alloc: Global, group: Group<'_>) -> Result<Items, AllocError>
+    ensures { IfOk result (λ items. items ≡ group_items group.entry) }
+{
+    let mut items = Items::with_capacity(alloc, group.len())?;
+    copy_into(group, &mut items)?;
+    Ok(items)
+}
+
+/// Puts the items of a group behind others.
+fn copy_into(group: Group<'_>, items: &mut Items) -> Result<(), AllocError>
+    ensures { OnOk result (items.new ≡ items.old ++ group_items group.entry) }
+{
+    for place in 0..group.len() {
+        let item = group.item(place).to_value()?;
+        items.push(item)?;
+    }
+    Ok(())
+}
+
+/// `base[index] = value`.
+pub fn set_item(state: &mut State, base: &Value, index: &Value, value: Value) -> Result<(), Broken>
+    ensures { Does (set_item base.now index.now value) state.old result state.new }
+{
+    match state.heap.see(base) {
+        Seen::List(_) => set_index(state, base, index, value),
+        Seen::Tuple(_) => set_index(state, base, index, value),
+        Seen::Dict(_) => set_key(state, base, index, value),
+        _ => Err(Broken::Kind(Kind::Wrong)),
+    }
+}
+
+/// `list[index] = value`.
+fn set_index(state: &mut State, list: &Value, index: &Value, value: Value) -> Result<(), Broken>
+    ensures { Does (λ s. changed tt s (of_type (number_in (shape s.heap index.now)) (λ n. list_changed (indexed n value) s.heap list.now))) state.old result state.new }
+{
+    match number_of(&state.heap.see(index)) {
+        Some(number) => match state.heap.set_index(list, number, value) {
+            Ok(()) => Ok(()),
+            Err(broken) => Err(broken),
+        },
+        None => Err(Broken::Kind(Kind::Wrong)),
+    }
+}
+
+/// `dict[key] = value`: a key that is there keeps its place.
+pub(crate) fn set_key(
+    state: &mut State,
+    dict: &Value,
+    key: &Value,
+    value: Value,
+) -> Result<(), Broken>
+    ensures { Does (λ s. changed tt s (of_type (key_in (shape s.heap key.now)) (λ k. dict_changed (keyed k value) s.heap dict.now))) state.old result state.new }
+{
+    let Some(key) = key_of(&state.heap.see(key)) else {
+        return Err(Broken::Kind(Kind::Wrong));
+    };
+    let key = key.share()?;
+    match state.heap.set_key(dict, key, value) {
+        Ok(()) => Ok(()),
+        Err(broken) => Err(broken),
+    }
+}

@@ -1,0 +1,22 @@
+//! What an evaluation does to its state: a call for each operation of the language.
+//!
+//! Each call does what its definition in `operations` says, for every state, or answers that memory was refused; after a
+//! fault, and after such a refusal, the heap is as it was. What is only read is taken where it lies, and nothing is shared or
+//! copied to look.
+#![tactic(auto)]
+
+mod changes;
+mod comparing;
+mod items;
+mod making;
+mod reading;
+mod truths;
+mod walks;
+
+pub use changes::{append, extend, set_item};
+pub use comparing::{equals, is_among};
+pub use items::{get, item};
+pub use making::{collect, enter, keep, new_dict, new_list, new_tuple, place};
+pub use operations::{Defaults, Made, Method, State};
+pub use truths::truth;
+pub use walks::{begin, end, tick, walked_at};

@@ -1,0 +1,93 @@
+//! New lists, tuples and dicts, and what comprehensions and displays put into them.
+ghost use Rattle.std.specs.Prelude.{◌≡◌, Ok, Err, MatchResult};
+ghost use Rattle.values.specs.Ticking.{FaultOr};
+ghost use Rattle.values.specs.Seeing.{seen, table_entries, option_value};
+ghost use Rattle.values.specs.Keyed.{has_key};
+ghost use Rattle.operations.specs.Reading.{key_in, of_type};
+ghost use Rattle.operations.specs.States.{Does, Stays};
+ghost use Rattle.operations.specs.Making.{new_list, new_tuple, new_dict, placed, collect, keep, enter, entries_in, unless_there, is_held};
+
+use crate::changes::set_key;
+use operations::{Made, State};
+use std::alloc::Global;
+use values::{Broken, Entries, Items, Kind, Seen, Value};
+
+/// A new list of these items, or `large`.
+pub fn new_list(state: &mut State, items: Items) -> Result<Value, Broken>
+    ensures { Does (new_list items) state.old result state.new }
+{
+    match state.heap.new_list(items) {
+        Ok(list) => Ok(list),
+        Err(broken) => Err(broken),
+    }
+}
+
+/// A new tuple of these items, or `large`.
+pub fn new_tuple(state: &mut State, items: Items) -> Result<Value, Broken>
+    ensures { Does (new_tuple items) state.old result state.new }
+{
+    match state.heap.new_tuple(items) {
+        Ok(tuple) => Ok(tuple),
+        Err(broken) => Err(broken),
+    }
+}
+
+/// A new dict, without entries.
+pub fn new_dict(alloc: Global, state: &mut State) -> Result<Value, Broken>
+    ensures { Does new_dict state.old result state.new }
+{
+    let entries = Entries::with_capacity(alloc, 0)?;
+    match state.heap.new_dict(entries) {
+        Ok(dict) => Ok(dict),
+        Err(broken) => Err(broken),
+    }
+}
+
+/// What an operation gave, at its place: a value of its own, or a new cell.
+pub fn place(state: &mut State, made: Made) -> Result<Value, Broken>
+    ensures { Does (placed made) state.old result state.new }
+{
+    match made {
+        Made::Key(key) => Ok(Value::Key(key)),
+        Made::Leaf(leaf) => Ok(Value::Leaf(leaf)),
+        Made::List(items) => new_list(state, items),
+        Made::Tuple(items) => new_tuple(state, items),
+    }
+}
+
+/// An item more of a comprehension's list, or `large`.
+pub fn collect(state: &mut State, list: &Value, item: Value) -> Result<(), Broken>
+    ensures { Does (collect list.now item) state.old result state.new }
+{
+    match state.heap.append(list, item) {
+        Ok(()) => Ok(()),
+        Err(broken) => Err(broken),
+    }
+}
+
+/// An entry more of a comprehension's dict: `type` where the key can't be one, or `large`. The later value of a key stays.
+pub fn keep(state: &mut State, dict: &Value, key: &Value, value: Value) -> Result<(), Broken>
+    ensures { Does (keep dict.now key.now value) state.old result state.new }
+{
+    set_key(state, dict, key, value)
+}
+
+/// An entry more of a dict display: `type` where the key can't be one, then `key` where it is there already.
+pub fn enter(state: &mut State, dict: &Value, key: &Value, value: Value) -> Result<(), Broken>
+    ensures { Does (enter dict.now key.now value) state.old result state.new }
+{
+    if has_key(&state.heap.see(dict), &state.heap.see(key)) {
+        return Err(Broken::Kind(Kind::Key));
+    }
+    set_key(state, dict, key, value)
+}
+
+/// Whether a dict has the key that a value is.
+fn has_key(dict: &Seen<'_>, key: &Seen<'_>) -> bool
+    ensures { result ≡ is_held (entries_in (seen dict.now)) (key_in (seen key.now)) }
+{
+    match (dict, key) {
+        (Seen::Dict(entries), Seen::Key(key)) => entries.get(key).is_some(),
+        _ => false,
+    }
+}

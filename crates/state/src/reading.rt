@@ -1,0 +1,37 @@
+//! What a value is, where an operation asks for one type.
+ghost use Rattle.std.specs.Prelude.{◌≡◌, option_copied, Some, None, MatchOption};
+ghost use Rattle.values.specs.Seeing.{seen, group_items, table_entries};
+ghost use Rattle.operations.specs.Reading.{number_in, key_in, sequence_in};
+
+use values::{Group, Key, Seen};
+
+/// The whole number that a value is, if it is one.
+pub(crate) fn number_of(value: &Seen<'_>) -> Option<i64>
+    ensures { result ≡ number_in (seen value.now) }
+{
+    match value {
+        Seen::Key(Key::Number(number)) => Some(*number),
+        _ => None,
+    }
+}
+
+/// The key that a value is, if it may be one.
+pub(crate) fn key_of<'a>(value: &Seen<'a>) -> Option<&'a Key>
+    ensures { option_copied result ≡ key_in (seen value.now) }
+{
+    match value {
+        Seen::Key(key) => Some(key),
+        _ => None,
+    }
+}
+
+/// The items of a list or a tuple.
+pub(crate) fn sequence_of<'a>(value: &Seen<'a>) -> Option<Group<'a>>
+    ensures { MatchOption result (sequence_in (seen value.now) ≡ None) (λ g. sequence_in (seen value.now) ≡ Some (group_items g)) }
+{
+    match value {
+        Seen::List(items) => Some(*items),
+        Seen::Tuple(items) => Some(*items),
+        _ => None,
+    }
+}
