@@ -1,6 +1,6 @@
 -- Depsets: the call that makes one, with the next serial of its owner, and its listing. (Bazel's documentation of depsets; the
 -- types of elements, the order of the faults and the serials are this project's own.)
-use Rattle.std.specs.Prelude.{ℕ, ◌+◌, ◌^◌, nat_lt, List, [], ◌∷◌, map, Option, Some, None, Result, Ok, Err, if◌then◌else◌, codes, bytes_eq}
+use Rattle.std.specs.Prelude.{ℕ, ◌+◌, ◌^◌, nat_lt, List, [], ◌∷◌, ◌++◌, map, Option, Some, None, Result, Ok, Err, if◌then◌else◌, codes, bytes_eq}
 use Rattle.depsets.specs.Rose.{Rose, node, roses}
 use Rattle.depsets.specs.Own.{Own}
 use Rattle.depsets.specs.Refusals.{refusal}
@@ -43,15 +43,18 @@ element_in (key k) = Some (key_element k)
 element_in (atom l) = leaf_element l
 element_in _ = None
 
-abbrev pub put_first : {A : Type 0} → Option A → Result (List A) Kind → Result (List A) Kind
-put_first None r = Err kind.Wrong
-put_first (Some a) (Ok bs) = Ok (a ∷ bs)
-put_first (Some a) (Err k) = Err k
+abbrev pub put_last : {A : Type 0} → List A → Option A → Result (List A) Kind
+put_last xs (Some x) = Ok (xs ++ x ∷ [])
+put_last xs None = Err kind.Wrong
+
+-- what values add to what is there, one after the other, up to the first fault
+abbrev pub gathered : {B : Type 0} → (Value → B → Result B Kind) → List Value → B → Result B Kind
+gathered f [] b = Ok b
+gathered f (v ∷ vs) b = then_give (f v b) (λ c. gathered f vs c)
 
 -- each of these as what is asked, or `type`
 abbrev pub all_in : {A : Type 0} → (Shape → Option A) → List Cell → List Value → Result (List A) Kind
-all_in f h [] = Ok []
-all_in f h (v ∷ vs) = put_first (f (shape h v)) (all_in f h vs)
+all_in f h vs = gathered (λ v xs. put_last xs (f (shape h v))) vs []
 
 -- the items of a sequence, each as what is asked; of one that is missing none
 abbrev pub parts_in : {A : Type 0} → (Shape → Option A) → List Cell → Option Value → Result (List A) Kind

@@ -11,3 +11,4 @@ pub mod Fields
 pub mod Arguments
 pub mod Depsets
 pub mod Instances
+pub mod Operators

@@ -5,10 +5,12 @@
 //! of instructions.
 #![tactic(auto)]
 
+mod arithmetic;
 mod made;
 mod method;
 mod state;
 
+pub use arithmetic::Arithmetic;
 pub use made::Made;
 pub use method::Method;
 pub use state::{Defaults, State};

@@ -52,7 +52,7 @@ pub(crate) fn copied(alloc: Global, group: Group<'_>) -> Result<Items, AllocErro
 }
 
 /// Puts the items of a group behind others.
-fn copy_into(group: Group<'_>, items: &mut Items) -> Result<(), AllocError>
+pub(crate) fn copy_into(group: Group<'_>, items: &mut Items) -> Result<(), AllocError>
     ensures { OnOk result (items.new ≡ items.old ++ group_items group.entry) }
 {
     for place in 0..group.len() {

@@ -1,0 +1,10 @@
+//! The operators that only whole numbers have.
+
+/// `-`, `*`, `//` and `%`.
+#[derive(Clone, Copy, PartialEq, Eq, Debug)]
+pub enum Arithmetic {
+    Minus,
+    Times,
+    FloorDiv,
+    Modulo,
+}

@@ -1,0 +1,247 @@
+//! Sums, arithmetic and order.
+ghost use Rattle.std.specs.Prelude.{◌≡◌, ◌++◌, Ok, Err, Some, None, MatchResult, IfOk};
+ghost use Rattle.values.specs.Ticking.{FaultOr};
+ghost use Rattle.values.specs.Shape.{shape};
+ghost use Rattle.values.specs.Seeing.{seen, item_value, group_items};
+ghost use Rattle.printing.specs.Repr.{fits};
+ghost use Rattle.operations.specs.States.{Does, Stays, Gives};
+ghost use Rattle.operations.specs.Reading.{number_in, of_type};
+ghost use Rattle.operations.specs.Making.{placed, make};
+ghost use Rattle.operations.specs.Changes.{extension, extended};
+ghost use Rattle.operations.specs.Operators.{number_fault, new_number, key_sum, added, plus, add_in_place, extended_or_sum, calculated, calculate, number_value, negative, key_order, order_in, compare};
+
+use crate::changes::{copied, copy_into};
+use crate::making::place;
+use crate::reading::number_of;
+use numbers::{Comparison, NumberError, difference, opposite, product, quotient, remainder, sum};
+use operations::{Arithmetic, Made, State};
+use plain::Text;
+use printing::LARGEST_TEXT;
+use std::alloc::{AllocError, Global};
+use std::cmp::Ordering;
+use values::{Broken, Group, Heap, Item, Items, Key, Kind, Seen, Value};
+
+/// `a + b`: two whole numbers, two strings, two lists, or two tuples.
+///
+/// # Errors
+///
+/// `type` for all else; then `overflow` or `large`.
+pub fn plus(alloc: Global, state: &mut State, a: &Value, b: &Value) -> Result<Value, Broken>
+    ensures { Does (plus a.now b.now) state.old result state.new }
+{
+    let made = match added(alloc, &state.heap.see(a), &state.heap.see(b)) {
+        Ok(made) => made,
+        Err(broken) => return Err(broken),
+    };
+    place(state, made)
+}
+
+/// What two values add up to.
+fn added(alloc: Global, a: &Seen<'_>, b: &Seen<'_>) -> Result<Made, Broken>
+    ensures { Gives (added (seen a.now) (seen b.now)) result }
+{
+    match (a, b) {
+        (Seen::Key(x), Seen::Key(y)) => key_sum(alloc, x, y),
+        (Seen::List(xs), Seen::List(ys)) => Ok(Made::List(both(alloc, *xs, *ys)?)),
+        (Seen::Tuple(xs), Seen::Tuple(ys)) => Ok(Made::Tuple(both(alloc, *xs, *ys)?)),
+        _ => Err(Broken::Kind(Kind::Wrong)),
+    }
+}
+
+/// What two numbers or two strings add up to.
+fn key_sum(alloc: Global, a: &Key, b: &Key) -> Result<Made, Broken>
+    ensures { Gives (key_sum a.now b.now) result }
+{
+    match (a, b) {
+        (Key::Number(x), Key::Number(y)) => new_number(sum(*x, *y)),
+        (Key::Text(x), Key::Text(y)) => match behind(alloc, x, y) {
+            Ok(text) => Ok(Made::Key(Key::Text(text))),
+            Err(broken) => Err(broken),
+        },
+        _ => Err(Broken::Kind(Kind::Wrong)),
+    }
+}
+
+/// A number that was made, or its fault.
+fn new_number(number: Result<i64, NumberError>) -> Result<Made, Broken>
+    ensures { Gives (new_number number) result }
+{
+    match number {
+        Ok(number) => Ok(Made::Key(Key::Number(number))),
+        Err(NumberError::Overflow) => Err(Broken::Kind(Kind::Overflow)),
+        Err(NumberError::Zero) => Err(Broken::Kind(Kind::Zero)),
+    }
+}
+
+/// A text behind another, or `large`.
+fn behind(alloc: Global, a: &Text, b: &Text) -> Result<Text, Broken>
+    ensures { Gives (fits (a.now ++ b.now)) result }
+{
+    if a.len().saturating_add(b.len()) > LARGEST_TEXT {
+        return Err(Broken::Kind(Kind::Large));
+    }
+    let text = glued(alloc, a, b)?;
+    Ok(text)
+}
+
+/// A text behind another.
+fn glued(alloc: Global, a: &Text, b: &Text) -> Result<Text, AllocError>
+    ensures { IfOk result (λ t. t ≡ a.now ++ b.now) }
+{
+    let mut text = String::with_capacity(alloc, a.len().saturating_add(b.len()))?;
+    text.push_str(a.as_str())?;
+    text.push_str(b.as_str())?;
+    Text::from_string(text)
+}
+
+/// The items of two groups, one behind the other.
+fn both(alloc: Global, xs: Group<'_>, ys: Group<'_>) -> Result<Items, AllocError>
+    ensures { IfOk result (λ items. items ≡ group_items xs.entry ++ group_items ys.entry) }
+{
+    let mut items = Items::with_capacity(alloc, xs.len().saturating_add(ys.len()))?;
+    copy_into(xs, &mut items)?;
+    copy_into(ys, &mut items)?;
+    Ok(items)
+}
+
+/// `x += y`: a list is extended in place by a list or a tuple, and is given itself; all else is `x + y`.
+pub fn add_in_place(alloc: Global, state: &mut State, x: Value, y: &Value) -> Result<Value, Broken>
+    ensures { Does (add_in_place x y.now) state.old result state.new }
+{
+    match extension_in(alloc, &state.heap, &x, y)? {
+        Some(items) => extended(state, x, items),
+        None => plus(alloc, state, &x, y),
+    }
+}
+
+/// What `x += y` extends `x` by, None where that is the sum.
+fn extension_in(
+    alloc: Global,
+    heap: &Heap,
+    x: &Value,
+    y: &Value,
+) -> Result<Option<Items>, AllocError>
+    ensures { IfOk result (λ r. r ≡ extension (shape heap.now x.now) (shape heap.now y.now)) }
+{
+    extension(alloc, &heap.see(x), &heap.see(y))
+}
+
+/// What a list is extended by: the items of a list or of a tuple.
+fn extension(alloc: Global, x: &Seen<'_>, y: &Seen<'_>) -> Result<Option<Items>, AllocError>
+    ensures { IfOk result (λ r. r ≡ extension (seen x.now) (seen y.now)) }
+{
+    match (x, y) {
+        (Seen::List(_), Seen::List(items)) => Ok(Some(copied(alloc, *items)?)),
+        (Seen::List(_), Seen::Tuple(items)) => Ok(Some(copied(alloc, *items)?)),
+        _ => Ok(None),
+    }
+}
+
+/// The list itself, with these items more.
+fn extended(state: &mut State, list: Value, items: Items) -> Result<Value, Broken>
+    ensures { Does (extended items list) state.old result state.new }
+{
+    match state.heap.extend(&list, items) {
+        Ok(()) => Ok(list),
+        Err(broken) => Err(broken),
+    }
+}
+
+/// `a - b`, `a * b`, `a // b` or `a % b`, of two whole numbers.
+///
+/// # Errors
+///
+/// `type` for all else; `zero`, and then `overflow`.
+pub fn calculate(
+    state: &State,
+    operator: Arithmetic,
+    a: Item<'_>,
+    b: Item<'_>,
+) -> Result<Value, Broken>
+    ensures { Does (calculate operator (item_value a.entry) (item_value b.entry)) state.now result state.now }
+{
+    let Some(x) = number_of(&state.heap.see_item(a)) else {
+        return Err(Broken::Kind(Kind::Wrong));
+    };
+    let Some(y) = number_of(&state.heap.see_item(b)) else {
+        return Err(Broken::Kind(Kind::Wrong));
+    };
+    number_value(calculated(operator, x, y))
+}
+
+/// What an operator makes of two numbers.
+fn calculated(operator: Arithmetic, a: i64, b: i64) -> Result<i64, NumberError>
+    ensures { result ≡ calculated operator a b }
+{
+    match operator {
+        Arithmetic::Minus => difference(a, b),
+        Arithmetic::Times => product(a, b),
+        Arithmetic::FloorDiv => quotient(a, b),
+        Arithmetic::Modulo => remainder(a, b),
+    }
+}
+
+/// A number as a value, or its fault.
+fn number_value(number: Result<i64, NumberError>) -> Result<Value, Broken>
+    ensures { Gives (number_value number) result }
+{
+    match number {
+        Ok(number) => Ok(Value::Key(Key::Number(number))),
+        Err(NumberError::Overflow) => Err(Broken::Kind(Kind::Overflow)),
+        Err(NumberError::Zero) => Err(Broken::Kind(Kind::Zero)),
+    }
+}
+
+/// `-a`, of a whole number.
+///
+/// # Errors
+///
+/// `type` for all else; `overflow`.
+pub fn negate(state: &State, a: Item<'_>) -> Result<Value, Broken>
+    ensures { Does (negative (item_value a.entry)) state.now result state.now }
+{
+    let Some(number) = number_of(&state.heap.see_item(a)) else {
+        return Err(Broken::Kind(Kind::Wrong));
+    };
+    number_value(opposite(number))
+}
+
+/// `a < b` and its like, of two whole numbers, or of two strings by their bytes.
+///
+/// # Errors
+///
+/// `type` for all else.
+pub fn compare(
+    state: &State,
+    operator: Comparison,
+    a: Item<'_>,
+    b: Item<'_>,
+) -> Result<bool, Broken>
+    ensures { Does (compare operator (item_value a.entry) (item_value b.entry)) state.now result state.now }
+{
+    match order_of(&state.heap.see_item(a), &state.heap.see_item(b)) {
+        Ok(order) => Ok(operator.holds(order)),
+        Err(broken) => Err(broken),
+    }
+}
+
+/// The order of two values.
+fn order_of(a: &Seen<'_>, b: &Seen<'_>) -> Result<Ordering, Broken>
+    ensures { Gives (order_in (seen a.now) (seen b.now)) result }
+{
+    match (a, b) {
+        (Seen::Key(x), Seen::Key(y)) => key_order(x, y),
+        _ => Err(Broken::Kind(Kind::Wrong)),
+    }
+}
+
+/// The order of two numbers or of two strings.
+fn key_order(a: &Key, b: &Key) -> Result<Ordering, Broken>
+    ensures { Gives (key_order a.now b.now) result }
+{
+    match (a, b) {
+        (Key::Number(x), Key::Number(y)) => Ok(numbers::compare(*x, *y)),
+        (Key::Text(x), Key::Text(y)) => Ok(x.cmp(y)),
+        _ => Err(Broken::Kind(Kind::Wrong)),
+    }
+}
