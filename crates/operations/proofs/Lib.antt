@@ -1,3 +1,4 @@
 pub mod Rows
 pub mod CallRows
 pub mod OperatorRows
+pub mod BuiltInRows

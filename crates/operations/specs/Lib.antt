@@ -12,3 +12,5 @@ pub mod Arguments
 pub mod Depsets
 pub mod Instances
 pub mod Operators
+pub mod BuiltIns
+pub mod Methods

@@ -1,0 +1,13 @@
+//! What an evaluation makes: depsets, each with the next serial of its owner, and instances of providers; and the names of
+//! its top level.
+//!
+//! Each call does what its definition in `operations` says, for every state, or answers that memory was refused; after a
+//! fault, and after such a refusal, the heap and the number of depsets are as they were.
+#![tactic(auto)]
+
+mod depset_calls;
+mod names;
+mod parts;
+
+pub use depset_calls::new_depset;
+pub use names::{name_value, set_global, set_loaded};

@@ -1,0 +1,85 @@
+-- The built-in functions that every file finds bound, but for those of one place. Each tests its arguments first (`arity`), then
+-- their types, then what is named. (Starlark's specification, "Built-in constants and functions"; which values each takes is this
+-- project's own.)
+use Rattle.std.specs.Prelude.{ℕ, ℤ, pos, List, [], ◌∷◌, length, map, Option, Some, None, Result, Ok, Err, codes}
+use Rattle.numbers.specs.Ranges.{range_of}
+use Rattle.values.specs.Ticking.{Count}
+use Rattle.values.specs.Shape.{Shape, key, atom, items, entries, fields, nothing, shape}
+use Rattle.values.specs.Visits.{keys_of}
+use Rattle.values.specs.declared.key.Key.{Key}
+use Rattle.values.specs.declared.key.Key.TheVariants as index
+use Rattle.values.specs.declared.value.Value.{Value}
+use Rattle.values.specs.declared.value.Value.TheVariants as value
+use Rattle.values.specs.declared.cells.Cell.{Cell}
+use Rattle.values.specs.declared.ticks.Kind.{Kind}
+use Rattle.values.specs.declared.ticks.Kind.TheVariants as kind
+use Rattle.printing.specs.Repr.{repr_of}
+use Rattle.operations.specs.declared.state.State.{State}
+use Rattle.operations.specs.declared.made.Made.{Made}
+use Rattle.operations.specs.declared.made.Made.TheVariants as new
+use Rattle.operations.specs.States.{Op, Doing, keeping, with_ticks, then_do, then_give}
+use Rattle.operations.specs.Reading.{string_in, number_in, of_type}
+use Rattle.operations.specs.Making.{number, text, make}
+use Rattle.operations.specs.Arguments.{Given, Parameter, Bound, wanted, bound, one, positions}
+
+-- a call of one parameter, by position or by name
+abbrev pub argument : List ℕ → Given → Result Value Kind
+argument x g = then_give (bound (wanted x ∷ []) g) (one Ok)
+
+abbrev pub with_argument : Result Value Kind → (Value → Op Value) → Op Value
+with_argument (Ok v) f s = f v s
+with_argument (Err k) f s = Err k
+
+-- how many bytes a string has, items a list or a tuple, entries a dict
+abbrev pub key_size : Key → Option ℕ
+key_size (index.Text t) = Some (length t)
+key_size _ = None
+
+abbrev pub size_in : Shape → Option ℕ
+size_in (key k) = key_size k
+size_in (items j xs) = Some (length xs)
+size_in (entries es) = Some (length es)
+size_in _ = None
+
+-- len(x)
+abbrev pub len : Value → Op Value
+len v s = keeping (of_type (size_in (shape s.heap v)) (λ n. Ok (number (pos n)))) s
+
+-- str(x)
+abbrev pub text_value : State → Result (List ℕ × Count) Kind → Doing Value
+text_value s (Ok p) = Ok (text p.0, record s { ticks = p.1 })
+text_value s (Err k) = Err k
+
+abbrev pub str : Value → Op Value
+str v s = text_value s (repr_of s.heap v s.ticks)
+
+-- range(n), range(a, b)
+abbrev pub numbers : Option (List ℤ) → Result Made Kind
+numbers (Some ns) = Ok (new.List (map number ns))
+numbers None = Err kind.Large
+
+abbrev pub range_between : Option ℤ → Option ℤ → Result Made Kind
+range_between (Some a) (Some b) = numbers (range_of a b)
+range_between _ _ = Err kind.Wrong
+
+abbrev pub range_in : List Cell → List Value → Result Made Kind
+range_in h (n ∷ []) = range_between (Some (pos 0)) (number_in (shape h n))
+range_in h (a ∷ b ∷ []) = range_between (number_in (shape h a)) (number_in (shape h b))
+range_in h _ = Err kind.Arity
+
+abbrev pub range : Given → Op Value
+range g s = make (then_give (positions g) (range_in s.heap)) s
+
+-- the items of a list or of a tuple, or the keys of a dict
+abbrev pub listed_in : Shape → Option (List Value)
+listed_in (items j xs) = Some xs
+listed_in (entries es) = Some (map value.Key (keys_of es))
+listed_in _ = None
+
+-- list(x)
+abbrev pub list : Value → Op Value
+list v s = make (of_type (listed_in (shape s.heap v)) (λ xs. Ok (new.List xs))) s
+
+-- fail(text)
+abbrev pub fail : Value → Op Value
+fail v s = keeping (of_type (string_in (shape s.heap v)) (λ t. Err (kind.Fail t))) s
