@@ -1,0 +1,6 @@
+pub mod Ascii
+pub mod Cuts
+pub mod Finds
+pub mod Glued
+pub mod Meanings
+pub mod Rows

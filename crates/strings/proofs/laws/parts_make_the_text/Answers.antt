@@ -1,0 +1,5 @@
+use Rattle.strings.proofs.Meanings.{parts_make}
+use Rattle.strings.proofs.laws.parts_make_the_text.Goals as goal
+
+pub returns : goal.returns
+returns c = parts_make
