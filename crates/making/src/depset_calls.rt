@@ -3,10 +3,12 @@ ghost use Rattle.std.specs.Prelude.{◌≡◌, Ok, Err, Some, None, MatchResult,
 ghost use Rattle.values.specs.Ticking.{FaultOr};
 ghost use Rattle.values.specs.Seeing.{seen};
 ghost use Rattle.values.specs.Shape.{shape};
+ghost use Rattle.operations.specs.Reading.{depset_in, of_type};
 ghost use Rattle.operations.specs.States.{Does, Stays, Gives};
 ghost use Rattle.printing.specs.Repr.{string_in};
-ghost use Rattle.operations.specs.Depsets.{new_depset, order_named, order_text, order_in};
+ghost use Rattle.operations.specs.Depsets.{new_depset, order_named, order_text, order_in, parts_in, element_in, parts_of, made_of, depset_of};
 
+use crate::parts::{children, elements};
 use operations::State;
 use std::alloc::Global;
 use values::{Broken, Depset, DepsetError, Element, Heap, Id, Key, Kind, Leaf, Order, Seen, Value};
@@ -64,5 +66,107 @@ fn order_of(value: &Seen<'_>) -> Option<Order>
     match value {
         Seen::Key(Key::Text(text)) => order_named(text.as_str()),
         _ => None,
+    }
+}
+
+/// The order that an argument names; the default where there is none.
+fn order_in(heap: &Heap, order: Option<&Value>) -> Result<Order, Broken>
+    ensures { Gives (order_in heap.now (option_copied order.entry)) result }
+{
+    let Some(order) = order else {
+        return Ok(Order::Default);
+    };
+    match order_of(&heap.see(order)) {
+        Some(order) => Ok(order),
+        None => Err(Broken::Kind(Kind::Wrong)),
+    }
+}
+
+/// The elements of an argument, none where there is none.
+fn elements_in(alloc: Global, heap: &Heap, direct: Option<&Value>) -> Result<Vec<Element>, Broken>
+    ensures { MatchResult result (λ v. parts_in element_in heap.now (option_copied direct.entry) ≡ Ok v.items) (λ e. FaultOr (parts_in element_in heap.now (option_copied direct.entry)) e) }
+{
+    let Some(direct) = direct else {
+        return Ok(Vec::new(alloc));
+    };
+    match heap.see(direct) {
+        Seen::List(items) => elements(alloc, items, heap),
+        Seen::Tuple(items) => elements(alloc, items, heap),
+        _ => Err(Broken::Kind(Kind::Wrong)),
+    }
+}
+
+/// The depsets of an argument, none where there is none.
+fn children_in(
+    alloc: Global,
+    heap: &Heap,
+    transitive: Option<&Value>,
+) -> Result<Vec<Depset>, Broken>
+    ensures { MatchResult result (λ v. parts_in depset_in heap.now (option_copied transitive.entry) ≡ Ok v.items) (λ e. FaultOr (parts_in depset_in heap.now (option_copied transitive.entry)) e) }
+{
+    let Some(transitive) = transitive else {
+        return Ok(Vec::new(alloc));
+    };
+    match heap.see(transitive) {
+        Seen::List(items) => children(alloc, items, heap),
+        Seen::Tuple(items) => children(alloc, items, heap),
+        _ => Err(Broken::Kind(Kind::Wrong)),
+    }
+}
+
+/// What `depset` is made of.
+#[derive(Drop)]
+struct Parts {
+    direct: Vec<Element>,
+    order: Order,
+    transitive: Vec<Depset>,
+}
+
+/// The parts that the arguments of `depset` are, or `type`.
+fn read_parts(
+    alloc: Global,
+    heap: &Heap,
+    direct: Option<&Value>,
+    order: Option<&Value>,
+    transitive: Option<&Value>,
+) -> Result<Parts, Broken>
+    ensures { MatchResult result (λ p. parts_of heap.now (option_copied direct.entry) (option_copied order.entry) (option_copied transitive.entry) ≡ Ok (record { direct = p.direct.items; order = p.order; transitive = p.transitive.items })) (λ e. FaultOr (parts_of heap.now (option_copied direct.entry) (option_copied order.entry) (option_copied transitive.entry)) e) }
+{
+    let direct = match elements_in(alloc, heap, direct) {
+        Ok(direct) => direct,
+        Err(broken) => return Err(broken),
+    };
+    let order = match order_in(heap, order) {
+        Ok(order) => order,
+        Err(broken) => return Err(broken),
+    };
+    match children_in(alloc, heap, transitive) {
+        Ok(transitive) => Ok(Parts {
+            direct,
+            order,
+            transitive,
+        }),
+        Err(broken) => Err(broken),
+    }
+}
+
+/// `depset(direct, order, transitive = transitive)`, of the arguments that were given.
+///
+/// # Errors
+///
+/// `type` for an argument, an element, elements of two types, or an order that isn't one; then `order`, `deep`, and `large`
+/// where no serial is left.
+pub fn depset(
+    alloc: Global,
+    state: &mut State,
+    direct: Option<&Value>,
+    order: Option<&Value>,
+    transitive: Option<&Value>,
+) -> Result<Value, Broken>
+    ensures { Does (depset_of (option_copied direct.entry) (option_copied order.entry) (option_copied transitive.entry)) state.old result state.new }
+{
+    match read_parts(alloc, &state.heap, direct, order, transitive) {
+        Ok(made) => new_depset(alloc, state, made.order, made.direct, made.transitive),
+        Err(broken) => Err(broken),
     }
 }

@@ -6,8 +6,12 @@
 #![tactic(auto)]
 
 mod depset_calls;
+mod instances;
+mod listings;
 mod names;
 mod parts;
 
-pub use depset_calls::new_depset;
-pub use names::{name_value, set_global, set_loaded};
+pub use depset_calls::{depset, new_depset};
+pub use instances::{construct, default_info, field, given_for};
+pub use listings::to_list;
+pub use names::{define, name_value, set_global, set_loaded};

@@ -5,8 +5,9 @@ ghost use Rattle.operations.specs.States.{Does, Stays};
 ghost use Rattle.operations.specs.Names.{name_value, set_global, set_loaded, define, in_slot, or_loaded};
 
 use operations::State;
+use plain::{Shared, Text};
 use std::alloc::Global;
-use values::{Broken, Value};
+use values::{Broken, FunctionRef, Items, Leaf, MadeId, Value};
 
 /// The value of a name of the top level, once it is bound.
 pub fn name_value(state: &State, number: usize) -> Option<&Value>
@@ -44,4 +45,27 @@ pub fn set_loaded(state: &mut State, file: u32, number: usize, value: Value)
     if file == state.file && number < state.loaded.as_slice().len() {
         state.loaded.set(number, Some(value));
     }
+}
+
+/// The function that a `def` makes keeps its defaults, which were evaluated once.
+pub fn define(
+    alloc: Global,
+    state: &mut State,
+    id: MadeId,
+    name: &Text,
+    defaults: Items,
+) -> Result<Value, Broken>
+    ensures { Does (define id name.now defaults) state.old result state.new }
+{
+    let function = FunctionRef {
+        id,
+        path: state.owner.share()?,
+        name: name.share()?,
+    };
+    let function = Shared::new(alloc, function)?;
+    let number = id.number as usize;
+    if number < state.defaults.len() {
+        state.defaults.set(number, defaults);
+    }
+    Ok(Value::Leaf(Leaf::Function(function)))
 }

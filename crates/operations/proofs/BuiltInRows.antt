@@ -15,10 +15,10 @@ use Rattle.operations.specs.Methods.{get, keys, pairs}
 use Rattle.operations.proofs.Rows.{with_cells, one, two, list_at}
 
 abbrev at : List Value → Given
-at vs = record { items = vs; named = [] }
+at vs = record { items = vs; names = []; values = [] }
 
 -- len(x = "abc"), len(), len(1, 2), len(True)
-by_name : argument (codes "x") (record { items = []; named = (codes "x", one) ∷ [] }) ≡ Ok one
+by_name : argument (codes "x") (record { items = []; names = codes "x" ∷ []; values = one ∷ [] }) ≡ Ok one
 by_name = refl
 
 missing_one : argument (codes "x") (at []) ≡ Err kind.Arity
@@ -62,7 +62,7 @@ from_below = refl
 no_numbers : range (at (two ∷ one ∷ [])) (with_cells [] 0) ≡ Ok (list_at, with_cells (cell.List [] 0 ∷ []) 0)
 no_numbers = refl
 
-no_names : range (record { items = []; named = (codes "n", one) ∷ [] }) (with_cells [] 0) ≡ Err kind.Arity
+no_names : range (record { items = []; names = codes "n" ∷ []; values = one ∷ [] }) (with_cells [] 0) ≡ Err kind.Arity
 no_names = refl
 
 range_of_a_text : range (at (text (codes "a") ∷ [])) (with_cells [] 0) ≡ Err kind.Wrong

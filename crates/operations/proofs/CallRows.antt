@@ -20,7 +20,7 @@ use Rattle.operations.specs.Instances.{constructed, new_default_info, default_in
 use Rattle.operations.proofs.Rows.{with_cells, one, two, list_at}
 
 abbrev at : List Value → Given
-at vs = record { items = vs; named = [] }
+at vs = record { items = vs; names = []; values = [] }
 
 -- f(a, b = ..): by position, by name, in excess, twice, missing, unknown
 abbrev parameters : List Parameter
@@ -29,19 +29,19 @@ parameters = wanted (codes "a") ∷ optional (codes "b") ∷ named_only (codes "
 by_position : bound parameters (at (one ∷ two ∷ [])) ≡ Ok (Some one ∷ Some two ∷ None ∷ [])
 by_position = refl
 
-by_name : bound parameters (record { items = one ∷ []; named = (codes "c", two) ∷ [] }) ≡ Ok (Some one ∷ None ∷ Some two ∷ [])
+by_name : bound parameters (record { items = one ∷ []; names = codes "c" ∷ []; values = two ∷ [] }) ≡ Ok (Some one ∷ None ∷ Some two ∷ [])
 by_name = refl
 
 in_excess : bound parameters (at (one ∷ two ∷ one ∷ [])) ≡ Err kind.Arity
 in_excess = refl
 
-given_twice : bound parameters (record { items = one ∷ []; named = (codes "a", two) ∷ [] }) ≡ Err kind.Arity
+given_twice : bound parameters (record { items = one ∷ []; names = codes "a" ∷ []; values = two ∷ [] }) ≡ Err kind.Arity
 given_twice = refl
 
-missing_one : bound parameters (record { items = []; named = (codes "b", two) ∷ [] }) ≡ Err kind.Arity
+missing_one : bound parameters (record { items = []; names = codes "b" ∷ []; values = two ∷ [] }) ≡ Err kind.Arity
 missing_one = refl
 
-unknown_one : bound parameters (record { items = one ∷ []; named = (codes "d", two) ∷ [] }) ≡ Err kind.Arity
+unknown_one : bound parameters (record { items = one ∷ []; names = codes "d" ∷ []; values = two ∷ [] }) ≡ Err kind.Arity
 unknown_one = refl
 
 -- the first depset has serial 1
@@ -56,16 +56,16 @@ mixed = refl
 no_sequence : depset (at (none ∷ [])) (with_cells [] 0) ≡ Err kind.Wrong
 no_sequence = refl
 
-no_order : depset (record { items = []; named = (codes "order", text (codes "topological")) ∷ [] }) (with_cells [] 0) ≡ Err kind.Wrong
+no_order : depset (record { items = []; names = codes "order" ∷ []; values = text (codes "topological") ∷ [] }) (with_cells [] 0) ≡ Err kind.Wrong
 no_order = refl
 
 -- a `postorder` depset with a `preorder` child; `type` comes first
-orders : depset (record { items = list_at ∷ text (codes "postorder") ∷ []; named = (codes "transitive", value.Cell 1) ∷ [] })
+orders : depset (record { items = list_at ∷ text (codes "postorder") ∷ []; names = codes "transitive" ∷ []; values = value.Cell 1 ∷ [] })
     (with_cells (cell.List [] 0 ∷ cell.List (value.Leaf (plain.Depset (next_depset order.Preorder [] [] (with_cells [] 0))) ∷ []) 0 ∷ []) 0)
     ≡ Err kind.Order
 orders = refl
 
-type_before_order : depset (record { items = list_at ∷ text (codes "postorder") ∷ []; named = (codes "transitive", value.Cell 1) ∷ [] })
+type_before_order : depset (record { items = list_at ∷ text (codes "postorder") ∷ []; names = codes "transitive" ∷ []; values = value.Cell 1 ∷ [] })
     (with_cells (cell.List (none ∷ []) 0 ∷ cell.List (value.Leaf (plain.Depset (next_depset order.Preorder [] [] (with_cells [] 0))) ∷ []) 0 ∷ []) 0)
     ≡ Err kind.Wrong
 type_before_order = refl
@@ -78,14 +78,14 @@ last_serial = refl
 abbrev P : Provider
 P = record { id = Some (record { «module» = 0; number = 0 }); name = provider.Exported (record { path = codes "a/f.bzl"; name = export.Global (codes "P") }); fields = codes "m" ∷ codes "n" ∷ [] }
 
-one_field : constructed P (record { items = []; named = (codes "n", two) ∷ [] }) (with_cells [] 0)
+one_field : constructed P (record { items = []; names = codes "n" ∷ []; values = two ∷ [] }) (with_cells [] 0)
     ≡ Ok (value.Cell 0, with_cells (cell.Instance P (None ∷ Some two ∷ []) ∷ []) 0)
 one_field = refl
 
 no_position : constructed P (at (one ∷ [])) (with_cells [] 0) ≡ Err kind.Arity
 no_position = refl
 
-other_name : constructed P (record { items = []; named = (codes "o", two) ∷ [] }) (with_cells [] 0) ≡ Err kind.Arity
+other_name : constructed P (record { items = []; names = codes "o" ∷ []; values = two ∷ [] }) (with_cells [] 0) ≡ Err kind.Arity
 other_name = refl
 
 -- a field that was given, one that wasn't, and one that isn't there
@@ -100,11 +100,11 @@ no_field : field list_at (codes "o") (with_cells (cell.Instance P (None ∷ Some
 no_field = refl
 
 -- DefaultInfo() takes a serial for its depset; DefaultInfo(files = [1]) is `type`
-empty_info : new_default_info (at []) (with_cells [] 0)
+empty_info : new_default_info default_info (at []) (with_cells [] 0)
     ≡ Ok (value.Cell 0, record (with_cells (cell.Instance default_info (Some (value.Leaf (plain.Depset (next_depset order.Default [] [] (with_cells [] 0)))) ∷ []) ∷ []) 0) { depsets = 1 })
 empty_info = refl
 
-no_depset : new_default_info (record { items = []; named = (codes "files", list_at) ∷ [] }) (with_cells (cell.List (one ∷ []) 0 ∷ []) 0)
+no_depset : new_default_info default_info (record { items = []; names = codes "files" ∷ []; values = list_at ∷ [] }) (with_cells (cell.List (one ∷ []) 0 ∷ []) 0)
     ≡ Err kind.Wrong
 no_depset = refl
 

@@ -2,3 +2,4 @@ pub mod Rows
 pub mod CallRows
 pub mod OperatorRows
 pub mod BuiltInRows
+pub mod Turns

@@ -1,17 +1,34 @@
 -- The arguments of a call of what isn't written in Starlark, and what each parameter gets of them. (Starlark's
 -- specification, "Function and method calls".)
-use Rattle.std.specs.Prelude.{ℕ, Bool, true, false, not, ◌||◌, List, [], ◌∷◌, Option, Some, None, Result, Ok, Err, bytes_eq, is_some, if◌then◌else◌}
+use Rattle.std.specs.Prelude.{ℕ, ◌+◌, Bool, true, false, not, ◌||◌, List, [], ◌∷◌, Option, Some, None, Result, Ok, Err, bytes_eq, is_some, if◌then◌else◌}
 use Rattle.std.specs.List.{list_any, list_all}
-use Rattle.std.specs.Map.{lookup}
 use Rattle.values.specs.declared.value.Value.{Value}
 use Rattle.values.specs.declared.ticks.Kind.{Kind}
 use Rattle.values.specs.declared.ticks.Kind.TheVariants.{Arity}
-use Rattle.operations.specs.States.{then_give}
+use Rattle.operations.specs.Items.{at_place}
+use Rattle.operations.specs.declared.arguments.Arguments.{Arguments}
 
--- those by position, and those by name, in the order of the text
+-- those by position, and those by name, in the order of the text: names and values stand by place
 pub record Given : Type 0 where
   pub items : List Value
-  pub named : List (List ℕ × Value)
+  pub names : List (List ℕ)
+  pub values : List Value
+
+-- the arguments that a call holds
+abbrev pub given : Arguments → Given
+given a = record { items = a.items.now; names = a.names.now; values = a.values.now }
+
+-- the first place of a name among names, counted from here
+abbrev pub place_from : List ℕ → ℕ → List (List ℕ) → Option ℕ
+place_from x i [] = None
+place_from x i (n ∷ ns) = if bytes_eq x n then Some i else place_from x (i + 1) ns
+
+abbrev pub place_named : List ℕ → List (List ℕ) → Option ℕ
+place_named x ns = place_from x 0 ns
+
+-- what was given under a name
+abbrev pub given_for : List ℕ → List (List ℕ) → List Value → Option Value
+given_for x ns vs = at_place vs (place_named x ns)
 
 -- a parameter: whether it is given by name alone, and whether it may be missing
 pub record Parameter : Type 0 where
@@ -33,22 +50,22 @@ named_or_missing p (Some v) rest = put_first (Some v) rest
 named_or_missing p None rest = if p.may_miss then put_first None rest else Err Arity
 
 -- positions go to the parameters in order, but not to one that is given by name alone
-abbrev pub filled : List Parameter → List Value → List (List ℕ × Value) → Result Bound Kind
+abbrev pub filled : List Parameter → List Value → (List ℕ → Option Value) → Result Bound Kind
 filled [] [] named = Ok []
 filled [] (v ∷ vs) named = Err Arity
-filled (p ∷ ps) [] named = named_or_missing p (lookup (bytes_eq p.name) named) (filled ps [] named)
+filled (p ∷ ps) [] named = named_or_missing p (named p.name) (filled ps [] named)
 filled (p ∷ ps) (v ∷ vs) named =
     if p.by_name then Err Arity else
-    if is_some (lookup (bytes_eq p.name) named) then Err Arity else
+    if is_some (named p.name) then Err Arity else
     put_first (Some v) (filled ps vs named)
 
 -- each name is one of a parameter
-abbrev pub all_known : List Parameter → List (List ℕ × Value) → Bool
-all_known ps named = list_all (λ n. list_any (λ p. bytes_eq n.0 p.name) ps) named
+abbrev pub all_known : List Parameter → List (List ℕ) → Bool
+all_known ps names = list_all (λ n. list_any (λ p. bytes_eq n p.name) ps) names
 
 -- what the parameters get, or `arity`
 abbrev pub bound : List Parameter → Given → Result Bound Kind
-bound ps g = if all_known ps g.named then filled ps g.items g.named else Err Arity
+bound ps g = if all_known ps g.names then filled ps g.items (λ x. given_for x g.names g.values) else Err Arity
 
 -- a parameter that may be given by position or by name, and has to be
 abbrev pub wanted : List ℕ → Parameter
@@ -68,5 +85,9 @@ one f (Some v ∷ []) = f v
 one f _ = Err Arity
 
 -- positions alone: any name is `arity`
+abbrev pub unless_named : List (List ℕ) → List Value → Result (List Value) Kind
+unless_named [] vs = Ok vs
+unless_named (n ∷ ns) vs = Err Arity
+
 abbrev pub positions : Given → Result (List Value) Kind
-positions g = if list_any (λ n. true) g.named then Err Arity else Ok g.items
+positions g = unless_named g.names g.items

@@ -110,18 +110,26 @@ pub record Parts : Type 0 where
   pub order : Order
   pub transitive : List (Rose Own)
 
-abbrev pub parts_of : List Cell → Bound → Result Parts Kind
-parts_of h (es ∷ o ∷ ds ∷ []) =
+abbrev pub parts_of : List Cell → Option Value → Option Value → Option Value → Result Parts Kind
+parts_of h es o ds =
     then_give (parts_in element_in h es) (λ xs. then_give (order_in h o) (λ p. then_give (parts_in depset_in h ds) (λ ys.
     Ok (record { direct = xs; order = p; transitive = ys }))))
-parts_of h _ = Err kind.Arity
 
 abbrev pub made_of : Result Parts Kind → Op Value
 made_of (Ok p) s = new_depset p.order p.direct p.transitive s
 made_of (Err k) s = Err k
 
+-- the depset, once it is known what each parameter got
+abbrev pub depset_of : Option Value → Option Value → Option Value → Op Value
+depset_of es o ds s = made_of (parts_of s.heap es o ds) s
+
+abbrev pub depset_with : Result Bound Kind → Op Value
+depset_with (Ok (es ∷ o ∷ ds ∷ [])) s = depset_of es o ds s
+depset_with (Ok _) s = Err kind.Arity
+depset_with (Err k) s = Err k
+
 abbrev pub depset : Given → Op Value
-depset g s = made_of (then_give (bound depset_parameters g) (parts_of s.heap)) s
+depset g s = depset_with (bound depset_parameters g) s
 
 -- an element as a value
 abbrev pub element_value : Element → Value

@@ -13,15 +13,14 @@ use Rattle.values.specs.declared.ticks.Kind.TheVariants as kind
 use Rattle.operations.specs.declared.method.Method.{Method}
 use Rattle.operations.specs.declared.method.Method.TheVariants as method
 use Rattle.operations.specs.States.{Op, keeping}
-use Rattle.operations.specs.Items.{or_fault}
+use Rattle.operations.specs.Items.{or_fault, at_place}
+use Rattle.operations.specs.Arguments.{place_named}
 use Rattle.operations.specs.Making.{text}
 use Rattle.operations.specs.Names.{in_slot}
 
 -- the value of a field, by the places of the names in the provider; one that wasn't given is none
 abbrev pub field_in : List ℕ → List (List ℕ) → List (Option Value) → Option Value
-field_in x [] os = None
-field_in x (n ∷ ns) [] = None
-field_in x (n ∷ ns) (o ∷ os) = if bytes_eq x n then o else field_in x ns os
+field_in x names os = in_slot (at_place os (place_named x names))
 
 -- the package of the label `//PACKAGE:NAME`, and its name
 abbrev pub before_colon : List ℕ → List ℕ

@@ -5,11 +5,13 @@
 //! of instructions.
 #![tactic(auto)]
 
+mod arguments;
 mod arithmetic;
 mod made;
 mod method;
 mod state;
 
+pub use arguments::Arguments;
 pub use arithmetic::Arithmetic;
 pub use made::Made;
 pub use method::Method;

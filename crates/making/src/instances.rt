@@ -1,0 +1,275 @@
+//! Instances of providers, and their fields.
+ghost use Rattle.std.specs.Prelude.{◌≡◌, ◌<◌, ◌++◌, ◌∷◌, [], Ok, Err, Some, None, MatchResult, MatchOption, IfOk, OnOk, map, length, slice_get, option_copied, is_ok};
+ghost use Rattle.std.specs.List.{list_any, list_all};
+ghost use Rattle.std.specs.Str.{bytes_eq};
+ghost use Rattle.depsets.specs.Elements.{elements, all_of_type};
+ghost use Rattle.values.specs.Ticking.{FaultOr};
+ghost use Rattle.values.specs.Seeing.{seen, option_value, slot_values};
+ghost use Rattle.operations.specs.States.{Does, Stays};
+ghost use Rattle.operations.specs.Items.{at_place};
+ghost use Rattle.operations.specs.Arguments.{given, given_for, place_from, place_named};
+ghost use Rattle.operations.specs.Fields.{field_in};
+ghost use Rattle.operations.specs.Names.{in_slot};
+ghost use Rattle.operations.specs.Instances.{are_fields, given_fields, new_instance, with_fields, constructed, unless_placed, with_files, with_new_files, info_with, files_in, only_files};
+
+use crate::depset_calls::new_depset;
+use operations::{Arguments, State};
+use plain::{Shared, Text};
+use std::alloc::{AllocError, Global};
+use values::{
+    Broken, Depset, ElementType, Fields, Item, Kind, Leaf, Order, Provider, Seen, Slots, Value,
+};
+
+/// An instance of a provider, with the fields that were given; the values themselves are kept.
+///
+/// # Errors
+///
+/// `arity` for a position, and for a name that is none of the provider's fields.
+pub fn construct(
+    alloc: Global,
+    state: &mut State,
+    provider: &Shared<Provider>,
+    arguments: &Arguments<'_>,
+) -> Result<Value, Broken>
+    ensures { Does (constructed provider.now (given arguments.now)) state.old result state.new }
+{
+    if !arguments.items.is_empty() {
+        return Err(Broken::Kind(Kind::Arity));
+    }
+    with_fields(alloc, state, provider, arguments.names, arguments.values)
+}
+
+/// An instance with the fields of these names.
+fn with_fields(
+    alloc: Global,
+    state: &mut State,
+    provider: &Shared<Provider>,
+    names: &[Text],
+    values: &[Value],
+) -> Result<Value, Broken>
+    ensures { Does (with_fields provider.now names.now values.now) state.old result state.new }
+{
+    let fields = provider.get().fields.as_slice();
+    if !are_fields(fields, names) {
+        return Err(Broken::Kind(Kind::Arity));
+    }
+    let provider = provider.share()?;
+    let fields = given_fields(alloc, fields, names, values)?;
+    match state.heap.new_instance(provider, fields) {
+        Ok(instance) => Ok(instance),
+        Err(broken) => Err(broken),
+    }
+}
+
+/// Whether each name is one of the provider's.
+fn are_fields(fields: &[Text], names: &[Text]) -> bool
+    ensures { result ≡ are_fields fields.now names.now }
+{
+    for name in names {
+        if !is_field(fields, name) {
+            return false;
+        }
+    }
+    true
+}
+
+/// Whether a name is one of the provider's.
+fn is_field(fields: &[Text], name: &Text) -> bool
+    ensures { result ≡ list_any (bytes_eq name.now) fields.now }
+{
+    for field in fields {
+        if *name == *field {
+            return true;
+        }
+    }
+    false
+}
+
+/// What each field got.
+fn given_fields(
+    alloc: Global,
+    fields: &[Text],
+    names: &[Text],
+    values: &[Value],
+) -> Result<Fields, AllocError>
+    ensures { IfOk result (λ os. os ≡ given_fields fields.now names.now values.now) }
+{
+    let mut slots = Fields::with_capacity(alloc, fields.len())?;
+    for place in 0..fields.len() {
+        put_field(name_at(fields, place), names, values, &mut slots)?;
+    }
+    Ok(slots)
+}
+
+/// Puts what a field got last.
+fn put_field(
+    field: &Text,
+    names: &[Text],
+    values: &[Value],
+    slots: &mut Fields,
+) -> Result<(), AllocError>
+    ensures { OnOk result (slots.new ≡ slots.old ++ given_for field.now names.now values.now ∷ []) }
+{
+    let value = match given_for(field, names, values) {
+        Some(value) => Some(value.share()?),
+        None => None,
+    };
+    slots.push(value)?;
+    Ok(())
+}
+
+/// What was given under a name.
+pub fn given_for<'a>(name: &Text, names: &[Text], values: &'a [Value]) -> Option<&'a Value>
+    ensures { option_copied result ≡ given_for name.now names.now values.now }
+{
+    match place_named(name, names) {
+        Some(place) => values.get(place),
+        None => None,
+    }
+}
+
+/// The first place of a name among names.
+fn place_named(name: &Text, names: &[Text]) -> Option<usize>
+    ensures { result ≡ place_named name.now names.now }
+{
+    for place in 0..names.len() {
+        if *name == *name_at(names, place) {
+            return Some(place);
+        }
+    }
+    None
+}
+
+/// The name at a place.
+fn name_at(names: &[Text], place: usize) -> &Text
+    requires { place < length names.now }
+    ensures { slice_get names.now place ≡ Some result.now }
+{
+    &names[place]
+}
+
+/// The value of an instance's field, if it was given.
+pub fn field<'a>(provider: &Provider, slots: Slots<'a>, name: &Text) -> Option<Item<'a>>
+    ensures { option_value result ≡ field_in name.now provider.now.fields (slot_values slots.entry) }
+{
+    match place_named(name, provider.fields.as_slice()) {
+        Some(place) => slot_at(slots, place),
+        None => None,
+    }
+}
+
+/// What stands in a slot, None outside.
+fn slot_at<'a>(slots: Slots<'a>, place: usize) -> Option<Item<'a>>
+    ensures { option_value result ≡ in_slot (slice_get (slot_values slots.entry) place) }
+{
+    if place < slots.len() {
+        slots.slot(place)
+    } else {
+        None
+    }
+}
+
+/// `DefaultInfo(files = files)`; the default is a new depset without elements, with the next serial.
+///
+/// # Errors
+///
+/// `type`, where the files are no depset that is empty or of Files; `large`, where no serial is left for the default.
+pub fn default_info(
+    alloc: Global,
+    state: &mut State,
+    provider: &Shared<Provider>,
+    files: Option<&Value>,
+) -> Result<Value, Broken>
+    ensures { Does (info_with provider.now (option_copied files.entry)) state.old result state.new }
+{
+    match files {
+        Some(files) => info_of_files(alloc, state, provider, files),
+        None => info_without_files(alloc, state, provider),
+    }
+}
+
+/// An instance of one field, which has this value.
+fn with_files(
+    alloc: Global,
+    state: &mut State,
+    provider: &Shared<Provider>,
+    files: Value,
+) -> Result<Value, Broken>
+    ensures { Does (with_files provider.now files) state.old result state.new }
+{
+    let provider = provider.share()?;
+    let fields = one_field(alloc, files)?;
+    match state.heap.new_instance(provider, fields) {
+        Ok(instance) => Ok(instance),
+        Err(broken) => Err(broken),
+    }
+}
+
+/// One field, with this value.
+fn one_field(alloc: Global, value: Value) -> Result<Fields, AllocError>
+    ensures { IfOk result (λ os. os ≡ Some value ∷ []) }
+{
+    let mut fields = Fields::with_capacity(alloc, 1)?;
+    fields.push(Some(value))?;
+    Ok(fields)
+}
+
+/// The instance whose files are a depset that is empty or of Files.
+fn info_of_files(
+    alloc: Global,
+    state: &mut State,
+    provider: &Shared<Provider>,
+    files: &Value,
+) -> Result<Value, Broken>
+    ensures { Does (info_with provider.now (Some files.now)) state.old result state.new }
+{
+    if !are_files(&state.heap.see(files)) {
+        return Err(Broken::Kind(Kind::Wrong));
+    }
+    let files = files.share()?;
+    with_files(alloc, state, provider, files)
+}
+
+/// Whether a value is a depset that is empty or of Files.
+fn are_files(value: &Seen<'_>) -> bool
+    ensures { result ≡ is_ok (files_in (seen value.now)) }
+{
+    match value {
+        Seen::Leaf(Leaf::Depset(depset)) => has_only_files(depset),
+        _ => false,
+    }
+}
+
+/// Whether a depset is empty or of Files.
+fn has_only_files(depset: &Depset) -> bool
+    ensures { result ≡ all_of_type ElementType.File (elements depset.now) }
+{
+    match depset.element_type() {
+        Some(ElementType::File) => true,
+        Some(_) => false,
+        None => true,
+    }
+}
+
+/// The instance whose files are a new depset without elements.
+fn info_without_files(
+    alloc: Global,
+    state: &mut State,
+    provider: &Shared<Provider>,
+) -> Result<Value, Broken>
+    ensures { Does (with_new_files provider.now) state.old result state.new }
+{
+    let made = state.depsets;
+    let direct = Vec::new(alloc);
+    let files = match new_depset(alloc, state, Order::Default, direct, Vec::new(alloc)) {
+        Ok(files) => files,
+        Err(broken) => return Err(broken),
+    };
+    match with_files(alloc, state, provider, files) {
+        Ok(instance) => Ok(instance),
+        Err(broken) => {
+            state.depsets = made;
+            Err(broken)
+        }
+    }
+}

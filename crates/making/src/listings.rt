@@ -1,0 +1,74 @@
+//! The listing of a depset, as a list of the language.
+ghost use Rattle.std.specs.Prelude.{◌≡◌, ◌<◌, ◌++◌, ◌∷◌, [], Ok, Err, Some, MatchResult, IfOk, OnOk, map, length, slice_get};
+ghost use Rattle.depsets.specs.Listed.{IsCoherent, walked, flat};
+ghost use Rattle.values.specs.Ticking.{FaultOr};
+ghost use Rattle.operations.specs.States.{Does, Stays};
+ghost use Rattle.operations.specs.Making.{new_list};
+ghost use Rattle.operations.specs.Depsets.{element_value, to_list};
+
+use indexmap::IndexSet;
+use operations::State;
+use std::alloc::{AllocError, Global};
+use values::{Broken, Depset, Element, Items, Key, Leaf, Value};
+
+/// A new list of the listing, or `large`. Of a depset that isn't coherent it is the listing of the walk that visits no id twice.
+pub fn to_list(alloc: Global, state: &mut State, depset: &Depset) -> Result<Value, Broken>
+    ensures walk { Does (new_list (map element_value (walked depset.now))) state.old result state.new }
+    ensures plain { IsCoherent depset.now → Does (to_list depset.now) state.old result state.new }
+{
+    let items = listing(alloc, depset)?;
+    match state.heap.new_list(items) {
+        Ok(list) => Ok(list),
+        Err(broken) => Err(broken),
+    }
+}
+
+/// The elements of the listing as values.
+fn listing(alloc: Global, depset: &Depset) -> Result<Items, AllocError>
+    ensures walk { IfOk result (λ items. items ≡ map element_value (walked depset.now)) }
+    ensures plain { IfOk result (λ items. IsCoherent depset.now → items ≡ map element_value (flat depset.now)) }
+{
+    let listing = depset.list_whole(alloc)?;
+    element_values(alloc, &listing.items)
+}
+
+/// Elements as values.
+fn element_values(alloc: Global, elements: &IndexSet<Element>) -> Result<Items, AllocError>
+    ensures { IfOk result (λ items. items ≡ map element_value elements.now.keys) }
+{
+    let mut items = Items::with_capacity(alloc, elements.len())?;
+    for place in 0..elements.len() {
+        put_element(element_at(elements, place), &mut items)?;
+    }
+    Ok(items)
+}
+
+/// The element at a place.
+fn element_at(elements: &IndexSet<Element>, place: usize) -> &Element
+    requires { place < length elements.now.keys }
+    ensures { slice_get elements.now.keys place ≡ Some result.now }
+{
+    &elements.as_slice()[place]
+}
+
+/// Puts an element last, as a value.
+fn put_element(element: &Element, items: &mut Items) -> Result<(), AllocError>
+    ensures { OnOk result (items.new ≡ items.old ++ element_value element.now ∷ []) }
+{
+    let value = element_value(element)?;
+    items.push(value)?;
+    Ok(())
+}
+
+/// An element as a value.
+fn element_value(element: &Element) -> Result<Value, AllocError>
+    ensures { IfOk result (λ v. v ≡ element_value element.now) }
+{
+    match element {
+        Element::Text(text) => Ok(Value::Key(Key::Text(text.share()?))),
+        Element::Number(number) => Ok(Value::Key(Key::Number(*number))),
+        Element::Truth(truth) => Ok(Value::Key(Key::Truth(*truth))),
+        Element::Label(label) => Ok(Value::Leaf(Leaf::Label(label.share()?))),
+        Element::File(file) => Ok(Value::Leaf(Leaf::File(file.share()?))),
+    }
+}
