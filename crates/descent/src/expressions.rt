@@ -207,7 +207,7 @@ impl<F: Fn(Global, &mut Ahead<'_>, usize, Row, usize) -> Result<Part, Stop>> Rea
         ensures { Reads part_seen (spec.round (spec.read self.now.turns) self.now.most room ahead.old) result ahead.new }
     {
         if ahead.close(Bracket::Round) {
-            return parts::tuple(parts::no_items(self.alloc), room);
+            return parts::tuple(self.alloc, parts::no_items(self.alloc), room);
         }
         let first = self.inside(ahead, Row::Whole, room)?;
         if ahead.close(Bracket::Round) {
@@ -218,7 +218,7 @@ impl<F: Fn(Global, &mut Ahead<'_>, usize, Row, usize) -> Result<Part, Stop>> Rea
         }
         let found = parts::with_item(parts::no_items(self.alloc), first)?;
         let found = self.items(ahead, Bracket::Round, room.saturating_sub(1), found)?;
-        parts::tuple(found, room)
+        parts::tuple(self.alloc, found, room)
     }
 
     /// Behind the first item of a list.
@@ -248,7 +248,7 @@ impl<F: Fn(Global, &mut Ahead<'_>, usize, Row, usize) -> Result<Part, Stop>> Rea
         ensures { Reads part_seen (spec.square (spec.read self.now.turns) self.now.most room ahead.old) result ahead.new }
     {
         if ahead.close(Bracket::Square) {
-            return parts::list(parts::no_items(self.alloc), room);
+            return parts::list(self.alloc, parts::no_items(self.alloc), room);
         }
         let below = room.saturating_sub(1);
         let first = self.inside(ahead, Row::Whole, below)?;
@@ -261,7 +261,7 @@ impl<F: Fn(Global, &mut Ahead<'_>, usize, Row, usize) -> Result<Part, Stop>> Rea
         }
         let found = parts::with_item(parts::no_items(self.alloc), first)?;
         let found = self.items_behind(ahead, below, found)?;
-        parts::list(found, room)
+        parts::list(self.alloc, found, room)
     }
 
     /// Behind the first entry of a dict.
@@ -286,7 +286,7 @@ impl<F: Fn(Global, &mut Ahead<'_>, usize, Row, usize) -> Result<Part, Stop>> Rea
         ensures { Reads part_seen (spec.curly (spec.read self.now.turns) self.now.most room ahead.old) result ahead.new }
     {
         if ahead.close(Bracket::Curly) {
-            return parts::dict(parts::no_pairs(self.alloc), room);
+            return parts::dict(self.alloc, parts::no_pairs(self.alloc), room);
         }
         let below = room.saturating_sub(1);
         let first = self.pair(ahead, below)?;
@@ -299,7 +299,7 @@ impl<F: Fn(Global, &mut Ahead<'_>, usize, Row, usize) -> Result<Part, Stop>> Rea
         }
         let found = parts::with_pair(parts::no_pairs(self.alloc), first)?;
         let found = self.pairs_behind(ahead, below, found)?;
-        parts::dict(found, room)
+        parts::dict(self.alloc, found, room)
     }
 
     /// What begins with a bracket.
@@ -326,11 +326,11 @@ impl<F: Fn(Global, &mut Ahead<'_>, usize, Row, usize) -> Result<Part, Stop>> Rea
             return parts::name(self.alloc, name, room);
         }
         if let Some(value) = ahead.number() {
-            return parts::number(value, room);
+            return parts::number(self.alloc, value, room);
         }
         if let Some(body) = ahead.string() {
             let text = Text::from_string(unescape(self.alloc, body.as_bytes())?)?;
-            return parts::string(text, room);
+            return parts::string(self.alloc, text, room);
         }
         self.display(ahead, room)
     }

@@ -25,7 +25,7 @@ fn read_all(alloc: Global, lines: &Lines, tokens: &[Token]) -> Result<Option<Exp
     match expression(alloc, &mut ahead, turns, Row::Whole, MAX_DEPTH) {
         Ok(part) => {
             if ahead.is_done() {
-                Ok(Some(part.expr))
+                Ok(Some(Box::into_inner(part.expr)))
             } else {
                 Ok(None)
             }

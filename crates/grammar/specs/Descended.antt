@@ -18,7 +18,7 @@ use Rattle.grammar.specs.Descent.{Part, Several, Pairs, Arguments, Conditions, T
 use Rattle.grammar.specs.TreeView.{tree_of, entry_of, keyword_of, clause_of}
 
 abbrev pub part_seen : part.Part → Part
-part_seen p = record { tree = tree_of p.expr; depth = p.depth; is_target = p.is_target }
+part_seen p = record { tree = tree_of p.expr.value; depth = p.depth; is_target = p.is_target }
 
 abbrev pub target_of : targets.Target → Target
 target_of (t.Name x) = target_name x

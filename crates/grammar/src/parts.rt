@@ -29,10 +29,11 @@ pub enum Row {
     Opposed,
 }
 
-/// An expression, how deep it is, and whether it is a name or an index as it is written, to which can be assigned.
+/// An expression, how deep it is, and whether it is a name or an index as it is written, to which can be assigned. It is kept
+/// behind a `Box`, so that those who read one inside of another take little of the stack.
 #[derive(Drop)]
 pub struct Part {
-    pub expr: Expr,
+    pub expr: Box<Expr>,
     pub depth: usize,
     pub is_target: bool,
 }
@@ -68,12 +69,12 @@ pub struct Conditions {
 }
 
 /// A tree over parts of this depth, where the depth leaves room for one more.
-fn over(expr: Expr, depth: usize, is_target: bool, room: usize) -> Result<Part, Stop>
+fn over(alloc: Global, expr: Expr, depth: usize, is_target: bool, room: usize) -> Result<Part, Stop>
     ensures { Makes part_seen (spec.over room is_target (tree_of expr) depth) result }
 {
     if depth < room {
         Ok(Part {
-            expr,
+            expr: Box::new(alloc, expr)?,
             depth: depth + 1,
             is_target,
         })
@@ -88,23 +89,23 @@ pub fn name(alloc: Global, name: &str, room: usize) -> Result<Part, Stop>
     ensures { Makes part_seen (spec.over room true (bare.named name.now) 0) result }
 {
     let name = Text::new(alloc, name)?;
-    over(tree::name(name), 0, true, room)
+    over(alloc, tree::name(name), 0, true, room)
 }
 
 /// A number.
 #[inline(never)]
-pub fn number(value: u64, room: usize) -> Result<Part, Stop>
+pub fn number(alloc: Global, value: u64, room: usize) -> Result<Part, Stop>
     ensures { Makes part_seen (spec.over room false (bare.numeral value) 0) result }
 {
-    over(tree::number(value), 0, false, room)
+    over(alloc, tree::number(value), 0, false, room)
 }
 
 /// A string.
 #[inline(never)]
-pub fn string(text: Text, room: usize) -> Result<Part, Stop>
+pub fn string(alloc: Global, text: Text, room: usize) -> Result<Part, Stop>
     ensures { Makes part_seen (spec.over room false (bare.quoted text) 0) result }
 {
-    over(tree::string(text), 0, false, room)
+    over(alloc, tree::string(text), 0, false, room)
 }
 
 /// An operator between two parts.
@@ -119,25 +120,27 @@ pub fn operated(
     ensures { Makes part_seen (spec.operated room (operator_seen operator) (part_seen left) (part_seen right)) result }
 {
     let depth = left.depth.max(right.depth);
-    let expr = tree::binary(operator, left.expr, right.expr, alloc)?;
-    over(expr, depth, false, room)
+    let expr = tree::binary(operator, left.expr, right.expr);
+    over(alloc, expr, depth, false, room)
 }
 
 /// A part with an operator before it.
+#[inline(never)]
 pub fn signed(alloc: Global, sign: Sign, operand: Part, room: usize) -> Result<Part, Stop>
     ensures { Makes part_seen (spec.signed_part room (sign_seen sign) (part_seen operand)) result }
 {
-    let expr = tree::unary(alloc, sign, operand.expr)?;
-    over(expr, operand.depth, false, room)
+    let expr = tree::unary(sign, operand.expr);
+    over(alloc, expr, operand.depth, false, room)
 }
 
 /// A conditional, with its parts in the order of the text.
+#[inline(never)]
 pub fn chosen(alloc: Global, then: Part, test: Part, other: Part, room: usize) -> Result<Part, Stop>
     ensures { Makes part_seen (spec.chosen room (part_seen then) (part_seen test) (part_seen other)) result }
 {
     let depth = then.depth.max(test.depth.max(other.depth));
-    let expr = tree::choice(alloc, then.expr, test.expr, other.expr)?;
-    over(expr, depth, false, room)
+    let expr = tree::choice(then.expr, test.expr, other.expr);
+    over(alloc, expr, depth, false, room)
 }
 
 /// A field.
@@ -146,8 +149,8 @@ pub fn selected(alloc: Global, of: Part, name: &str, room: usize) -> Result<Part
     ensures { Makes part_seen (spec.selected room (part_seen of) name.now) result }
 {
     let name = Text::new(alloc, name)?;
-    let expr = tree::attribute(alloc, of.expr, name)?;
-    over(expr, of.depth, false, room)
+    let expr = tree::attribute(of.expr, name);
+    over(alloc, expr, of.depth, false, room)
 }
 
 /// An index.
@@ -156,8 +159,8 @@ pub fn subscripted(alloc: Global, of: Part, at: Part, room: usize) -> Result<Par
     ensures { Makes part_seen (spec.subscripted room (part_seen of) (part_seen at)) result }
 {
     let depth = of.depth.max(at.depth);
-    let expr = tree::index(alloc, of.expr, at.expr)?;
-    over(expr, depth, true, room)
+    let expr = tree::index(of.expr, at.expr);
+    over(alloc, expr, depth, true, room)
 }
 
 /// A call.
@@ -166,32 +169,54 @@ pub fn called(alloc: Global, callee: Part, arguments: Arguments, room: usize) ->
     ensures { Makes part_seen (spec.called room (part_seen callee) (arguments_seen arguments)) result }
 {
     let depth = callee.depth.max(arguments.depth);
-    let expr = tree::call(alloc, callee.expr, arguments.items, arguments.named)?;
-    over(expr, depth, false, room)
+    let expr = tree::call(callee.expr, arguments.items, arguments.named);
+    over(alloc, expr, depth, false, room)
 }
 
 /// A tuple.
-pub fn tuple(several: Several, room: usize) -> Result<Part, Stop>
+#[inline(never)]
+pub fn tuple(alloc: Global, several: Several, room: usize) -> Result<Part, Stop>
     ensures { Makes part_seen (spec.tuple_part room (several_seen several)) result }
 {
-    over(tree::tuple(several.items), several.depth, false, room)
+    over(
+        alloc,
+        tree::tuple(several.items),
+        several.depth,
+        false,
+        room,
+    )
 }
 
 /// A list.
-pub fn list(several: Several, room: usize) -> Result<Part, Stop>
+#[inline(never)]
+pub fn list(alloc: Global, several: Several, room: usize) -> Result<Part, Stop>
     ensures { Makes part_seen (spec.list_part room (several_seen several)) result }
 {
-    over(tree::list_of(several.items), several.depth, false, room)
+    over(
+        alloc,
+        tree::list_of(several.items),
+        several.depth,
+        false,
+        room,
+    )
 }
 
 /// A dict.
-pub fn dict(found: Pairs, room: usize) -> Result<Part, Stop>
+#[inline(never)]
+pub fn dict(alloc: Global, found: Pairs, room: usize) -> Result<Part, Stop>
     ensures { Makes part_seen (spec.dict_part room (pairs_seen found)) result }
 {
-    over(tree::dict_of(found.entries), found.depth, false, room)
+    over(
+        alloc,
+        tree::dict_of(found.entries),
+        found.depth,
+        false,
+        room,
+    )
 }
 
 /// A list comprehension.
+#[inline(never)]
 pub fn list_each(
     alloc: Global,
     element: Part,
@@ -201,11 +226,12 @@ pub fn list_each(
     ensures { Makes part_seen (spec.list_each_part room (part_seen element) (conditions_seen conditions)) result }
 {
     let depth = element.depth.max(conditions.depth);
-    let expr = tree::list_each(alloc, element.expr, conditions.clauses)?;
-    over(expr, depth, false, room)
+    let expr = tree::list_each(element.expr, conditions.clauses);
+    over(alloc, expr, depth, false, room)
 }
 
 /// A dict comprehension.
+#[inline(never)]
 pub fn dict_each(
     alloc: Global,
     entry: (Part, Part),
@@ -216,8 +242,8 @@ pub fn dict_each(
 {
     let (key, value) = entry;
     let depth = key.depth.max(value.depth).max(conditions.depth);
-    let expr = tree::dict_each(alloc, key.expr, value.expr, conditions.clauses)?;
-    over(expr, depth, false, room)
+    let expr = tree::dict_each(key.expr, value.expr, conditions.clauses);
+    over(alloc, expr, depth, false, room)
 }
 
 /// What stands alone in brackets: it is no target.
@@ -253,12 +279,13 @@ fn add_item(items: &mut Vec<Expr>, item: Expr) -> Result<(), AllocError>
 }
 
 /// One expression more.
+#[inline(never)]
 pub fn with_item(several: Several, part: Part) -> Result<Several, AllocError>
     ensures { IfOk result (λ s. several_seen s ≡ spec.with_item (several_seen several) (part_seen part)) }
 {
     let depth = several.depth.max(part.depth);
     let mut items = several.items;
-    add_item(&mut items, part.expr)?;
+    add_item(&mut items, Box::into_inner(part.expr))?;
     Ok(Several { items, depth })
 }
 
@@ -273,6 +300,7 @@ pub fn no_pairs(alloc: Global) -> Pairs
 }
 
 /// One entry more.
+#[inline(never)]
 pub fn with_pair(found: Pairs, pair: (Part, Part)) -> Result<Pairs, AllocError>
     ensures { IfOk result (λ s. pairs_seen s ≡ spec.with_pair (pairs_seen found) (pair_seen pair)) }
 {
@@ -280,8 +308,8 @@ pub fn with_pair(found: Pairs, pair: (Part, Part)) -> Result<Pairs, AllocError>
     let depth = found.depth.max(key.depth.max(value.depth));
     let mut entries = found.entries;
     entries.push(Entry {
-        key: key.expr,
-        value: value.expr,
+        key: Box::into_inner(key.expr),
+        value: Box::into_inner(value.expr),
     })?;
     Ok(Pairs { entries, depth })
 }
@@ -299,13 +327,14 @@ pub fn no_arguments(alloc: Global) -> Arguments
 }
 
 /// One positional argument more.
+#[inline(never)]
 pub fn with_positional(arguments: Arguments, part: Part) -> Result<Arguments, AllocError>
     ensures { IfOk result (λ s. arguments_seen s ≡ spec.with_argument (arguments_seen arguments) (spec.positional (part_seen part))) }
 {
     let depth = arguments.depth.max(part.depth);
     let in_order = arguments.in_order && arguments.named.is_empty();
     let mut items = arguments.items;
-    add_item(&mut items, part.expr)?;
+    add_item(&mut items, Box::into_inner(part.expr))?;
     Ok(Arguments {
         items,
         named: arguments.named,
@@ -315,6 +344,7 @@ pub fn with_positional(arguments: Arguments, part: Part) -> Result<Arguments, Al
 }
 
 /// One argument with a name more.
+#[inline(never)]
 pub fn with_keyword(arguments: Arguments, name: Text, part: Part) -> Result<Arguments, AllocError>
     ensures { IfOk result (λ s. arguments_seen s ≡ spec.with_argument (arguments_seen arguments) (spec.keyword name (part_seen part))) }
 {
@@ -322,7 +352,7 @@ pub fn with_keyword(arguments: Arguments, name: Text, part: Part) -> Result<Argu
     let mut named = arguments.named;
     named.push(Keyword {
         name,
-        value: part.expr,
+        value: Box::into_inner(part.expr),
     })?;
     Ok(Arguments {
         items: arguments.items,
@@ -343,6 +373,7 @@ pub fn no_conditions(alloc: Global) -> Conditions
 }
 
 /// A `for` clause more, with its first name and its others.
+#[inline(never)]
 pub fn with_for(
     found: Conditions,
     first: Text,
@@ -353,16 +384,17 @@ pub fn with_for(
 {
     let depth = found.depth.max(part.depth);
     let mut clauses = found.clauses;
-    clauses.push(Clause::For(first, others, part.expr))?;
+    clauses.push(Clause::For(first, others, Box::into_inner(part.expr)))?;
     Ok(Conditions { clauses, depth })
 }
 
 /// An `if` clause more.
+#[inline(never)]
 pub fn with_if(found: Conditions, part: Part) -> Result<Conditions, AllocError>
     ensures { IfOk result (λ s. conditions_seen s ≡ spec.with_if (conditions_seen found) (part_seen part)) }
 {
     let depth = found.depth.max(part.depth);
     let mut clauses = found.clauses;
-    clauses.push(Clause::If(part.expr))?;
+    clauses.push(Clause::If(Box::into_inner(part.expr)))?;
     Ok(Conditions { clauses, depth })
 }

@@ -1,7 +1,7 @@
 //! The trees of expressions, as the program keeps them: what only their writing has, as brackets alone and commas at
 //! the end, is gone.
 
-ghost use Rattle.std.specs.Prelude.{◌≡◌, IfOk};
+ghost use Rattle.std.specs.Prelude.{◌≡◌};
 ghost use Rattle.std.specs.Option.{option_map};
 ghost use Rattle.grammar.specs.Descent.{target_in};
 ghost use Rattle.grammar.specs.Descended.{target_of};
@@ -10,7 +10,6 @@ ghost use Rattle.grammar.specs.Levels.{operator_level};
 ghost use Rattle.grammar.specs.TreeView.{operator_seen, sign_seen, tree_of, trees, entries, keywords, rests};
 
 use plain::Text;
-use std::alloc::{AllocError, Global};
 
 /// How deep an expression may be. A name or a literal is 1 deep, each other form one more than the deepest of its
 /// parts; brackets alone add nothing.
@@ -170,75 +169,52 @@ pub enum Clause {
     If(Expr),
 }
 
-pub(crate) fn binary(
-    operator: Operator,
-    left: Expr,
-    right: Expr,
-    alloc: Global,
-) -> Result<Expr, AllocError>
-    ensures { IfOk result (λ e. tree_of e ≡ bare.operates (operator_seen operator) (tree_of left) (tree_of right)) }
+pub(crate) fn binary(operator: Operator, left: Box<Expr>, right: Box<Expr>) -> Expr
+    ensures { tree_of result ≡ bare.operates (operator_seen operator) (tree_of left.value) (tree_of right.value) }
 {
-    Ok(Expr::Binary(operator, Box::new(alloc, left)?, Box::new(alloc, right)?))
+    Expr::Binary(operator, left, right)
 }
 
-pub(crate) fn unary(alloc: Global, sign: Sign, operand: Expr) -> Result<Expr, AllocError>
-    ensures { IfOk result (λ e. tree_of e ≡ bare.turned (sign_seen sign) (tree_of operand)) }
+pub(crate) fn unary(sign: Sign, operand: Box<Expr>) -> Expr
+    ensures { tree_of result ≡ bare.turned (sign_seen sign) (tree_of operand.value) }
 {
-    Ok(Expr::Unary(sign, Box::new(alloc, operand)?))
+    Expr::Unary(sign, operand)
 }
 
-pub(crate) fn choice(alloc: Global, then: Expr, test: Expr, other: Expr) -> Result<Expr, AllocError>
-    ensures { IfOk result (λ e. tree_of e ≡ bare.choice (tree_of then) (tree_of test) (tree_of other)) }
+pub(crate) fn choice(then: Box<Expr>, test: Box<Expr>, other: Box<Expr>) -> Expr
+    ensures { tree_of result ≡ bare.choice (tree_of then.value) (tree_of test.value) (tree_of other.value) }
 {
-    Ok(Expr::Choice(
-        Box::new(alloc, then)?,
-        Box::new(alloc, test)?,
-        Box::new(alloc, other)?,
-    ))
+    Expr::Choice(then, test, other)
 }
 
-pub(crate) fn attribute(alloc: Global, of: Expr, name: Text) -> Result<Expr, AllocError>
-    ensures { IfOk result (λ e. tree_of e ≡ bare.selects (tree_of of) name) }
+pub(crate) fn attribute(of: Box<Expr>, name: Text) -> Expr
+    ensures { tree_of result ≡ bare.selects (tree_of of.value) name }
 {
-    Ok(Expr::Attribute(Box::new(alloc, of)?, name))
+    Expr::Attribute(of, name)
 }
 
-pub(crate) fn index(alloc: Global, of: Expr, at: Expr) -> Result<Expr, AllocError>
-    ensures { IfOk result (λ e. tree_of e ≡ bare.subscript (tree_of of) (tree_of at)) }
+pub(crate) fn index(of: Box<Expr>, at: Box<Expr>) -> Expr
+    ensures { tree_of result ≡ bare.subscript (tree_of of.value) (tree_of at.value) }
 {
-    Ok(Expr::Index(Box::new(alloc, of)?, Box::new(alloc, at)?))
+    Expr::Index(of, at)
 }
 
-pub(crate) fn call(
-    alloc: Global,
-    callee: Expr,
-    arguments: Vec<Expr>,
-    named: Vec<Keyword>,
-) -> Result<Expr, AllocError>
-    ensures { IfOk result (λ e. tree_of e ≡ bare.invokes (tree_of callee) (trees arguments.items) (keywords named.items)) }
+pub(crate) fn call(callee: Box<Expr>, arguments: Vec<Expr>, named: Vec<Keyword>) -> Expr
+    ensures { tree_of result ≡ bare.invokes (tree_of callee.value) (trees arguments.items) (keywords named.items) }
 {
-    Ok(Expr::Call(Box::new(alloc, callee)?, arguments, named))
+    Expr::Call(callee, arguments, named)
 }
 
-pub(crate) fn list_each(
-    alloc: Global,
-    element: Expr,
-    clauses: Vec<Clause>,
-) -> Result<Expr, AllocError>
-    ensures { IfOk result (λ e. tree_of e ≡ bare.each (tree_of element) (rests clauses.items)) }
+pub(crate) fn list_each(element: Box<Expr>, clauses: Vec<Clause>) -> Expr
+    ensures { tree_of result ≡ bare.each (tree_of element.value) (rests clauses.items) }
 {
-    Ok(Expr::ListEach(Box::new(alloc, element)?, clauses))
+    Expr::ListEach(element, clauses)
 }
 
-pub(crate) fn dict_each(
-    alloc: Global,
-    key: Expr,
-    value: Expr,
-    clauses: Vec<Clause>,
-) -> Result<Expr, AllocError>
-    ensures { IfOk result (λ e. tree_of e ≡ bare.each_entry (tree_of key) (tree_of value) (rests clauses.items)) }
+pub(crate) fn dict_each(key: Box<Expr>, value: Box<Expr>, clauses: Vec<Clause>) -> Expr
+    ensures { tree_of result ≡ bare.each_entry (tree_of key.value) (tree_of value.value) (rests clauses.items) }
 {
-    Ok(Expr::DictEach(Box::new(alloc, key)?, Box::new(alloc, value)?, clauses))
+    Expr::DictEach(key, value, clauses)
 }
 
 pub(crate) fn tuple(items: Vec<Expr>) -> Expr

@@ -38,7 +38,7 @@ fn assigned(target: Part, names: Vec<Text>, value: Expr) -> Result<Form, Stop>
     if !target.is_target {
         return Err(Stop::NoForm);
     }
-    match target.expr.into_target() {
+    match Box::into_inner(target.expr).into_target() {
         Some(Target::Name(name)) => Ok(Form::Assign(name, names, value)),
         Some(Target::At(base, at)) => {
             if names.is_empty() {
@@ -58,7 +58,7 @@ fn increased(target: Part, value: Expr) -> Result<Form, Stop>
     if !target.is_target {
         return Err(Stop::NoForm);
     }
-    match target.expr.into_target() {
+    match Box::into_inner(target.expr).into_target() {
         Some(Target::Name(name)) => Ok(Form::Add(name, value)),
         Some(Target::At(base, at)) => Ok(Form::AddAt(base, at, value)),
         None => Err(Stop::NoForm),
@@ -89,7 +89,7 @@ impl FormReader {
     {
         let part = self.expr(ahead, MAX_DEPTH)?;
         if ahead.is_done() {
-            Ok(part.expr)
+            Ok(Box::into_inner(part.expr))
         } else {
             Err(Stop::NoForm)
         }
@@ -119,8 +119,8 @@ impl FormReader {
     {
         let found = parts::with_item(parts::no_items(self.alloc), first)?;
         let found = self.more_values(ahead, found)?;
-        let part = parts::tuple(found, MAX_DEPTH)?;
-        Ok(part.expr)
+        let part = parts::tuple(self.alloc, found, MAX_DEPTH)?;
+        Ok(Box::into_inner(part.expr))
     }
 
     /// What is assigned or returned: an expression up to the end of the line, or several, which are a tuple.
@@ -133,7 +133,7 @@ impl FormReader {
             return self.values_behind(ahead, first);
         }
         if ahead.is_done() {
-            Ok(first.expr)
+            Ok(Box::into_inner(first.expr))
         } else {
             Err(Stop::NoForm)
         }
@@ -159,7 +159,7 @@ impl FormReader {
     {
         let first = self.expr(ahead, MAX_DEPTH)?;
         if ahead.is_done() {
-            return Ok(Form::Evaluate(first.expr));
+            return Ok(Form::Evaluate(Box::into_inner(first.expr)));
         }
         if ahead.assign() {
             let value = self.value(ahead)?;
@@ -243,7 +243,7 @@ impl FormReader {
             return Ok(Param::Required(name));
         }
         let default = self.expr(ahead, MAX_DEPTH)?;
-        Ok(Param::Optional(name, default.expr))
+        Ok(Param::Optional(name, Box::into_inner(default.expr)))
     }
 
     /// The parameters of a function, up to the closing bracket.
@@ -370,7 +370,10 @@ impl FormReader {
             return Err(Stop::NoForm);
         };
         let operand = self.expr(ahead, MAX_DEPTH)?;
-        self.bodied(ahead, Form::For(name, others, operand.expr))
+        self.bodied(
+            ahead,
+            Form::For(name, others, Box::into_inner(operand.expr)),
+        )
     }
 
     /// Behind `if`.
@@ -379,7 +382,7 @@ impl FormReader {
         ensures { Makes shaped_of (spec.headed self.now.turns bare.if_head ahead.old) result }
     {
         let test = self.expr(ahead, MAX_DEPTH)?;
-        self.bodied(ahead, Form::If(test.expr))
+        self.bodied(ahead, Form::If(Box::into_inner(test.expr)))
     }
 
     /// Behind `elif`.
@@ -388,7 +391,7 @@ impl FormReader {
         ensures { Makes shaped_of (spec.headed self.now.turns bare.elif_head ahead.old) result }
     {
         let test = self.expr(ahead, MAX_DEPTH)?;
-        self.bodied(ahead, Form::Elif(test.expr))
+        self.bodied(ahead, Form::Elif(Box::into_inner(test.expr)))
     }
 
     /// Behind the word that a line begins with.

@@ -10,7 +10,9 @@ use Rattle.syntax.specs.Resolved.{Program, resolved, steps_of, steps_slots}
 use Rattle.syntax.specs.IsProgram.{IsProgram, at_top}
 use Rattle.syntax.proofs.FileLaws.{syntax_is}
 use Rattle.syntax.proofs.NamePlaces.{all_among, among_once, distinct_once}
+use Rattle.syntax.proofs.TokensFit.{file_fits}
 use Rattle.syntax.proofs.WellFormed.{file_well}
+use Rattle.syntax.proofs.LoadNumbers.{file_numbers}
 use Rattle.syntax.proofs.LineRanges.{top_made, steps_numbered, numbers_stay}
 
 file_is : (text : List ℕ) (kind : FileKind) (tree : Block) → syntax text kind ≡ Ok tree → IsProgram (resolved (bare_lines tree))
@@ -19,9 +21,13 @@ file_is text kind tree e =
     let ls = bare_lines tree in
     let s = file_scope ls in
     let names = all_among _ (lines_bind ls) (λ x k. (refl, among_once x (lines_bind ls) k)) in
-    let made = top_made s ls refl (file_well kind tree h.spelled.is_block) h.scoped names in
+    let well = file_well kind tree h.spelled.is_block (file_fits text kind h.lines tree h.read h.spelled) in
+    let made = top_made s ls refl well h.scoped names in
+    let numbers = file_numbers kind tree h.spelled.is_block well h.scoped in
     record {
       globals = distinct_once (lines_bind ls);
+      loads = numbers.0;
+      own = numbers.1;
       functions = numbers_stay 1 (steps_of s ls);
       statements = steps_numbered at_top (length (once (lines_bind ls))) (steps_slots (steps_of s ls)) 1 (steps_of s ls) made;
     }

@@ -16,6 +16,7 @@ use Rattle.grammar.specs.BlockReading.{read_lines}
 use Rattle.grammar.specs.BareLines.{bare_lines}
 use Rattle.syntax.specs.Names.{global, slot, builtin, len_function}
 use Rattle.syntax.specs.Resolved.{OwnSlots, Program, named, numeral, invokes, each, more_terms, no_terms, no_keywords, done, for_each, assign, give_back, branch, a_branch, no_branches, define, no_steps, step, resolved}
+use Rattle.syntax.specs.IsProgram.{all_loaded, all_own}
 use Rattle.syntax.specs.Files.{syntax}
 
 -- a text of these lines
@@ -174,3 +175,14 @@ pub names :
     })
 unfolding reading tokens_of scan begins line_starts turn read_lines lead then_at names_to string_at commas listed simple_at form_at chain next sign_at name_at keyword_at behind_close behind_comma behind_colon behind_else is_for names_in head_at member members clauses atom suffixes e9 e8 e7 e6 e5 e4 e3 e2 e1 read program
 names = refl
+
+-- the numbers that the statements of a file bind, those of loads and the others
+abbrev bound_numbers : Option Program → Option (List ℕ × List ℕ)
+bound_numbers None = None
+bound_numbers (Some p) = Some (all_loaded p.steps, all_own p.steps)
+
+pub numbers :
+    bound_numbers (program (syntax (lines (codes "'doc'" ∷ codes "load('//a:b.bzl', 'a', b = 'c')" ∷ codes "load('//a:c.bzl', 'd')" ∷ codes "x, y = 1, 2" ∷ codes "def f(): a = x" ∷ [])) Module))
+    ≡ Some (0 ∷ 1 ∷ 2 ∷ [], 3 ∷ 4 ∷ 5 ∷ [])
+unfolding reading tokens_of scan begins line_starts turn read_lines lead then_at names_to string_at commas listed simple_at form_at chain next sign_at name_at keyword_at behind_close behind_comma behind_colon behind_else program read e1 e2 e3 e4 e5 e6 e7 e8 e9 atom suffixes
+numbers = refl

@@ -5,10 +5,12 @@ pub mod FileLaws
 pub mod FileRanges
 pub mod FileRows
 pub mod LineRanges
+pub mod LoadNumbers
 pub mod NamePlaces
 pub mod OwnPlaces
 pub mod ProgramDepths
 pub mod ProgramLemmas
 pub mod ScopeLemmas
 pub mod TermRanges
+pub mod TokensFit
 pub mod WellFormed

@@ -11,10 +11,11 @@ use Rattle.syntax.specs.Resolved.{Loaded, Statement, load, assign, assign_item, 
 use Rattle.syntax.specs.IsProgram.{Around, at_top, in_function, in_loop, AtTop, InFunction, InLoop, IsTarget, count, AreTerms, IsStatement, AreBranches, AreSteps}
 use Rattle.syntax.proofs.NamePlaces.{both, not_both, among_once, stay_first, all_among, Binds, bound_global, target}
 use Rattle.syntax.proofs.TermRanges.{term_ranges}
+use Rattle.syntax.proofs.TokensFit.{split_all}
 use Rattle.syntax.proofs.WellFormed.{ParamWell, FormWell, around, LinesWell}
 
 -- a line without fault
-line_parts : (n : ℕ) (b : Bool) (o r : Option ℕ) → or_else (unless n b) (or_else o r) ≡ None → (b ≡ true) × (o ≡ None) × (r ≡ None)
+pub line_parts : (n : ℕ) (b : Bool) (o r : Option ℕ) → or_else (unless n b) (or_else o r) ≡ None → (b ≡ true) × (o ≡ None) × (r ≡ None)
 line_parts n true None r h = (refl, refl, h)
 line_parts n true (Some k) r h = absurd cc
 line_parts n false o r h = absurd cc
@@ -24,10 +25,6 @@ form_parts : (s : Scope) (n : ℕ) (f : Form) (o r : Option ℕ) → or_else (un
 form_parts s n f o r h =
     let q = line_parts n (line_scoped s f) o r h in
     ((both (none_predeclared (form_binds f)) (form_scoped s f) q.0).1, q.1, q.2)
-
-split : {A : Type 0} (P : A → Type 0) (xs ys : List A) → AllByRecursion P (xs ++ ys) → AllByRecursion P xs × AllByRecursion P ys
-split P [] ys h = (tt, h)
-split P (x ∷ xs) ys h = let r = split P xs ys h.1 in ((h.0, r.0), r.1)
 
 -- nothing is added to a name of the top level
 abbrev pub AddsWell : Around → Lines → Type 0
@@ -72,7 +69,7 @@ defaults_range n s (optional x a ∷ ps) w h le fit =
     (term_ranges n s a w.0 k.0 le (omega (arith, fit)), defaults_range n s ps w.1 k.1 le (omega (arith, fit)))
 
 -- the names of a function
-among_behind : (x : Name) (xs ys : List Name) → among x ys ≡ true → among x (xs ++ ys) ≡ true
+pub among_behind : (x : Name) (xs ys : List Name) → among x ys ≡ true → among x (xs ++ ys) ≡ true
 among_behind x xs ys h = list_any-append (bytes_eq x) xs ys ∙ by (among x xs) (among x ys) h
   where
     by : (a b : Bool) → b ≡ true → (a || b) ≡ true
@@ -104,9 +101,9 @@ lines_made : (p : Around) (n : ℕ) (s : Scope) (ls : Lines) → LinesWell p ls 
 lines_made p n s no_lines w adds h le names = ((λ _. tt), (λ _. tt), λ _. tt)
 lines_made at_top n s (a_line k (loads m is) inner ls) w adds h le names =
     let q = form_parts s k (loads m is) (lines_fault s inner) (lines_fault s ls) h in
-    let x = split (Binds at_top s) (map (λ i. i.binds) is) (lines_bind inner ++ lines_bind ls) names in
-    let r = lines_made at_top n s ls w.2 adds.1 q.2 le (split (Binds at_top s) (lines_bind inner) (lines_bind ls) x.1).1 in
-    ((λ _. tt), (λ _. tt), λ fit. ((tt, items_bind s is x.0), r.2 (omega (arith, fit))))
+    let x = split_all (Binds at_top s) (map (λ i. i.binds) is) (lines_bind inner ++ lines_bind ls) names in
+    let r = lines_made at_top n s ls w.2 adds.1 q.2 le (split_all (Binds at_top s) (lines_bind inner) (lines_bind ls) x.1).1 in
+    ((λ _. tt), (λ _. tt), λ fit. ((tt, items_bind s is x.0), r.2 (omega (arith, fit)), w.3))
 lines_made in_function n s (a_line k (loads m is) inner ls) w adds h le names = absurd w.0
 lines_made in_loop n s (a_line k (loads m is) inner ls) w adds h le names = absurd w.0
 lines_made at_top n s (a_line k (defines f ps) inner ls) w adds h le names =
@@ -124,38 +121,40 @@ lines_made at_top n s (a_line k (defines f ps) inner ls) w adds h le names =
       λ fit. (
         (tt, bound_global s f names.0.1, d.0, omega (arith, some), few_defaults s ps, defaults_range n s ps w.0.1 j.1 le (omega (arith, fit)), body.2 (omega arith)),
         r.2 (omega (arith, fit)),
+        w.3,
       ),
     )
 lines_made in_function n s (a_line k (defines f ps) inner ls) w adds h le names = absurd w.0.0
 lines_made in_loop n s (a_line k (defines f ps) inner ls) w adds h le names = absurd w.0.0
 lines_made p n s (a_line k (if_head a) inner ls) w adds h le names =
     let q = form_parts s k (if_head a) (lines_fault s inner) (lines_fault s ls) h in
-    let x = split (Binds p s) (lines_bind inner) (lines_bind ls) names in
+    let x = split_all (Binds p s) (lines_bind inner) (lines_bind ls) names in
     let i = lines_made p n s inner w.1 (adds_in p w.0.0 inner) q.1 le x.0 in
     let r = lines_made p n s ls w.2 adds.1 q.2 le x.1 in (
       (λ _. tt),
       (λ _. tt),
       λ fit. (
-        (w.0.0, (term_ranges n s a w.0.1 q.0 le (omega (arith, fit)), i.2 (omega (arith, fit)), r.0 (omega (arith, fit))), r.1 (omega (arith, fit))),
+        (w.0.0, (term_ranges n s a w.0.1 q.0 le (omega (arith, fit)), i.2 (omega (arith, fit)), r.0 (omega (arith, fit)), w.3), r.1 (omega (arith, fit))),
         r.2 (omega (arith, fit)),
+        w.3,
       ),
     )
 lines_made p n s (a_line k (elif_head a) inner ls) w adds h le names =
     let q = form_parts s k (elif_head a) (lines_fault s inner) (lines_fault s ls) h in
-    let x = split (Binds p s) (lines_bind inner) (lines_bind ls) names in
+    let x = split_all (Binds p s) (lines_bind inner) (lines_bind ls) names in
     let i = lines_made p n s inner w.1 (adds_in p w.0.0 inner) q.1 le x.0 in
     let r = lines_made p n s ls w.2 adds.1 q.2 le x.1 in
-    ((λ fit. (term_ranges n s a w.0.1 q.0 le (omega (arith, fit)), i.2 (omega (arith, fit)), r.0 (omega (arith, fit)))), r.1, r.2)
+    ((λ fit. (term_ranges n s a w.0.1 q.0 le (omega (arith, fit)), i.2 (omega (arith, fit)), r.0 (omega (arith, fit)), w.3)), r.1, r.2)
 lines_made p n s (a_line k else_head inner ls) w adds h le names =
     let q = form_parts s k else_head (lines_fault s inner) (lines_fault s ls) h in
-    let x = split (Binds p s) (lines_bind inner) (lines_bind ls) names in
+    let x = split_all (Binds p s) (lines_bind inner) (lines_bind ls) names in
     let i = lines_made p n s inner w.1 (adds_in p w.0 inner) q.1 le x.0 in
     let r = lines_made p n s ls w.2 adds.1 q.2 le x.1 in
     ((λ _. tt), i.2, r.2)
 lines_made p n s (a_line k (for_head y ys a) inner ls) w adds h le names =
     let q = form_parts s k (for_head y ys a) (lines_fault s inner) (lines_fault s ls) h in
-    let x = split (Binds p s) (y ∷ ys) (lines_bind inner ++ lines_bind ls) names in
-    let z = split (Binds p s) (lines_bind inner) (lines_bind ls) x.1 in
+    let x = split_all (Binds p s) (y ∷ ys) (lines_bind inner ++ lines_bind ls) names in
+    let z = split_all (Binds p s) (lines_bind inner) (lines_bind ls) x.1 in
     let i = lines_made in_loop n s inner w.1 (adds_in in_loop tt inner) q.1 le (all_in_loops p s w.0.0 (lines_bind inner) z.0) in
     let r = lines_made p n s ls w.2 adds.1 q.2 le z.1 in (
       (λ _. tt),
@@ -163,66 +162,69 @@ lines_made p n s (a_line k (for_head y ys a) inner ls) w adds h le names =
       λ fit. (
         (w.0.0, targets p n s (y ∷ ys) le x.0, term_ranges n s a w.0.1 q.0 le (omega (arith, fit)), i.2 (omega (arith, fit))),
         r.2 (omega (arith, fit)),
+        w.3,
       ),
     )
 lines_made p n s (a_line k (assigns y ys a) inner ls) w adds h le names =
     let q = form_parts s k (assigns y ys a) (lines_fault s inner) (lines_fault s ls) h in
-    let x = split (Binds p s) (y ∷ ys) (lines_bind inner ++ lines_bind ls) names in
-    let r = lines_made p n s ls w.2 adds.1 q.2 le (split (Binds p s) (lines_bind inner) (lines_bind ls) x.1).1 in
-    ((λ _. tt), (λ _. tt), λ fit. ((targets p n s (y ∷ ys) le x.0, term_ranges n s a w.0 q.0 le (omega (arith, fit))), r.2 (omega (arith, fit))))
+    let x = split_all (Binds p s) (y ∷ ys) (lines_bind inner ++ lines_bind ls) names in
+    let r = lines_made p n s ls w.2 adds.1 q.2 le (split_all (Binds p s) (lines_bind inner) (lines_bind ls) x.1).1 in
+    ((λ _. tt), (λ _. tt), λ fit. ((targets p n s (y ∷ ys) le x.0, term_ranges n s a w.0 q.0 le (omega (arith, fit))), r.2 (omega (arith, fit)), w.3))
 lines_made p n s (a_line k (assigns_at f a b) inner ls) w adds h le names =
     let q = form_parts s k (assigns_at f a b) (lines_fault s inner) (lines_fault s ls) h in
     let d = both (scoped s f) (scoped s a && scoped s b) q.0 in
     let e = both (scoped s a) (scoped s b) d.1 in
-    let r = lines_made p n s ls w.2 adds.1 q.2 le (split (Binds p s) (lines_bind inner) (lines_bind ls) names).1 in (
+    let r = lines_made p n s ls w.2 adds.1 q.2 le (split_all (Binds p s) (lines_bind inner) (lines_bind ls) names).1 in (
       (λ _. tt),
       (λ _. tt),
       λ fit. (
         (term_ranges n s f w.0.0 d.0 le (omega (arith, fit)), term_ranges n s a w.0.1 e.0 le (omega (arith, fit)), term_ranges n s b w.0.2 e.1 le (omega (arith, fit))),
         r.2 (omega (arith, fit)),
+        w.3,
       ),
     )
 lines_made p n s (a_line k (increases y a) inner ls) w adds h le names =
     let q = form_parts s k (increases y a) (lines_fault s inner) (lines_fault s ls) h in
-    let x = split (Binds p s) (lines_bind inner) (lines_bind ls) names.1 in
+    let x = split_all (Binds p s) (lines_bind inner) (lines_bind ls) names.1 in
     let r = lines_made p n s ls w.2 adds.1 q.2 le x.1 in
-    ((λ _. tt), (λ _. tt), λ fit. ((adds.0 refl, target p n s y names.0 le, term_ranges n s a w.0 q.0 le (omega (arith, fit))), r.2 (omega (arith, fit))))
+    ((λ _. tt), (λ _. tt), λ fit. ((adds.0 refl, target p n s y names.0 le, term_ranges n s a w.0 q.0 le (omega (arith, fit))), r.2 (omega (arith, fit)), w.3))
 lines_made p n s (a_line k (increases_at f a b) inner ls) w adds h le names =
     let q = form_parts s k (increases_at f a b) (lines_fault s inner) (lines_fault s ls) h in
     let d = both (scoped s f) (scoped s a && scoped s b) q.0 in
     let e = both (scoped s a) (scoped s b) d.1 in
-    let r = lines_made p n s ls w.2 adds.1 q.2 le (split (Binds p s) (lines_bind inner) (lines_bind ls) names).1 in (
+    let r = lines_made p n s ls w.2 adds.1 q.2 le (split_all (Binds p s) (lines_bind inner) (lines_bind ls) names).1 in (
       (λ _. tt),
       (λ _. tt),
       λ fit. (
         (term_ranges n s f w.0.0 d.0 le (omega (arith, fit)), term_ranges n s a w.0.1 e.0 le (omega (arith, fit)), term_ranges n s b w.0.2 e.1 le (omega (arith, fit))),
         r.2 (omega (arith, fit)),
+        w.3,
       ),
     )
 lines_made p n s (a_line k (evaluates a) inner ls) w adds h le names =
     let q = form_parts s k (evaluates a) (lines_fault s inner) (lines_fault s ls) h in
-    let r = lines_made p n s ls w.2 adds.1 q.2 le (split (Binds p s) (lines_bind inner) (lines_bind ls) names).1 in
-    ((λ _. tt), (λ _. tt), λ fit. (term_ranges n s a w.0 q.0 le (omega (arith, fit)), r.2 (omega (arith, fit))))
+    let r = lines_made p n s ls w.2 adds.1 q.2 le (split_all (Binds p s) (lines_bind inner) (lines_bind ls) names).1 in
+    ((λ _. tt), (λ _. tt), λ fit. (term_ranges n s a w.0 q.0 le (omega (arith, fit)), r.2 (omega (arith, fit)), w.3))
 lines_made p n s (a_line k passes inner ls) w adds h le names =
     let q = form_parts s k passes (lines_fault s inner) (lines_fault s ls) h in
-    let r = lines_made p n s ls w.2 adds.1 q.2 le (split (Binds p s) (lines_bind inner) (lines_bind ls) names).1 in
-    ((λ _. tt), (λ _. tt), λ fit. (tt, r.2 (omega (arith, fit))))
+    let r = lines_made p n s ls w.2 adds.1 q.2 le (split_all (Binds p s) (lines_bind inner) (lines_bind ls) names).1 in
+    ((λ _. tt), (λ _. tt), λ fit. (tt, r.2 (omega (arith, fit)), w.3))
 lines_made p n s (a_line k breaks inner ls) w adds h le names =
     let q = form_parts s k breaks (lines_fault s inner) (lines_fault s ls) h in
-    let r = lines_made p n s ls w.2 adds.1 q.2 le (split (Binds p s) (lines_bind inner) (lines_bind ls) names).1 in
-    ((λ _. tt), (λ _. tt), λ fit. (w.0, r.2 (omega (arith, fit))))
+    let r = lines_made p n s ls w.2 adds.1 q.2 le (split_all (Binds p s) (lines_bind inner) (lines_bind ls) names).1 in
+    ((λ _. tt), (λ _. tt), λ fit. (w.0, r.2 (omega (arith, fit)), w.3))
 lines_made p n s (a_line k continues inner ls) w adds h le names =
     let q = form_parts s k continues (lines_fault s inner) (lines_fault s ls) h in
-    let r = lines_made p n s ls w.2 adds.1 q.2 le (split (Binds p s) (lines_bind inner) (lines_bind ls) names).1 in
-    ((λ _. tt), (λ _. tt), λ fit. (w.0, r.2 (omega (arith, fit))))
+    let r = lines_made p n s ls w.2 adds.1 q.2 le (split_all (Binds p s) (lines_bind inner) (lines_bind ls) names).1 in
+    ((λ _. tt), (λ _. tt), λ fit. (w.0, r.2 (omega (arith, fit)), w.3))
 lines_made p n s (a_line k (returns None) inner ls) w adds h le names =
     let q = form_parts s k (returns None) (lines_fault s inner) (lines_fault s ls) h in
-    let r = lines_made p n s ls w.2 adds.1 q.2 le (split (Binds p s) (lines_bind inner) (lines_bind ls) names).1 in
-    ((λ _. tt), (λ _. tt), λ fit. (w.0, r.2 (omega (arith, fit))))
+    let r = lines_made p n s ls w.2 adds.1 q.2 le (split_all (Binds p s) (lines_bind inner) (lines_bind ls) names).1 in
+    ((λ _. tt), (λ _. tt), λ fit. (w.0, r.2 (omega (arith, fit)), w.3))
 lines_made p n s (a_line k (returns (Some a)) inner ls) w adds h le names =
     let q = form_parts s k (returns (Some a)) (lines_fault s inner) (lines_fault s ls) h in
-    let r = lines_made p n s ls w.2 adds.1 q.2 le (split (Binds p s) (lines_bind inner) (lines_bind ls) names).1 in
-    ((λ _. tt), (λ _. tt), λ fit. ((w.0.0, term_ranges n s a w.0.1 q.0 le (omega (arith, fit))), r.2 (omega (arith, fit))))
+    let r = lines_made p n s ls w.2 adds.1 q.2 le (split_all (Binds p s) (lines_bind inner) (lines_bind ls) names).1 in
+    ((λ _. tt), (λ _. tt), λ fit. ((w.0.0, term_ranges n s a w.0.1 q.0 le (omega (arith, fit))), r.2 (omega (arith, fit)), w.3))
 
 -- the top level breaks no rule of lines, and adds to no name
 pub top_parts : (s : Scope) (before : List Name) (ls : Lines) → top_fault s before ls ≡ None → (lines_fault s ls ≡ None) × AddsWell at_top ls
@@ -263,7 +265,7 @@ statement_numbered p g n k (define j x ps ds m inner) h = h
 
 pub steps_numbered : (p : Around) (g n k : ℕ) (ss : Steps) → AreSteps p g n ss → AreSteps p g n (numbered k ss)
 steps_numbered p g n k no_steps h = tt
-steps_numbered p g n k (step l st ss) h = (statement_numbered p g n k st h.0, steps_numbered p g n (next_number k st) ss h.1)
+steps_numbered p g n k (step l st ss) h = (statement_numbered p g n k st h.0, steps_numbered p g n (next_number k st) ss h.1, h.2)
 
 abbrev Stays : ℕ → Statement → Type 0
 Stays k st = (with_number k (with_number k st) ≡ with_number k st) × (next_number k (with_number k st) ≡ next_number k st)

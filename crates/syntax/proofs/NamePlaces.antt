@@ -118,7 +118,7 @@ distinct_once (x ∷ xs) =
     ∙ distinct_without x (once xs) (distinct_once xs)
 
 -- distinct names stay the first ones
-without_front : (x : Name) (xs zs : List Name) → among x xs ≡ false → without x (xs ++ zs) ≡ xs ++ without x zs
+pub without_front : (x : Name) (xs zs : List Name) → among x xs ≡ false → without x (xs ++ zs) ≡ xs ++ without x zs
 without_front x [] zs h = refl
 without_front x (y ∷ ys) zs h = by (λ k. without_front x ys zs k) (bytes_eq x y) refl
   where

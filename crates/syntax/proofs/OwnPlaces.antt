@@ -54,7 +54,7 @@ there x [] behind = ap (λ b. b || among x behind) (same x)
 there x (z ∷ zs) behind = or_true (bytes_eq x z) (among x (zs ++ x ∷ behind)) (there x zs behind)
 
 -- a name that stands among distinct names stands not before
-not_before : (x : Name) (front behind : List Name) → distinct (front ++ x ∷ behind) ≡ true → among x front ≡ false
+pub not_before : (x : Name) (front behind : List Name) → distinct (front ++ x ∷ behind) ≡ true → among x front ≡ false
 not_before x [] behind h = refl
 not_before x (y ∷ ys) behind h =
     let k = both (not (among y (ys ++ x ∷ behind))) (distinct (ys ++ x ∷ behind)) h in
@@ -76,7 +76,7 @@ counted_before x (y ∷ ys) rest h = by (λ k. counted_before x ys rest k) (byte
         let j : 1 + before_it x (ys ++ x ∷ rest) ≡ suc (length ys) = omega (arith, k) in
         ap (λ b. if b then 0 else 1 + before_it x (ys ++ x ∷ rest)) e ∙ j
 
-place_is : (x : Name) (front rest : List Name) → among x front ≡ false → position (bytes_eq x) (front ++ x ∷ rest) ≡ Some (length front)
+pub place_is : (x : Name) (front rest : List Name) → among x front ≡ false → position (bytes_eq x) (front ++ x ∷ rest) ≡ Some (length front)
 place_is x front rest h =
     let xs = front ++ x ∷ rest in
     let e = sym (is_position_or_len (before_it x) (bytes_eq x) refl (λ y ys. refl) xs) ∙ counted_before x front rest h in

@@ -26,7 +26,7 @@ mutual
   pub term_ranges : (n : ℕ) (s : Scope) (t : bare.Tree) → Well t → scoped s t ≡ true → width s.levels ≤ n → term_slots (term s t) ≤ n
       → IsTerm (length s.globals) n (term s t)
   term_ranges n s (bare.named x) w h le fit = wider (length s.globals) (width s.levels) n (binding_of s x) le (in_range s x h)
-  term_ranges n s (bare.numeral k) w h le fit = tt
+  term_ranges n s (bare.numeral k) w h le fit = w
   term_ranges n s (bare.quoted t) w h le fit = tt
   term_ranges n s (bare.tuple ts) w h le fit = terms_ranges n s ts w h le fit
   term_ranges n s (bare.listing ts) w h le fit = terms_ranges n s ts w h le fit

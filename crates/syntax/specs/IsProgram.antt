@@ -1,8 +1,9 @@
 -- What is so of each file that was read, whatever its text is: what a compiler relies on. Which statements may stand where
 -- is the Starlark specification's rule for `return`, `break` and `continue` ("Return statements", "Break and Continue"), and
 -- this project's own choice for the others.
-use Rattle.std.specs.Prelude.{◌≡◌, ℕ, suc, ◌≤◌, ◌<◌, Bool, true, false, length, None, Some}
+use Rattle.std.specs.Prelude.{◌≡◌, ℕ, zero, suc, ◌+◌, ◌≤◌, ◌<◌, Bool, true, false, List, [], ◌∷◌, ◌++◌, length, map, None, Some}
 use Rattle.std.specs.List.{AllByRecursion}
+use Rattle.lexer.specs.Begins.{greatest_number}
 use Rattle.syntax.specs.Names.{Binding, slot, global, builtin, distinct}
 use Rattle.syntax.specs.Resolved.{OwnSlots, Loaded, Term, named, numeral, quoted, tuple, listing, dict, choice, operates, turned, selects, subscript, invokes, each, each_pair, Terms, no_terms, more_terms, Pairs, no_pairs, more_pairs, Keywords, no_keywords, more_keywords, Rounds, done, for_each, only_if, Statement, load, assign, assign_item, add_to, add_to_item, evaluate, pass, break_loop, continue_loop, give_back, branch, loop, define, Branches, no_branches, a_branch, Steps, no_steps, step, Program, numbered}
 
@@ -25,11 +26,11 @@ begins_with_for (for_each bs a r) = true
 begins_with_for (only_if a r) = false
 
 -- an expression in such a file and frame: what its names stand for is there, and the slots of its comprehensions, which
--- their own names have
+-- their own names have. No number is greater than 9223372036854775807 (own choice)
 abbrev mutual
   pub IsTerm : ℕ → ℕ → Term → Type 0
   IsTerm g n (named b) = IsInRange g n b
-  IsTerm g n (numeral k) = Unit {0}
+  IsTerm g n (numeral k) = k ≤ greatest_number
   IsTerm g n (quoted t) = Unit {0}
   IsTerm g n (tuple ts) = AreTerms g n ts
   IsTerm g n (listing ts) = AreTerms g n ts
@@ -94,7 +95,7 @@ count (more_terms a ts) = suc (count ts)
 
 -- a statement in its place: `load` and `def` at the top level alone, `return`, `if`, `for` and `x += e` in functions alone,
 -- `break` and `continue` in loops of these. A function has distinct parameters, which have its first slots, at most as
--- many defaults, and a frame of its own
+-- many defaults, and a frame of its own. Lines count from 1
 abbrev mutual
   pub IsStatement : Around → ℕ → ℕ → Statement → Type 0
   IsStatement p g n (load m is) = AtTop p × AllByRecursion (λ i. i.binds < g) is
@@ -117,15 +118,49 @@ abbrev mutual
 
   pub AreBranches : Around → ℕ → ℕ → Branches → Type 0
   AreBranches p g n no_branches = Unit {0}
-  AreBranches p g n (a_branch k a inner bs) = IsTerm g n a × AreSteps p g n inner × AreBranches p g n bs
+  AreBranches p g n (a_branch k a inner bs) = IsTerm g n a × AreSteps p g n inner × AreBranches p g n bs × (1 ≤ k)
 
   pub AreSteps : Around → ℕ → ℕ → Steps → Type 0
   AreSteps p g n no_steps = Unit {0}
-  AreSteps p g n (step k st ss) = IsStatement p g n st × AreSteps p g n ss
+  AreSteps p g n (step k st ss) = IsStatement p g n st × AreSteps p g n ss × (1 ≤ k)
 
--- a file: its names are distinct, its functions have their numbers from 1 on, in the order of the text, and its
--- statements stand in their places
+-- the numbers of the names that a statement of the top level binds, in the order of the text: those of a `load`, which
+-- stand for what another module gives, and those of an assignment or a `def`, which are the file's own
+abbrev pub loaded_numbers : Statement → List ℕ
+loaded_numbers (load m is) = map (λ (i : Loaded). i.binds) is
+loaded_numbers st = []
+
+abbrev pub globals_among : List Binding → List ℕ
+globals_among [] = []
+globals_among (slot k ∷ bs) = globals_among bs
+globals_among (global k ∷ bs) = k ∷ globals_among bs
+globals_among (builtin b ∷ bs) = globals_among bs
+
+abbrev pub own_numbers : Statement → List ℕ
+own_numbers (assign bs a) = globals_among bs
+own_numbers (define k x ps ds n inner) = x ∷ []
+own_numbers st = []
+
+-- the same of the statements of the top level
+abbrev pub all_loaded : Steps → List ℕ
+all_loaded no_steps = []
+all_loaded (step k st ss) = loaded_numbers st ++ all_loaded ss
+
+abbrev pub all_own : Steps → List ℕ
+all_own no_steps = []
+all_own (step k st ss) = own_numbers st ++ all_own ss
+
+-- so many numbers, one after the other, from k on
+abbrev pub numbers_from : ℕ → ℕ → List ℕ
+numbers_from k zero = []
+numbers_from k (suc n) = k ∷ numbers_from (suc k) n
+
+-- a file: its names are distinct. Its loads bind the first of them and nothing else does, its other statements those behind,
+-- each once, in the order of the text. Its functions have their numbers from 1 on, in that order too; and its statements
+-- stand in their places
 pub record IsProgram (p : Program) : Type 0 where
   pub globals : distinct p.globals ≡ true
+  pub loads : all_loaded p.steps ≡ numbers_from 0 p.loaded
+  pub own : (n : ℕ) × (length p.globals ≡ p.loaded + n) × (all_own p.steps ≡ numbers_from p.loaded n)
   pub functions : numbered 1 p.steps ≡ p.steps
   pub statements : AreSteps at_top (length p.globals) p.slots p.steps

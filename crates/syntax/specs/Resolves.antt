@@ -1,5 +1,6 @@
 -- What the functions that resolve names ensure.
 use Rattle.std.specs.Prelude.{◌≡◌, ℕ, Bool, true, false, not, ◌&&◌, List, Option, Some, None, Result, Ok, Err, option_map, reverse}
+use Rattle.std.specs.Global.{Box}
 use Rattle.std.specs.declared.alloc.Global.{Global}
 use Rattle.std.specs.declared.vec.Vec.{Vec}
 use denote.Ref.{Bor, MutBor}
@@ -61,12 +62,19 @@ Keeps kept old (Err stop.NoMemory) new = Unit {0}
 abbrev pub GivesTerm : Tree → Scope → Result Term Unresolved → Scope → Type 0
 GivesTerm t = Gives view.term (λ s. scoped s t) (λ s. resolved.term s t)
 
+-- the same behind a box
+abbrev pub boxed_term : Box Term → resolved.Term
+boxed_term b = view.term b.value
+
+abbrev pub GivesBoxed : Tree → Scope → Result (Box Term) Unresolved → Scope → Type 0
+GivesBoxed t = Gives boxed_term (λ s. scoped s t) (λ s. resolved.term s t)
+
 -- what a function ensures that goes into a comprehension with these clauses, and resolves the expression of the first,
 -- which stands outside of its scope
-abbrev pub Enters : Rest → Scope → Result (OwnSlots × Option Term) Unresolved → Scope → Type 0
+abbrev pub Enters : Rest → Scope → Result (OwnSlots × Option (Box Term)) Unresolved → Scope → Type 0
 Enters r old (Ok (own, first)) new =
     ((none_predeclared (clause_names r) && first_scoped old r) ≡ true)
-    × (option_map view.term first ≡ option_map (resolved.term old) (first_tree r))
+    × (option_map boxed_term first ≡ option_map (resolved.term old) (first_tree r))
     × (own ≡ own_slots old r)
     × (new ≡ entered (clause_names r) old)
 Enters r old (Err stop.Breaks) new = ((none_predeclared (clause_names r) && first_scoped old r) ≡ false) × (new ≡ old)

@@ -1,6 +1,6 @@
 //! A file whose names are resolved: what a program that runs it reads.
 
-ghost use Rattle.std.specs.Prelude.{◌≡◌, IfOk};
+ghost use Rattle.std.specs.Prelude.{◌≡◌};
 ghost use Rattle.syntax.specs.ProgramView as view;
 ghost use Rattle.syntax.specs.Resolved as resolved;
 ghost use Rattle.grammar.specs.TreeView.{operator_seen, sign_seen};
@@ -8,7 +8,6 @@ ghost use Rattle.grammar.specs.TreeView.{operator_seen, sign_seen};
 use crate::names::Binding;
 use grammar::{Operator, Sign};
 use plain::Text;
-use std::alloc::{AllocError, Global};
 
 /// The slots of a comprehension's own names: from the first up to the end, which isn't one of them. They are made unset when
 /// its first operand has its value, before its first turn: what stands in that operand may have used the same ones.
@@ -155,78 +154,57 @@ pub struct Step {
     pub statement: Statement,
 }
 
-pub(crate) fn binary(
-    alloc: Global,
-    operator: Operator,
-    left: Term,
-    right: Term,
-) -> Result<Term, AllocError>
-    ensures { IfOk result (λ t. view.term t ≡ resolved.operates (operator_seen operator) (view.term left) (view.term right)) }
+pub(crate) fn binary(operator: Operator, left: Box<Term>, right: Box<Term>) -> Term
+    ensures { view.term result ≡ resolved.operates (operator_seen operator) (view.term left.value) (view.term right.value) }
 {
-    Ok(Term::Binary(operator, Box::new(alloc, left)?, Box::new(alloc, right)?))
+    Term::Binary(operator, left, right)
 }
 
-pub(crate) fn unary(alloc: Global, sign: Sign, operand: Term) -> Result<Term, AllocError>
-    ensures { IfOk result (λ t. view.term t ≡ resolved.turned (sign_seen sign) (view.term operand)) }
+pub(crate) fn unary(sign: Sign, operand: Box<Term>) -> Term
+    ensures { view.term result ≡ resolved.turned (sign_seen sign) (view.term operand.value) }
 {
-    Ok(Term::Unary(sign, Box::new(alloc, operand)?))
+    Term::Unary(sign, operand)
 }
 
-pub(crate) fn choice(alloc: Global, then: Term, test: Term, other: Term) -> Result<Term, AllocError>
-    ensures { IfOk result (λ t. view.term t ≡ resolved.choice (view.term then) (view.term test) (view.term other)) }
+pub(crate) fn choice(then: Box<Term>, test: Box<Term>, other: Box<Term>) -> Term
+    ensures { view.term result ≡ resolved.choice (view.term then.value) (view.term test.value) (view.term other.value) }
 {
-    Ok(Term::Choice(
-        Box::new(alloc, then)?,
-        Box::new(alloc, test)?,
-        Box::new(alloc, other)?,
-    ))
+    Term::Choice(then, test, other)
 }
 
-pub(crate) fn attribute(alloc: Global, of: Term, name: Text) -> Result<Term, AllocError>
-    ensures { IfOk result (λ t. view.term t ≡ resolved.selects (view.term of) name) }
+pub(crate) fn attribute(of: Box<Term>, name: Text) -> Term
+    ensures { view.term result ≡ resolved.selects (view.term of.value) name }
 {
-    Ok(Term::Attribute(Box::new(alloc, of)?, name))
+    Term::Attribute(of, name)
 }
 
-pub(crate) fn index(alloc: Global, of: Term, at: Term) -> Result<Term, AllocError>
-    ensures { IfOk result (λ t. view.term t ≡ resolved.subscript (view.term of) (view.term at)) }
+pub(crate) fn index(of: Box<Term>, at: Box<Term>) -> Term
+    ensures { view.term result ≡ resolved.subscript (view.term of.value) (view.term at.value) }
 {
-    Ok(Term::Index(Box::new(alloc, of)?, Box::new(alloc, at)?))
+    Term::Index(of, at)
 }
 
-pub(crate) fn call(
-    alloc: Global,
-    callee: Term,
-    items: Vec<Term>,
-    named: Vec<Argument>,
-) -> Result<Term, AllocError>
-    ensures { IfOk result (λ t. view.term t ≡ resolved.invokes (view.term callee) (view.terms items.items) (view.keywords named.items)) }
+pub(crate) fn call(callee: Box<Term>, items: Vec<Term>, named: Vec<Argument>) -> Term
+    ensures { view.term result ≡ resolved.invokes (view.term callee.value) (view.terms items.items) (view.keywords named.items) }
 {
-    Ok(Term::Call(Box::new(alloc, callee)?, items, named))
+    Term::Call(callee, items, named)
 }
 
-pub(crate) fn list_each(
-    alloc: Global,
-    own: OwnSlots,
-    element: Term,
-    clauses: Vec<Round>,
-) -> Result<Term, AllocError>
-    ensures { IfOk result (λ t. view.term t ≡ resolved.each own (view.term element) (view.rounds clauses.items)) }
+pub(crate) fn list_each(own: OwnSlots, element: Box<Term>, clauses: Vec<Round>) -> Term
+    ensures { view.term result ≡ resolved.each own (view.term element.value) (view.rounds clauses.items) }
 {
-    Ok(Term::ListEach(own, Box::new(alloc, element)?, clauses))
+    Term::ListEach(own, element, clauses)
 }
 
 pub(crate) fn dict_each(
-    alloc: Global,
     own: OwnSlots,
-    key: Term,
-    value: Term,
+    key: Box<Term>,
+    value: Box<Term>,
     clauses: Vec<Round>,
-) -> Result<Term, AllocError>
-    ensures { IfOk result (λ t. view.term t ≡ resolved.each_pair own (view.term key) (view.term value) (view.rounds clauses.items)) }
+) -> Term
+    ensures { view.term result ≡ resolved.each_pair own (view.term key.value) (view.term value.value) (view.rounds clauses.items) }
 {
-    let key = Box::new(alloc, key)?;
-    Ok(Term::DictEach(own, key, Box::new(alloc, value)?, clauses))
+    Term::DictEach(own, key, value, clauses)
 }
 
 pub(crate) fn tuple(items: Vec<Term>) -> Term

@@ -4,16 +4,16 @@
 
 ghost use Rattle.std.specs.Prelude.{◌≡◌, ◌&&◌, ◌∷◌, [], IfOk, MatchOption, Some, map};
 ghost use Rattle.std.specs.Option.{option_map};
-ghost use Rattle.grammar.specs.Bare.{Rest, Tree, choice as choice_tree, each, each_entry, invokes, operates, subscript};
+ghost use Rattle.grammar.specs.Bare.{Rest, Tree, choice as choice_tree, each, each_entry, invokes, named as name_tree, operates, selects, subscript, turned};
 ghost use Rattle.syntax.specs.Names.{distinct};
 ghost use Rattle.syntax.specs.Names.{Scope as Around};
 ghost use Rattle.syntax.specs.ProgramView as view;
 ghost use Rattle.syntax.specs.ProgramView.{rounds_onto};
 ghost use Rattle.syntax.specs.Resolved as resolved;
 ghost use Rattle.syntax.specs.Resolved.{binding_of};
-ghost use Rattle.syntax.specs.Resolves.{Enters, Gives, GivesTerm, ResolvesInside, first_scoped, first_tree, others_scoped};
+ghost use Rattle.syntax.specs.Resolves.{Enters, Gives, GivesBoxed, GivesTerm, ResolvesInside, boxed_term, first_scoped, first_tree, others_scoped};
 ghost use Rattle.syntax.specs.Scopes.{entries_scoped, keyword_names, keywords_scoped, rest_scoped, scoped, trees_scoped};
-ghost use Rattle.grammar.specs.TreeView.{clause_of, entries, entry_of, keyword_of, keywords, operator_seen, rests, tree_of, trees};
+ghost use Rattle.grammar.specs.TreeView.{clause_of, entries, entry_of, keyword_of, keywords, operator_seen, rests, sign_seen, tree_of, trees};
 
 use crate::bound::clause_names;
 use crate::names::Binding;
@@ -22,7 +22,7 @@ use crate::program::{
     entry, index, keyword, list_each, list_of, name, number, string, tuple, unary,
 };
 use crate::scope::{Scope, are_distinct, none_predeclared};
-use grammar::{Clause, Entry, Expr, Keyword, Operator};
+use grammar::{Clause, Entry, Expr, Keyword, Operator, Sign};
 use plain::Text;
 use std::alloc::{AllocError, AllocFailed, Global};
 
@@ -97,6 +97,7 @@ fn operand(clause: &Clause) -> &Expr
 }
 
 /// A clause of the comprehension whose scope this is, with its expression, which was resolved before.
+#[inline(never)]
 fn round(alloc: Global, scope: &Scope, clause: &Clause, operand: Term) -> Result<Round, AllocError>
     ensures { IfOk result (λ k. (s : Around) (r : Rest) → option_map (resolved.term s) (first_tree (clause_of clause.now r)) ≡ Some (view.term operand) → view.round k (resolved.rounds scope.now scope.now r) ≡ resolved.rounds s scope.now (clause_of clause.now r)) }
 {
@@ -147,6 +148,17 @@ fn names_differ(alloc: Global, named: &[Keyword]) -> Result<bool, AllocError>
     }
 }
 
+/// What a name that is used stands for.
+#[inline(never)]
+fn resolve_name(scope: &Scope, text: &Text) -> Result<Term, Unresolved>
+    ensures { GivesTerm (name_tree text.now) scope.now result scope.now }
+{
+    match scope.stands_for(text) {
+        Some(binding) => Ok(name(binding)),
+        None => Err(Unresolved::Breaks),
+    }
+}
+
 /// Resolves the names of expressions, by what resolves those inside.
 #[derive(Clone, Copy)]
 struct Resolver<F> {
@@ -164,6 +176,17 @@ impl<F: Fn(Global, &mut Scope, &Expr, usize) -> Result<Term, Unresolved>> Resolv
         (self.inside)(self.alloc, scope, expr, self.turns)
     }
 
+    /// The same behind a `Box`, so that those who resolve one inside of another take little of the stack.
+    #[inline(never)]
+    fn boxed(&self, scope: &mut Scope, expr: &Expr) -> Result<Box<Term>, Unresolved>
+        requires { ResolvesInside self.now.turns (F.pre self.now.inside) (F.post self.now.inside) }
+        ensures { GivesBoxed (tree_of expr.now) scope.old result scope.new }
+    {
+        let term = self.one(scope, expr)?;
+        Ok(Box::new(self.alloc, term)?)
+    }
+
+    #[inline(never)]
     fn all(&self, scope: &mut Scope, exprs: &[Expr]) -> Result<Vec<Term>, Unresolved>
         requires { ResolvesInside self.now.turns (F.pre self.now.inside) (F.post self.now.inside) }
         ensures { Gives (λ v. view.terms v.items) (λ s. trees_scoped s (trees exprs.now)) (λ s. resolved.terms s (trees exprs.now)) scope.old result scope.new }
@@ -176,6 +199,7 @@ impl<F: Fn(Global, &mut Scope, &Expr, usize) -> Result<Term, Unresolved>> Resolv
         Ok(found)
     }
 
+    #[inline(never)]
     fn pairs(&self, scope: &mut Scope, written: &[Entry]) -> Result<Vec<Pair>, Unresolved>
         requires { ResolvesInside self.now.turns (F.pre self.now.inside) (F.post self.now.inside) }
         ensures { Gives (λ v. view.pairs v.items) (λ s. entries_scoped s (entries written.now)) (λ s. resolved.pairs s (entries written.now)) scope.old result scope.new }
@@ -191,6 +215,7 @@ impl<F: Fn(Global, &mut Scope, &Expr, usize) -> Result<Term, Unresolved>> Resolv
         Ok(found)
     }
 
+    #[inline(never)]
     fn arguments(&self, scope: &mut Scope, named: &[Keyword]) -> Result<Vec<Argument>, Unresolved>
         requires { ResolvesInside self.now.turns (F.pre self.now.inside) (F.post self.now.inside) }
         ensures { Gives (λ v. view.keywords v.items) (λ s. keywords_scoped s (keywords named.now)) (λ s. resolved.keywords s (keywords named.now)) scope.old result scope.new }
@@ -206,6 +231,7 @@ impl<F: Fn(Global, &mut Scope, &Expr, usize) -> Result<Term, Unresolved>> Resolv
         Ok(found)
     }
 
+    #[inline(never)]
     fn binary(
         &self,
         scope: &mut Scope,
@@ -216,11 +242,12 @@ impl<F: Fn(Global, &mut Scope, &Expr, usize) -> Result<Term, Unresolved>> Resolv
         requires { ResolvesInside self.now.turns (F.pre self.now.inside) (F.post self.now.inside) }
         ensures { GivesTerm (operates (operator_seen operator) (tree_of left.now) (tree_of right.now)) scope.old result scope.new }
     {
-        let left = self.one(scope, left)?;
-        let right = self.one(scope, right)?;
-        Ok(binary(self.alloc, operator, left, right)?)
+        let left = self.boxed(scope, left)?;
+        let right = self.boxed(scope, right)?;
+        Ok(binary(operator, left, right))
     }
 
+    #[inline(never)]
     fn choice(
         &self,
         scope: &mut Scope,
@@ -231,21 +258,41 @@ impl<F: Fn(Global, &mut Scope, &Expr, usize) -> Result<Term, Unresolved>> Resolv
         requires { ResolvesInside self.now.turns (F.pre self.now.inside) (F.post self.now.inside) }
         ensures { GivesTerm (choice_tree (tree_of then.now) (tree_of test.now) (tree_of other.now)) scope.old result scope.new }
     {
-        let then = self.one(scope, then)?;
-        let test = self.one(scope, test)?;
-        let other = self.one(scope, other)?;
-        Ok(choice(self.alloc, then, test, other)?)
+        let then = self.boxed(scope, then)?;
+        let test = self.boxed(scope, test)?;
+        let other = self.boxed(scope, other)?;
+        Ok(choice(then, test, other))
     }
 
+    #[inline(never)]
+    fn unary(&self, scope: &mut Scope, sign: Sign, operand: &Expr) -> Result<Term, Unresolved>
+        requires { ResolvesInside self.now.turns (F.pre self.now.inside) (F.post self.now.inside) }
+        ensures { GivesTerm (turned (sign_seen sign) (tree_of operand.now)) scope.old result scope.new }
+    {
+        let operand = self.boxed(scope, operand)?;
+        Ok(unary(sign, operand))
+    }
+
+    #[inline(never)]
+    fn attribute(&self, scope: &mut Scope, base: &Expr, field: &Text) -> Result<Term, Unresolved>
+        requires { ResolvesInside self.now.turns (F.pre self.now.inside) (F.post self.now.inside) }
+        ensures { GivesTerm (selects (tree_of base.now) field.now) scope.old result scope.new }
+    {
+        let base = self.boxed(scope, base)?;
+        Ok(attribute(base, field.share()?))
+    }
+
+    #[inline(never)]
     fn index(&self, scope: &mut Scope, base: &Expr, at: &Expr) -> Result<Term, Unresolved>
         requires { ResolvesInside self.now.turns (F.pre self.now.inside) (F.post self.now.inside) }
         ensures { GivesTerm (subscript (tree_of base.now) (tree_of at.now)) scope.old result scope.new }
     {
-        let base = self.one(scope, base)?;
-        let at = self.one(scope, at)?;
-        Ok(index(self.alloc, base, at)?)
+        let base = self.boxed(scope, base)?;
+        let at = self.boxed(scope, at)?;
+        Ok(index(base, at))
     }
 
+    #[inline(never)]
     fn call(
         &self,
         scope: &mut Scope,
@@ -256,13 +303,13 @@ impl<F: Fn(Global, &mut Scope, &Expr, usize) -> Result<Term, Unresolved>> Resolv
         requires { ResolvesInside self.now.turns (F.pre self.now.inside) (F.post self.now.inside) }
         ensures { GivesTerm (invokes (tree_of callee.now) (trees items.now) (keywords named.now)) scope.old result scope.new }
     {
-        let callee = self.one(scope, callee)?;
+        let callee = self.boxed(scope, callee)?;
         let items = self.all(scope, items)?;
         if !names_differ(self.alloc, named)? {
             return Err(Unresolved::Breaks);
         }
         let named = self.arguments(scope, named)?;
-        Ok(call(self.alloc, callee, items, named)?)
+        Ok(call(callee, items, named))
     }
 
     /// The expression of the first clause, which stands outside of the scope of its comprehension.
@@ -270,17 +317,18 @@ impl<F: Fn(Global, &mut Scope, &Expr, usize) -> Result<Term, Unresolved>> Resolv
         &self,
         scope: &mut Scope,
         clauses: &[Clause],
-    ) -> Result<Option<Term>, Unresolved>
+    ) -> Result<Option<Box<Term>>, Unresolved>
         requires { ResolvesInside self.now.turns (F.pre self.now.inside) (F.post self.now.inside) }
-        ensures { Gives (option_map view.term) (λ s. first_scoped s (rests clauses.now)) (λ s. option_map (resolved.term s) (first_tree (rests clauses.now))) scope.old result scope.new }
+        ensures { Gives (option_map boxed_term) (λ s. first_scoped s (rests clauses.now)) (λ s. option_map (resolved.term s) (first_tree (rests clauses.now))) scope.old result scope.new }
     {
         match split(clauses) {
-            Some((first, _)) => Ok(Some(self.one(scope, operand(first))?)),
+            Some((first, _)) => Ok(Some(self.boxed(scope, operand(first))?)),
             None => Ok(None),
         }
     }
 
     /// Adds clauses that all stand in the scope of their comprehension.
+    #[inline(never)]
     fn add_rounds(
         &self,
         scope: &mut Scope,
@@ -299,19 +347,20 @@ impl<F: Fn(Global, &mut Scope, &Expr, usize) -> Result<Term, Unresolved>> Resolv
     }
 
     /// The clauses of the comprehension whose scope this is, of which the first has its expression already.
+    #[inline(never)]
     fn rounds(
         &self,
         scope: &mut Scope,
-        first: Option<Term>,
+        first: Option<Box<Term>>,
         clauses: &[Clause],
     ) -> Result<Vec<Round>, Unresolved>
         requires { ResolvesInside self.now.turns (F.pre self.now.inside) (F.post self.now.inside) }
-        ensures { (s : Around) → option_map view.term first ≡ option_map (resolved.term s) (first_tree (rests clauses.now)) → Gives (λ v. view.rounds v.items) (λ t. others_scoped t (rests clauses.now)) (λ t. resolved.rounds s t (rests clauses.now)) scope.old result scope.new }
+        ensures { (s : Around) → option_map boxed_term first ≡ option_map (resolved.term s) (first_tree (rests clauses.now)) → Gives (λ v. view.rounds v.items) (λ t. others_scoped t (rests clauses.now)) (λ t. resolved.rounds s t (rests clauses.now)) scope.old result scope.new }
     {
         let mut found = Vec::new(self.alloc);
         if let Some(value) = first {
             if let Some((clause, others)) = split(clauses) {
-                let made = round(self.alloc, scope, clause, value)?;
+                let made = round(self.alloc, scope, clause, Box::into_inner(value))?;
                 found.push(made)?;
                 self.add_rounds(scope, &mut found, others)?;
             }
@@ -324,13 +373,13 @@ impl<F: Fn(Global, &mut Scope, &Expr, usize) -> Result<Term, Unresolved>> Resolv
         &self,
         scope: &mut Scope,
         element: &Expr,
-        first: Option<Term>,
+        first: Option<Box<Term>>,
         clauses: &[Clause],
-    ) -> Result<(Term, Vec<Round>), Unresolved>
+    ) -> Result<(Box<Term>, Vec<Round>), Unresolved>
         requires { ResolvesInside self.now.turns (F.pre self.now.inside) (F.post self.now.inside) }
-        ensures { (s : Around) → option_map view.term first ≡ option_map (resolved.term s) (first_tree (rests clauses.now)) → Gives {B = resolved.Term × resolved.Rounds} (λ p. (view.term p.0, view.rounds p.1.items)) (λ t. scoped t (tree_of element.now) && others_scoped t (rests clauses.now)) (λ t. (resolved.term t (tree_of element.now), resolved.rounds s t (rests clauses.now))) scope.old result scope.new }
+        ensures { (s : Around) → option_map boxed_term first ≡ option_map (resolved.term s) (first_tree (rests clauses.now)) → Gives {B = resolved.Term × resolved.Rounds} (λ p. (boxed_term p.0, view.rounds p.1.items)) (λ t. scoped t (tree_of element.now) && others_scoped t (rests clauses.now)) (λ t. (resolved.term t (tree_of element.now), resolved.rounds s t (rests clauses.now))) scope.old result scope.new }
     {
-        let element = self.one(scope, element)?;
+        let element = self.boxed(scope, element)?;
         let rounds = self.rounds(scope, first, clauses)?;
         Ok((element, rounds))
     }
@@ -341,24 +390,25 @@ impl<F: Fn(Global, &mut Scope, &Expr, usize) -> Result<Term, Unresolved>> Resolv
         scope: &mut Scope,
         key: &Expr,
         value: &Expr,
-        first: Option<Term>,
+        first: Option<Box<Term>>,
         clauses: &[Clause],
-    ) -> Result<(Term, Term, Vec<Round>), Unresolved>
+    ) -> Result<(Box<Term>, Box<Term>, Vec<Round>), Unresolved>
         requires { ResolvesInside self.now.turns (F.pre self.now.inside) (F.post self.now.inside) }
-        ensures { (s : Around) → option_map view.term first ≡ option_map (resolved.term s) (first_tree (rests clauses.now)) → Gives {B = resolved.Term × resolved.Term × resolved.Rounds} (λ p. (view.term p.0, view.term p.1, view.rounds p.2.items)) (λ t. scoped t (tree_of key.now) && (scoped t (tree_of value.now) && others_scoped t (rests clauses.now))) (λ t. (resolved.term t (tree_of key.now), resolved.term t (tree_of value.now), resolved.rounds s t (rests clauses.now))) scope.old result scope.new }
+        ensures { (s : Around) → option_map boxed_term first ≡ option_map (resolved.term s) (first_tree (rests clauses.now)) → Gives {B = resolved.Term × resolved.Term × resolved.Rounds} (λ p. (boxed_term p.0, boxed_term p.1, view.rounds p.2.items)) (λ t. scoped t (tree_of key.now) && (scoped t (tree_of value.now) && others_scoped t (rests clauses.now))) (λ t. (resolved.term t (tree_of key.now), resolved.term t (tree_of value.now), resolved.rounds s t (rests clauses.now))) scope.old result scope.new }
     {
-        let key = self.one(scope, key)?;
-        let value = self.one(scope, value)?;
+        let key = self.boxed(scope, key)?;
+        let value = self.boxed(scope, value)?;
         let rounds = self.rounds(scope, first, clauses)?;
         Ok((key, value, rounds))
     }
 
     /// Goes into a comprehension, and gives its slots and the expression of its first clause.
+    #[inline(never)]
     fn enter(
         &self,
         scope: &mut Scope,
         clauses: &[Clause],
-    ) -> Result<(OwnSlots, Option<Term>), Unresolved>
+    ) -> Result<(OwnSlots, Option<Box<Term>>), Unresolved>
         requires { ResolvesInside self.now.turns (F.pre self.now.inside) (F.post self.now.inside) }
         ensures { Enters (rests clauses.now) scope.old result scope.new }
     {
@@ -371,6 +421,7 @@ impl<F: Fn(Global, &mut Scope, &Expr, usize) -> Result<Term, Unresolved>> Resolv
         Ok((own, first))
     }
 
+    #[inline(never)]
     fn list_each(
         &self,
         scope: &mut Scope,
@@ -384,9 +435,10 @@ impl<F: Fn(Global, &mut Scope, &Expr, usize) -> Result<Term, Unresolved>> Resolv
         let inside = self.in_list(scope, element, first, clauses);
         scope.leave();
         let (element, rounds) = inside?;
-        Ok(list_each(self.alloc, own, element, rounds)?)
+        Ok(list_each(own, element, rounds))
     }
 
+    #[inline(never)]
     fn dict_each(
         &self,
         scope: &mut Scope,
@@ -401,7 +453,7 @@ impl<F: Fn(Global, &mut Scope, &Expr, usize) -> Result<Term, Unresolved>> Resolv
         let inside = self.in_dict(scope, key, value, first, clauses);
         scope.leave();
         let (key, value, rounds) = inside?;
-        Ok(dict_each(self.alloc, own, key, value, rounds)?)
+        Ok(dict_each(own, key, value, rounds))
     }
 
     fn expr(&self, scope: &mut Scope, expr: &Expr) -> Result<Term, Unresolved>
@@ -409,10 +461,7 @@ impl<F: Fn(Global, &mut Scope, &Expr, usize) -> Result<Term, Unresolved>> Resolv
         ensures { GivesTerm (tree_of expr.now) scope.old result scope.new }
     {
         match expr {
-            Expr::Name(text) => match scope.stands_for(text) {
-                Some(binding) => Ok(name(binding)),
-                None => Err(Unresolved::Breaks),
-            },
+            Expr::Name(text) => resolve_name(scope, text),
             Expr::Number(value) => Ok(number(*value)),
             Expr::Str(text) => Ok(string(text.share()?)),
             Expr::Tuple(items) => Ok(tuple(self.all(scope, items.as_slice())?)),
@@ -420,11 +469,8 @@ impl<F: Fn(Global, &mut Scope, &Expr, usize) -> Result<Term, Unresolved>> Resolv
             Expr::DictOf(written) => Ok(dict_of(self.pairs(scope, written.as_slice())?)),
             Expr::Choice(then, test, other) => self.choice(scope, then, test, other),
             Expr::Binary(operator, left, right) => self.binary(scope, *operator, left, right),
-            Expr::Unary(sign, operand) => Ok(unary(self.alloc, *sign, self.one(scope, operand)?)?),
-            Expr::Attribute(base, field) => {
-                let base = self.one(scope, base)?;
-                Ok(attribute(self.alloc, base, field.share()?)?)
-            }
+            Expr::Unary(sign, operand) => self.unary(scope, *sign, operand),
+            Expr::Attribute(base, field) => self.attribute(scope, base, field),
             Expr::Index(base, at) => self.index(scope, base, at),
             Expr::Call(callee, items, named) => {
                 self.call(scope, callee, items.as_slice(), named.as_slice())

@@ -177,6 +177,7 @@ pub(crate) struct Later {
 }
 
 /// A line with its names resolved, but for those of its block; or its number.
+#[inline(never)]
 fn head_of(alloc: Global, scope: &mut Scope, line: &Line) -> Result<Head, Stopped>
     ensures { Places (λ s. unless (out-Line line.now).number (line_scoped s (form_of (out-Line line.now).form))) (λ h s. head_seen h ≡ head s (form_of (out-Line line.now).form)) scope.old result scope.new }
 {
@@ -188,6 +189,7 @@ fn head_of(alloc: Global, scope: &mut Scope, line: &Line) -> Result<Head, Stoppe
 }
 
 /// Goes into the block of a line: that of a function has a scope of its own. Gives the levels to go back to from one.
+#[inline(never)]
 fn enter_block(
     alloc: Global,
     scope: &mut Scope,
@@ -210,6 +212,7 @@ fn enter_block(
 }
 
 /// Goes back from a block.
+#[inline(never)]
 fn leave_block(scope: &mut Scope, around: Option<Levels>)
     ensures { scope.new ≡ back around scope.old }
 {
@@ -220,6 +223,7 @@ fn leave_block(scope: &mut Scope, around: Option<Levels>)
 
 /// A line and its block with their names resolved.
 #[cycle(blocks)]
+#[inline(never)]
 fn line_and_block(alloc: Global, scope: &mut Scope, line: &Line) -> Result<(Head, Inner), Stopped>
     ensures { Places (λ s. own_fault s line.now) (λ m s. IsOwn s line.now m.0 m.1) scope.old result scope.new }
 {
@@ -280,6 +284,7 @@ fn follows(
 }
 
 /// A line before those that were gone through.
+#[inline(never)]
 fn before(
     alloc: Global,
     line: &Line,
@@ -303,6 +308,7 @@ fn before(
 }
 
 /// The statements of lines that were gone through, or the first that breaks a rule.
+#[inline(never)]
 fn ended(later: Later) -> Result<Vec<Step>, Stopped>
     ensures { (s : Around) (rest : Lines) → IsLater s rest later → PlacesSteps (λ s. lines_fault s rest) (λ s. steps_of s rest) s result s }
 {
@@ -321,6 +327,7 @@ fn ended(later: Later) -> Result<Vec<Step>, Stopped>
 /// [`Stopped::At`] the first line that breaks a rule of scopes. [`Stopped::NoMemory`] where memory was refused, or an
 /// expression is deeper than those of any text that was read.
 #[cycle(blocks)]
+#[inline(never)]
 fn resolve_lines(alloc: Global, scope: &mut Scope, lines: &[Line]) -> Result<Vec<Step>, Stopped>
     ensures { PlacesSteps (λ s. lines_fault s (seen.lines lines.now)) (λ s. steps_of s (seen.lines lines.now)) scope.old result scope.new }
 {
