@@ -1,10 +1,10 @@
 -- An input that grows by a file.
 use Rattle.std.proofs.Common.{◌≡◌, ◌∙◌, ◌⊎◌, ◌<◌, ◌≤◌, ◌+◌, ◌++◌, ℕ, suc, Bool, true, false, List, [], ◌∷◌, length, refl, ap, ap₂, sym, subst, inl, inr, arith, drop, take, get_or, length-append, length-drop, lit<}
-use Rattle.std.specs.Prelude.{All, Contains, IfOk, IsUtf8, Result, Ok, Err, if◌then◌else◌, nat_lt}
+use Rattle.std.specs.Prelude.{All, Contains, IfOk, IsUtf8, Result, Ok, Err, if◌then◌else◌, nat_lt, min, not, cond, ◌^◌, ◌-◌}
 use Rattle.std.specs.declared.cmp.Ordering.{Ordering}
 use Rattle.std.specs.declared.cmp.Ordering.TheVariants.{Less}
 use Rattle.std.specs.Cmp.Lexicographic.{slice_cmp}
-use Rattle.std.specs.List.{AllByRecursion, IsDistinct, list_all}
+use Rattle.std.specs.List.{AllByRecursion, IsDistinct, count_by, list_all}
 use Rattle.std.specs.List.Sorted.{IsStrictlySortedBy}
 use Rattle.std.specs.Ordering.{is_eq, nat_cmp}
 use Rattle.std.specs.Str.{bytes_eq}
@@ -13,18 +13,21 @@ use Rattle.std.proofs.lemmas.List.{get_or-take, get_or_default, length-take-le, 
 use Rattle.std.proofs.Math.Seq.{drop-cons}
 use Rattle.std.proofs.lemmas.List.Elements.{All-head, All-nil, All-push, All-tail, All-weaker, Contains-append_left, Contains-push, Contains-push_cases}
 use Rattle.std.proofs.lemmas.List.Folds.{list_all-append}
+use Rattle.std.proofs.lemmas.List.Sums.{sum_by-append}
 use Rattle.std.proofs.lemmas.Map.Keys.{Less-from_sorted}
 use Rattle.std.proofs.lemmas.Map.Text.{is_eq-slice_cmp}
 use Rattle.std.proofs.lemmas.Str.{IsUtf8-append, IsUtf8-nil}
 use Rattle.json.proofs.Printed.Utf8.{IsUtf8-are_ascii}
 use Rattle.request.specs.Input.{Spells, input_limit}
+use Rattle.workspace.specs.FileKinds.{is_build_file, is_module}
 use Rattle.workspace.specs.Workspaces.{IsWorkspace, Pair, is_file, paths_of}
 use Rattle.packing.specs.Folders.{At, Reaches, below, here, inside}
 use Rattle.packing.specs.Inputs.{begun_text, comma, input_text, pair_text}
-use Rattle.packing.specs.Packs.{AreAscending, HasCause, IsOf, Packs}
+use Rattle.packing.specs.Packs.{AreAscending, HasCause, IsOf, Packs, counts_of, how_many, is_used}
 use Rattle.packing.specs.Walks.{IsWalked}
-use Rattle.packing.specs.Writing.{ArePacked, Exceeds, IsTooMuch, Leaves, Puts, Takes, Written}
+use Rattle.packing.specs.Writing.{ArePacked, Exceeds, IsTooMuch, Leaves, Puts, Takes, Written, counted_too, one_more}
 use Rattle.packing.specs.declared.leaving.LeftOut.{LeftOut}
+use Rattle.packing.specs.declared.writing.Counts.{Counts}
 use Rattle.packing.specs.declared.whole.PackStop.{PackStop}
 use Rattle.packing.specs.declared.whole.Packed.{Packed}
 use Rattle.packing.specs.declared.walk.Walk.{Walk}
@@ -64,9 +67,10 @@ ascending-distinct (x ∷ xs) h = (each_differs x xs h.0, ascending-distinct xs 
 pub takes-put : (at : At) (path text : List ℕ) (old : Writing) (r : Result Writing WriteStop)
     → IfOk r (λ w. w.input.items ≡ old.input.items ++ (comma old.input.items ++ pair_text (path, text)))
     → IfOk r (λ _. IsUtf8 (pair_text (path, text))) → IfOk r (λ w. length w.input.items < input_limit) → IfOk r (λ w. w.left ≡ old.left)
+    → IfOk r (λ w. w.counts ≡ counted_too path old.counts)
     → is_file (path, text) ≡ true → IsOf (at path) (path, text) → IfOk r (Takes at path old)
-takes-put at path text old (Err e) input utf8 limit left file of = tt
-takes-put at path text old (Ok w) input utf8 limit left file of = record {
+takes-put at path text old (Err e) input utf8 limit left counted file of = tt
+takes-put at path text old (Ok w) input utf8 limit left counted file of = record {
   taken = λ pairs begun. inl (record {
     text = text;
     begun = input ∙ ap (λ i. i ++ (comma i ++ pair_text (path, text))) begun ∙ sym (begun-push pairs (path, text));
@@ -74,6 +78,7 @@ takes-put at path text old (Ok w) input utf8 limit left file of = record {
     file = file;
     of = of;
     left = ap (λ l. l.items) left;
+    counted = counted;
   });
   utf8 = λ h.
       subst IsUtf8 (sym input) (IsUtf8-append old.input.items (comma old.input.items ++ pair_text (path, text)) h
@@ -108,6 +113,23 @@ packed-push at keys i d ps text ascending lt within packed file of = record {
 
 paths-push : (ps : List Pair) (path text : List ℕ) → paths_of (ps ++ (path, text) ∷ []) ≡ paths_of ps ++ path ∷ []
 paths-push ps path text = map-append (λ (p : Pair). p.0) ps ((path, text) ∷ [])
+
+-- a path more is counted
+one_counted : (f : List ℕ → Bool) (x : List ℕ) (b : Bool) → f x ≡ b → count_by f (x ∷ []) ≡ cond b 1 0
+one_counted f x true e = rw e refl
+one_counted f x false e = rw e refl
+
+one_more-min : (b : Bool) (n m : ℕ) → m ≡ n + cond b 1 0 → one_more b (min n (2 ^ 64 - 1)) ≡ min m (2 ^ 64 - 1)
+one_more-min true n m e = omega (arith, e)
+one_more-min false n m e = omega (arith, e)
+
+how_many-push : (f : List ℕ → Bool) (xs : List (List ℕ)) (x : List ℕ) → one_more (f x) (how_many f xs) ≡ how_many f (xs ++ x ∷ [])
+how_many-push f xs x =
+    let whole : count_by f (xs ++ x ∷ []) ≡ count_by f xs + count_by f (x ∷ []) = sum_by-append (λ y. cond (f y) 1 0) xs (x ∷ []) in
+    one_more-min (f x) (count_by f xs) (count_by f (xs ++ x ∷ [])) (whole ∙ ap (λ (n : ℕ). count_by f xs + n) (one_counted f x (f x) refl))
+
+counts-push : (xs : List (List ℕ)) (x : List ℕ) → counted_too x (counts_of xs) ≡ counts_of (xs ++ x ∷ [])
+counts-push xs x = rw (how_many-push is_build_file xs x, how_many-push is_module xs x, how_many-push (λ y. not (is_used y)) xs x) refl
 
 abbrev Done : List LeftOut → List Pair → List ℕ → Type 0
 Done left ps path = Contains (paths_of ps) path ⊎ ((l : LeftOut) × Contains left l × (l.path ≡ path))
@@ -154,6 +176,8 @@ written-step at keys i d before old new ascending lt h t = elim (t.taken h.pairs
       ];
       kept = λ l k. subst (λ (ls : List LeftOut). Contains ls l) (sym p.left) (h.kept l k);
       causes = subst (All (HasCause at)) (sym p.left) h.causes;
+      counted = p.counted ∙ ap (counted_too (get_or keys i d)) h.counted ∙ counts-push (paths_of h.pairs) (get_or keys i d)
+          ∙ ap counts_of (sym (paths-push h.pairs (get_or keys i d) p.text));
     }
 
     left : Leaves at (get_or keys i d) old new → Written at (take (i + 1) keys) before new
@@ -173,6 +197,7 @@ written-step at keys i d before old new ascending lt h t = elim (t.taken h.pairs
       ];
       kept = λ l k. subst (λ (ls : List LeftOut). Contains ls l) (sym n.left) (Contains-append_left old.left.items (n.named ∷ []) l (h.kept l k));
       causes = subst (All (HasCause at)) (sym n.left) (All-push (HasCause at) old.left.items n.named h.causes n.cause);
+      counted = n.counted ∙ h.counted;
     }
 
 -- ---- all files
@@ -182,8 +207,8 @@ unfolding IsStrictlySortedBy
 ascending-nil = tt
 
 pub written-none : (at : At) (before : List LeftOut) (w : Writing) → w.input.items ≡ begun_text [] → w.left.items ≡ before
-    → All (HasCause at) before → Written at [] before w
-written-none at before w is left causes =
+    → All (HasCause at) before → w.counts ≡ counts_of [] → Written at [] before w
+written-none at before w is left causes counted =
     let bracket : w.input.items ≡ 91 ∷ [] = is ∙ begun-nil in record {
       pairs = [];
       packed = record { files = refl; ascending = ascending-nil; of = All-nil (λ (p : Pair). IsOf (at p.0) p) };
@@ -194,6 +219,7 @@ written-none at before w is left causes =
       whole = λ path k. absurd (nothing path k);
       kept = λ l k. subst (λ (ls : List LeftOut). Contains ls l) (sym left) k;
       causes = subst (All (HasCause at)) (sym left) causes;
+      counted = counted;
     }
   where
     nothing : (p : List ℕ) → Contains [] p → ⊥
@@ -263,9 +289,10 @@ whole_input at done before w h input is =
 
 pub packs-closed : (at : At) (walk : Walk) (w : Writing) (r : Result Packed PackStop) → IsWalked at walk
     → Written at walk.files.keys walk.left.items w
-    → IfOk r (λ p. p.input.items ≡ w.input.items ++ 93 ∷ []) → IfOk r (λ p. p.left ≡ w.left) → IfOk r (λ p. Packs at p.left.items p.input.items)
-packs-closed at walk w (Err e) walked h input left = tt
-packs-closed at walk w (Ok p) walked h input left = record {
+    → IfOk r (λ p. p.input.items ≡ w.input.items ++ 93 ∷ []) → IfOk r (λ p. p.left ≡ w.left) → IfOk r (λ p. p.counts ≡ w.counts)
+    → IfOk r (Packs at)
+packs-closed at walk w (Err e) walked h input left counted = tt
+packs-closed at walk w (Ok p) walked h input left counted = record {
   workspace = h.pairs;
   spelt = whole_input at walk.files.keys walk.left.items w h p.input.items input;
   ascending = h.packed.ascending;
@@ -287,6 +314,7 @@ packs-closed at walk w (Ok p) walked h input left = record {
     )
   ];
   causes = subst (All (HasCause at)) (sym same) h.causes;
+  counted = counted ∙ h.counted;
 }
   where
     same : p.left.items ≡ w.left.items

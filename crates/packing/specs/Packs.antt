@@ -1,6 +1,7 @@
 -- What is packed of a folder, and what is left out (docs/REPORT.md, "bzlan_pack"; this project's own choice).
-use Rattle.std.specs.Prelude.{◌≡◌, ◌⊎◌, ℕ, Bool, true, false, ◌||◌, if◌then◌else◌, List, [], codes, Option, Some, None, Contains, All, IsUtf8, ⊤}
+use Rattle.std.specs.Prelude.{◌≡◌, ◌⊎◌, ◌+◌, ◌-◌, ◌^◌, ℕ, Bool, true, false, not, ◌||◌, min, if◌then◌else◌, List, [], codes, Option, Some, None, Contains, All, IsUtf8, ⊤}
 use Rattle.std.specs.Cmp.Lexicographic.{slice_cmp}
+use Rattle.std.specs.List.{count_by}
 use Rattle.std.specs.List.Sorted.{IsStrictlySortedBy}
 use Rattle.std.specs.Ordering.{nat_cmp}
 use Rattle.std.specs.Str.{bytes_eq}
@@ -12,6 +13,8 @@ use Rattle.packing.specs.Folders.{At, IsLonger, Node, Reaches, file, folder, lin
 use Rattle.packing.specs.declared.leaving.LeftOut.{LeftOut}
 use Rattle.packing.specs.declared.leaving.Reason.{Reason}
 use Rattle.packing.specs.declared.leaving.Reason.TheVariants as reason
+use Rattle.packing.specs.declared.whole.Packed.{Packed}
+use Rattle.packing.specs.declared.writing.Counts.{Counts}
 
 -- a `BUILD` file or a module: the text is used
 abbrev pub is_used : List ℕ → Bool
@@ -74,12 +77,27 @@ IsNamed at left path = (l : LeftOut) × Contains left l × Reaches at l.path pat
 abbrev pub AreAscending : List (List ℕ) → Type 0
 AreAscending paths = IsStrictlySortedBy (slice_cmp nat_cmp) paths
 
+-- how many of some paths are such; the count stays at the greatest u64
+abbrev pub how_many : (List ℕ → Bool) → List (List ℕ) → ℕ
+how_many f paths = min (count_by f paths) (2 ^ 64 - 1)
+
+-- how many of some files there are of each kind
+abbrev pub counts_of : List (List ℕ) → Counts
+counts_of paths = record {
+  packages = how_many is_build_file paths;
+  modules = how_many is_module paths;
+  sources = how_many (λ path. not (is_used path)) paths;
+}
+
 -- what is written spells a workspace: its pairs ascend by their paths, and each is of a file of the folder. Each file
--- that a walk reaches is one of them, or is named as left out, and each that is named has its cause
-pub record Packs (at : At) (left : List LeftOut) (input : List ℕ) : Type 0 where
+-- that a walk reaches is one of them, or is named as left out, and each that is named has its cause. The files are counted
+-- by their kinds
+pub record Packs (at : At) (p : Packed) : Type 0 where
   pub workspace : List Pair
-  pub spelt : Spells input workspace
+  pub spelt : Spells p.input.items workspace
   pub ascending : AreAscending (paths_of workspace)
-  pub of : All (λ p. IsOf (at p.0) p) workspace
-  pub whole : (path : List ℕ) → Reaches at [] path → Contains (paths_of workspace) path ⊎ IsNamed at left path
-  pub causes : All (HasCause at) left
+  pub of : All (λ q. IsOf (at q.0) q) workspace
+  pub whole : (path : List ℕ) → Reaches at [] path
+      → Contains (paths_of workspace) path ⊎ IsNamed at p.left.items path
+  pub causes : All (HasCause at) p.left.items
+  pub counted : p.counts ≡ counts_of (paths_of workspace)

@@ -4,7 +4,7 @@ use Rattle.devices.specs.Devices.{WritesBeginning}
 use Rattle.packing.specs.Folders.{At}
 use Rattle.packing.specs.Packs.{HasCause, Packs}
 use Rattle.packing.specs.Writing.{IsTooMuch}
-use Rattle.packing.specs.declared.leaving.LeftOut.{LeftOut}
+use Rattle.packing.specs.declared.whole.Packed.{Packed}
 use Rattle.packing.specs.declared.whole.PackStop.{PackStop}
 use Rattle.packing.specs.declared.whole.PackStop.TheVariants as stop
 
@@ -19,4 +19,4 @@ Refuses at strict stop.Write = ⊤
 
 -- a beginning of an input was written
 abbrev pub BeginsInput : At → Option (List ℕ) → Option (List ℕ) → Type 0
-BeginsInput at old new = (left : List LeftOut) × (input : List ℕ) × Packs at left input × WritesBeginning old new input
+BeginsInput at old new = (p : Packed) × Packs at p × WritesBeginning old new p.input.items

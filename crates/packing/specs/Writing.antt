@@ -1,15 +1,30 @@
 -- An input that is written file by file.
-use Rattle.std.specs.Prelude.{◌≡◌, ◌<◌, ◌≤◌, ◌⊎◌, ◌++◌, ℕ, true, List, [], ◌∷◌, length, All, Contains, IsUtf8, ⊤}
+use Rattle.std.specs.Prelude.{◌≡◌, ◌<◌, ◌≤◌, ◌⊎◌, ◌++◌, ◌+◌, ◌-◌, ◌^◌, ℕ, Bool, true, false, not, min, List, [], ◌∷◌, length, All, Contains, IsUtf8, ⊤}
 use Rattle.std.specs.List.{list_all}
 use Rattle.request.specs.Input.{input_limit}
+use Rattle.workspace.specs.FileKinds.{is_build_file, is_module}
 use Rattle.workspace.specs.Workspaces.{Pair, is_file, paths_of}
 use Rattle.packing.specs.Folders.{At}
 use Rattle.packing.specs.Inputs.{begun_text, comma, input_text, pair_text}
-use Rattle.packing.specs.Packs.{AreAscending, HasCause, IsOf}
+use Rattle.packing.specs.Packs.{AreAscending, HasCause, IsOf, counts_of, is_used}
 use Rattle.packing.specs.declared.leaving.LeftOut.{LeftOut}
+use Rattle.packing.specs.declared.writing.Counts.{Counts}
 use Rattle.packing.specs.declared.writing.Writing.{Writing}
 use Rattle.packing.specs.declared.writing.WriteStop.{WriteStop}
 use Rattle.packing.specs.declared.writing.WriteStop.TheVariants as stop
+
+-- a count with one more, where there is one
+abbrev pub one_more : Bool → ℕ → ℕ
+one_more true n = min (n + 1) (2 ^ 64 - 1)
+one_more false n = n
+
+-- the counts with the file at this path
+abbrev pub counted_too : List ℕ → Counts → Counts
+counted_too path c = record {
+  packages = one_more (is_build_file path) c.packages;
+  modules = one_more (is_module path) c.modules;
+  sources = one_more (not (is_used path)) c.sources;
+}
 
 -- the file's pair is put behind the others
 pub record Puts (at : At) (path : List ℕ) (old new : Writing) (pairs : List Pair) : Type 0 where
@@ -19,6 +34,7 @@ pub record Puts (at : At) (path : List ℕ) (old new : Writing) (pairs : List Pa
   pub file : is_file (path, text) ≡ true
   pub of : IsOf (at path) (path, text)
   pub left : new.left.items ≡ old.left.items
+  pub counted : new.counts ≡ counted_too path old.counts
 
 -- the file is named as left out
 pub record Leaves (at : At) (path : List ℕ) (old new : Writing) : Type 0 where
@@ -27,6 +43,7 @@ pub record Leaves (at : At) (path : List ℕ) (old new : Writing) : Type 0 where
   pub names : named.path ≡ path
   pub left : new.left.items ≡ old.left.items ++ named ∷ []
   pub cause : HasCause at named
+  pub counted : new.counts ≡ old.counts
 
 -- one file more
 pub record Takes (at : At) (path : List ℕ) (old new : Writing) : Type 0 where
@@ -56,6 +73,7 @@ pub record Written (at : At) (done : List (List ℕ)) (before : List LeftOut) (w
       → Contains (paths_of pairs) path ⊎ ((l : LeftOut) × Contains w.left.items l × (l.path ≡ path))
   pub kept : (l : LeftOut) → Contains before l → Contains w.left.items l
   pub causes : All (HasCause at) w.left.items
+  pub counted : w.counts ≡ counts_of (paths_of pairs)
 
 -- the pairs of some files spell more than the limit
 abbrev pub IsTooMuch : At → Type 0

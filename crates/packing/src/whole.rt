@@ -82,6 +82,7 @@ fn greatest<F: Folder>(
 fn closed(mut writing: Writing) -> Result<Packed, PackStop>
     ensures input { IfOk result (λ p. p.input.items ≡ writing.input.items ++ 93 ∷ []) }
     ensures left { IfOk result (λ p. p.left ≡ writing.left) }
+    ensures counted { IfOk result (λ p. p.counts ≡ writing.counts) }
     ensures memory { IfErr result (λ e. e ≡ PackStop.NoMemory) }
 {
     match writing.input.push(b']') {
@@ -100,7 +101,7 @@ fn closed(mut writing: Writing) -> Result<Packed, PackStop>
 ///
 /// `Root`, `TooLong` and `NoMemory`.
 fn pack_folder<F: Folder>(folder: &F, alloc: Global) -> Result<Packed, PackStop>
-    ensures packs { IfOk result (λ p. Packs (F.at folder.now) p.left.items p.input.items) }
+    ensures packs { IfOk result (Packs (F.at folder.now)) }
     ensures refuses { IfErr result (λ e. (strict : Bool) → Refuses (F.at folder.now) strict e) }
     ensures unwritten { result ≡ Err PackStop.Write → ⊥ }
 {
@@ -139,7 +140,7 @@ pub fn pack<F: Folder, K: Sink>(
     strict: bool,
     sink: &mut K,
 ) -> Result<Packed, PackStop>
-    ensures packs { IfOk result (λ p. Packs (F.at folder.now) p.left.items p.input.items) }
+    ensures packs { IfOk result (Packs (F.at folder.now)) }
     ensures strict { IfOk result (λ p. strict ≡ true → p.left.items ≡ []) }
     ensures writes { IfOk result
         (λ p. Appends (K.contents sink.old) (K.contents sink.new) p.input.items) }

@@ -5,9 +5,9 @@
 ghost use Rattle.std.specs.Prelude.{◌≡◌, ◌≤◌, ◌++◌, [], ◌∷◌, Err, IfErr, IfOk, OnOk, All, Contains, List, ℕ, length, ◌<◌, IsUtf8, string_bytes, string_len, true};
 ghost use Rattle.packing.specs.Folders.{At, IsFile};
 ghost use Rattle.packing.specs.Inputs.{begun_text, comma, pair_text};
-ghost use Rattle.packing.specs.Packs.{AreAscending, HasCause, Holds, IsOf, is_bazel_file, is_used};
+ghost use Rattle.packing.specs.Packs.{AreAscending, HasCause, Holds, IsOf, counts_of, is_bazel_file, is_used};
 ghost use Rattle.request.specs.Input.{input_limit};
-ghost use Rattle.packing.specs.Writing.{Exceeds, IsTooMuch, Stops, Takes, Written};
+ghost use Rattle.packing.specs.Writing.{Exceeds, IsTooMuch, Stops, Takes, Written, counted_too, one_more};
 ghost use Rattle.workspace.specs.Workspaces.{is_file, text_limit};
 
 use crate::folders::{Folder, Unread};
@@ -20,7 +20,7 @@ use std::alloc::{AllocError, Global};
 use std::collections::BTreeSet;
 use workspace::{TEXT_LIMIT, is_build_file, is_module, is_path, last_segment};
 
-/// How many files of each kind were packed.
+/// How many files of each kind were packed. A count stays at its greatest number.
 #[derive(Clone, Copy, Debug, PartialEq, Eq)]
 pub struct Counts {
     /// `BUILD` files.
@@ -33,17 +33,22 @@ pub struct Counts {
 
 impl Counts {
     /// The counts with one file more.
-    fn with(self, path: &str) -> Counts {
-        let mut counts = self;
-        if is_build_file(path) {
-            counts.packages = counts.packages.saturating_add(1);
-        } else if is_module(path) {
-            counts.modules = counts.modules.saturating_add(1);
-        } else {
-            counts.sources = counts.sources.saturating_add(1);
+    fn with(self, path: &str) -> Counts
+        ensures { result ≡ counted_too path.now self }
+    {
+        Counts {
+            packages: one_more(self.packages, is_build_file(path)),
+            modules: one_more(self.modules, is_module(path)),
+            sources: one_more(self.sources, !is_used(path)),
         }
-        counts
     }
+}
+
+/// A count with one more, where there is one.
+fn one_more(count: u64, more: bool) -> u64
+    ensures { result ≡ one_more more count }
+{
+    if more { count.saturating_add(1) } else { count }
 }
 
 /// An input on its way: the array without its last bracket.
@@ -182,6 +187,7 @@ impl Writing {
     fn new(alloc: Global, left: Vec<LeftOut>) -> Result<Writing, AllocError>
         ensures input { IfOk result (λ w. w.input.items ≡ begun_text []) }
         ensures left { IfOk result (λ w. w.left ≡ left) }
+        ensures counted { IfOk result (λ w. w.counts ≡ counts_of []) }
     {
         let mut input = Vec::new(alloc);
         input.push(b'[')?;
@@ -203,6 +209,7 @@ impl Writing {
         ensures utf8 { OnOk result (IsUtf8 (pair_text (path.now, text.now))) }
         ensures limit { IfOk result (λ w. length w.input.items < input_limit) }
         ensures left { IfOk result (λ w. w.left ≡ self.left) }
+        ensures counted { IfOk result (λ w. w.counts ≡ counted_too path.now self.counts) }
         ensures long { result ≡ Err WriteStop.TooLong → input_limit ≤ length (self.input.items
             ++ (comma self.input.items ++ pair_text (path.now, text.now))) }
     {
@@ -224,6 +231,7 @@ impl Writing {
         ensures input { IfOk result (λ w. w.input ≡ self.input) }
         ensures left { IfOk result (λ w. w.left.items
             ≡ self.left.items ++ record { «path» = path.now; reason = reason } ∷ []) }
+        ensures counted { IfOk result (λ w. w.counts ≡ self.counts) }
         ensures short { result ≡ Err WriteStop.TooLong → ⊥ }
     {
         let Ok(path) = path.share() else {

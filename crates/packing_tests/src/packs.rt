@@ -107,3 +107,29 @@ fn nothing_is_written_after_a_refusal(rt: HostRuntime) -> Result<(), Fail> {
     }
     Ok(())
 }
+
+/// What the stored run of `bzlan_pack` prints, to the byte (`crates/bzlan_pack/stdout`).
+const STORED: &str =
+    "[[\"a/BUILD\",\"load(\\\":i.bzl\\\", \\\"r\\\")\\nr(name = \\\"x\\\")\\n\"],[\"a/i.bzl\",\"I = provider(fields = [\\\"n\\\"])\\ndef _r(ctx):\\n    return [I(n = 1)]\\nr = rule(implementation = _r)\\n\"],[\"b/BUILD\",\"load(\\\"//a:i.bzl\\\", \\\"r\\\")\\nr(name = \\\"y\\\")\\n\"],[\"b/notes.txt\",\"\"]]";
+
+/// The files that it packs.
+const STORED_FILES: &str = "a/BUILD=load(\":i.bzl\", \"r\")
+r(name = \"x\")
+
+a/i.bzl=I = provider(fields = [\"n\"])
+def _r(ctx):
+    return [I(n = 1)]
+r = rule(implementation = _r)
+
+b/BUILD=load(\"//a:i.bzl\", \"r\")
+r(name = \"y\")
+
+b/notes.txt=
+";
+
+#[test]
+fn the_stored_run_is_read(rt: HostRuntime) -> Result<(), Fail> {
+    let read = read_back(rt.alloc(), STORED.as_bytes())?;
+    assert!(rt; read.as_str() == STORED_FILES, "{read}");
+    Ok(())
+}

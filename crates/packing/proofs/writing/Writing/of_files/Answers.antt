@@ -15,7 +15,7 @@ loop-path-init g c =
         0,
         gives.0,
         written-none (g.F.Folder.at c.args.folder.now) c.args.left.items c.in-Ok.writing c.in-Ok.ensures.input
-            (ap (λ l. l.items) c.in-Ok.ensures.left) c.requires.causes,
+            (ap (λ l. l.items) c.in-Ok.ensures.left) c.requires.causes c.in-Ok.ensures.counted,
       ),
     )
 

@@ -13,6 +13,6 @@ returns-in-Ok-clause-takes g c =
     = ap₂ (λ (a b : List ℕ). (a, b)) paths (sym c.as_str-in-Ok-2.ensures.value) in
     subst (λ (p : List ℕ). IfOk c.with_text.result (Takes at p c.args.self)) c.as_str-in-Ok.ensures
     (takes-put at c.as_str-in-Ok.result.now c.as_str-in-Ok-2.result.now c.args.self c.with_text.result
-    c.with_text.ensures.input c.with_text.ensures.utf8 c.with_text.ensures.limit c.with_text.ensures.left
+    c.with_text.ensures.input c.with_text.ensures.utf8 c.with_text.ensures.limit c.with_text.ensures.left c.with_text.ensures.counted
     (subst (λ (q : Pair). is_file q ≡ true) pairs c.in-Ok.ensures.file)
     (subst (λ (q : Pair). IsOf (at q.0) q) pairs c.in-Ok.ensures.of))
