@@ -1,6 +1,6 @@
 //! Targets by workers that a gate holds up or counts.
 use crate::answers::is_answer;
-use crate::texts::{DIAMOND, LISTS, NUMBER, VALUES, build_file, report};
+use crate::texts::{DIAMOND, LISTS, VALUES, build_file, report};
 use fakes::gates::{Counting, Meeting};
 use pool::Gate;
 use std::sync::Wait;
@@ -86,24 +86,6 @@ fn each_target_passes_the_gate_once(rt: HostRuntime) -> Result<(), Fail> {
         let gate = Counting::of(rt.alloc(), 4)?;
         assert!(rt;
             is_told(&rt, &DIAMOND, &["//a:d"], workers, &gate, &VALUES)?,
-            "{workers}"
-        );
-        assert!(rt; gate.once(), "{workers}");
-    }
-    Ok(())
-}
-
-#[test]
-fn the_target_of_the_first_form_passes_the_gate_once(rt: HostRuntime) -> Result<(), Fail> {
-    let alloc = rt.alloc();
-    let build = build_file(alloc, &[("x", "")])?;
-    let told = report(alloc, &[("x", "1")])?;
-    let files = [("a/i.bzl", NUMBER), ("a/BUILD", build.as_str())];
-    for workers in [1u64, 2, 64] {
-        let gate = Counting::of(alloc, 1)?;
-        let want = told.as_str();
-        assert!(rt;
-            is_answer(&rt, &files, &["//a:x"], workers, 1_000_000, &gate, want)?,
             "{workers}"
         );
         assert!(rt; gate.once(), "{workers}");

@@ -176,23 +176,3 @@ fn other_modules_have_none(rt: HostRuntime) -> Result<(), Fail> {
     }
     Ok(())
 }
-
-#[test]
-fn other_build_files_have_none(rt: HostRuntime) -> Result<(), Fail> {
-    let alloc = rt.alloc();
-    for text in [
-        "",
-        "load(\":i.bzl\", \"r\")\n",
-        "load(\":i.bzl\" \"r\")\nr(name = \"x\")\n",
-        "load(\":i.bzl\", \"r\")\ns(name = \"x\")\n",
-        "load(\":i.bzl\", \"_r\")\n_r(name = \"x\")\n",
-        "load(\":i.bzl\", \"rule\")\nrule(name = \"x\")\n",
-        "load(\":i.bzl\", \"r\")\nr(names = \"x\")\n",
-        "load(\":i.bzl\", \"r\")\nr(name = x)\n",
-        "load(\":i.bzl\", \"r\")\n r(name = \"x\")\n",
-        "I = provider(fields = [\"n\"])\ndef _r(ctx):\n    return [I(n = 1)]\nr = rule(implementation = _r)\n",
-    ] {
-        assert!(rt; has_parts(alloc, text, FileKind::Build, "none")?, "{text}");
-    }
-    Ok(())
-}

@@ -100,39 +100,6 @@ fn targets_with_dependencies(rt: HostRuntime) -> Result<(), Fail> {
     Ok(())
 }
 
-#[test]
-fn other_targets_with_dependencies(rt: HostRuntime) -> Result<(), Fail> {
-    let alloc = rt.alloc();
-    for text in [
-        // no dependency in the list, one comma more, none between two
-        "load(\":i.bzl\", \"r\")\nr(name = \"x\", deps = [])\n",
-        "load(\":i.bzl\", \"r\")\nr(name = \"x\", deps = [\":a\",])\n",
-        "load(\":i.bzl\", \"r\")\nr(name = \"x\", deps = [\":a\" \":b\"])\n",
-        "load(\":i.bzl\", \"r\")\nr(name = \"x\", deps = [\":a\"],)\n",
-        "load(\":i.bzl\", \"r\")\nr(name = \"x\",)\n",
-        // another rule, another attribute, another order, another kind of value
-        "load(\":i.bzl\", \"r\")\nr(name = \"x\")\ns(name = \"y\")\n",
-        "load(\":i.bzl\", \"r\")\ns(name = \"y\")\nr(name = \"x\")\n",
-        "load(\":i.bzl\", \"r\")\nr(name = \"x\", srcs = [\":a\"])\n",
-        "load(\":i.bzl\", \"r\")\nr(deps = [\":a\"], name = \"x\")\n",
-        "load(\":i.bzl\", \"r\")\nr(name = \"x\", deps = \":a\")\n",
-        "load(\":i.bzl\", \"r\")\nr(name = \"x\", deps = [a])\n",
-        "load(\":i.bzl\", \"r\")\nr(name = \"x\", deps = (\":a\"))\n",
-        "load(\":i.bzl\", \"r\")\nr(name = \"x\")\nr(\"y\")\n",
-        // no target, a line of another kind, another column
-        "load(\":i.bzl\", \"r\")\n",
-        "r(name = \"x\")\nr(name = \"y\")\n",
-        "load(\":i.bzl\", \"r\")\nr(name = \"x\")\nload(\":i.bzl\", \"r\")\nr(name = \"y\")\n",
-        "load(\":i.bzl\", \"r\")\nr(name = \"x\")\npass\n",
-        "load(\":i.bzl\", \"r\")\nr(name = \"x\")\n r(name = \"y\")\n",
-        "load(\":i.bzl\", \"_r\")\n_r(name = \"x\")\n_r(name = \"y\")\n",
-        "load(\":i.bzl\", \"rule\")\nrule(name = \"x\")\nrule(name = \"y\")\n",
-    ] {
-        assert!(rt; has_parts(alloc, text, FileKind::Build, "none")?, "{text}");
-    }
-    Ok(())
-}
-
 /// A `BUILD` file with so many targets, `t0` and on.
 fn numbered(alloc: Global, targets: u64) -> Result<String, Fail> {
     let mut text = String::from_str(alloc, "load(\":i.bzl\", \"r\")\n")?;

@@ -4,8 +4,6 @@
 #[cfg(test)]
 mod heap;
 #[cfg(test)]
-mod reprs;
-#[cfg(test)]
 mod script;
 #[cfg(test)]
 mod texts;

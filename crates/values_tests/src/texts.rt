@@ -1,5 +1,4 @@
 //! The text of each kind of value, as the table of texts has it.
-use crate::script::{Ask, Make, all_hold};
 use indexmap::IndexSet;
 use plain::{Shared, Text};
 use printing::text;
@@ -84,19 +83,6 @@ fn tuple(alloc: Global, items: Vec<Frozen>) -> Result<Frozen, Fail> {
 }
 
 #[test]
-fn plain_leaves(rt: HostRuntime) -> Result<(), Fail> {
-    let alloc = rt.alloc();
-    assert!(rt; is_leaf_text(alloc, Leaf::None, "None")?);
-    let label = Leaf::Label(Text::new(alloc, "//a:x")?);
-    assert!(rt; is_leaf_text(alloc, label, "//a:x")?);
-    let path = Text::new(alloc, "a/x.txt")?;
-    let owner = Text::new(alloc, "//a:x")?;
-    let file = Leaf::File(Shared::new(alloc, FileRef { path, owner })?);
-    assert!(rt; is_leaf_text(alloc, file, "<file a/x.txt>")?);
-    Ok(())
-}
-
-#[test]
 fn leaves_that_modules_make(rt: HostRuntime) -> Result<(), Fail> {
     let alloc = rt.alloc();
     let path = Text::new(alloc, "a/f.bzl")?;
@@ -118,21 +104,6 @@ fn leaves_that_modules_make(rt: HostRuntime) -> Result<(), Fail> {
     };
     let rule = Leaf::Rule(Shared::new(alloc, rule)?);
     assert!(rt; is_leaf_text(alloc, rule, "<rule a/f.bzl%r>")?);
-    Ok(())
-}
-
-#[test]
-fn built_in_functions_and_attributes(rt: HostRuntime) -> Result<(), Fail> {
-    let alloc = rt.alloc();
-    assert!(rt; is_leaf_text(alloc, Leaf::BuiltIn(BuiltIn::Len), "<built-in len>")?);
-    assert!(rt; is_leaf_text(alloc, Leaf::BuiltIn(BuiltIn::Depset), "<built-in depset>")?);
-    let attribute = AttributeRef {
-        kind: AttributeKind::LabelList,
-        path: Text::new(alloc, "a/f.bzl")?,
-        number: 1,
-    };
-    let attribute = Leaf::Attribute(Shared::new(alloc, attribute)?);
-    assert!(rt; is_leaf_text(alloc, attribute, "<attr label_list>")?);
     Ok(())
 }
 
@@ -185,20 +156,5 @@ fn keys(rt: HostRuntime) -> Result<(), Fail> {
     assert!(rt; is_key_text(alloc, Key::Number(i64::MIN), "-9223372036854775808")?);
     assert!(rt; is_key_text(alloc, Key::Truth(true), "True")?);
     assert!(rt; is_key_text(alloc, Key::Truth(false), "False")?);
-    Ok(())
-}
-
-#[test]
-fn entries_of_several_kinds(rt: HostRuntime) -> Result<(), Fail> {
-    let steps = [
-        Make::Number(1),
-        Make::Text("s"),
-        Make::Dict(&[("b", 0), ("a", 1)]),
-        Make::Tuple(&[1]),
-        Make::Dict(&[("d", 2), ("c", 3)]),
-        Make::Frozen(4, 10),
-    ];
-    let want = "{\"d\": {\"b\": 1, \"a\": \"s\"}, \"c\": (\"s\",)}";
-    assert!(rt; all_hold(rt.alloc(), &steps, &[Ask::Reports(5, want)])?);
     Ok(())
 }
