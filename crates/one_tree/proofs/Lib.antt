@@ -1,0 +1,4 @@
+pub mod Amidst
+pub mod Changed
+pub mod News
+pub mod Rows
