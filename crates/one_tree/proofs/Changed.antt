@@ -20,7 +20,7 @@ use Rattle.one_tree.proofs.Amidst.{among_cases, among_left, among_right}
 
 -- ---- parts of lists
 
-both_in : (a b c : List Set) → AreIn a c → AreIn b c → AreIn (a ++ b) c
+pub both_in : (a b c : List Set) → AreIn a c → AreIn b c → AreIn (a ++ b) c
 both_in a b c f g d h = ⊎_elim (λ p. f d p) (λ p. g d p) (among_cases d a b h)
 
 through : (a b c : List Set) → AreIn a b → AreIn b c → AreIn a c

@@ -30,7 +30,7 @@ parts_keep ds es i = (λ k a b p q e. k a b (i a p) (i b q) e, λ owner k d p. k
 -- ---- a new depset
 
 module _ (ds : List Set) (owner : List ℕ) (made : ℕ) (o : Order) (es : List Element) (cs : List Set) (one : IsOneTree ds) (numbered : IsNumbered owner made ds) where
-  abbrev new : Set
+  abbrev pub new : Set
   new = next owner made o es cs
 
   -- no depset that is there has the new id
@@ -43,19 +43,19 @@ module _ (ds : List Set) (owner : List ℕ) (made : ℕ) (o : Order) (es : List 
       let bad : ⊥ = omega (arith, low.1, high) in
       absurd bad
 
-  either_one : (d e : Set) → Among d ds ⊎ (d ≡ new) → Among e ds ⊎ (e ≡ new) → (label d).id ≡ (label e).id → d ≡ e
+  pub either_one : (d e : Set) → Among d ds ⊎ (d ≡ new) → Among e ds ⊎ (e ≡ new) → (label d).id ≡ (label e).id → d ≡ e
   either_one d e (inl k) (inl l) i = one d e k l i
   either_one d e (inl k) (inr q) i = apart d e k q i
   either_one d e (inr p) (inl l) i = sym (apart e d l p (sym i))
   either_one d e (inr p) (inr q) i = p ∙ sym q
 
-  either_numbered : (d : Set) → Among d ds ⊎ (d ≡ new) → (label d).id.owner ≡ owner → (1 ≤ (label d).id.serial) × ((label d).id.serial ≤ made + 1)
+  pub either_numbered : (d : Set) → Among d ds ⊎ (d ≡ new) → (label d).id.owner ≡ owner → (1 ≤ (label d).id.serial) × ((label d).id.serial ≤ made + 1)
   either_numbered d (inl k) own = let r = numbered d k own in (r.0, omega (arith, r.1))
   either_numbered d (inr p) own =
       let r : (label d).id.serial ≡ made + 1 = ap (λ (t : Set). (label t).id.serial) p in (omega (arith, r), omega (arith, r))
 
 -- what is in the heap and the values with the new one is the new one, or was there
-old_or_new : (h : List Cell) (vs : List Value) (n : Set) (ts : List Set) → nodes n ≡ ts ++ n ∷ [] → AreIn ts (together h vs) → (d : Set) → Among d (together h (value.Leaf (plain.Depset n) ∷ vs)) → Among d (together h vs) ⊎ (d ≡ n)
+pub old_or_new : (h : List Cell) (vs : List Value) (n : Set) (ts : List Set) → nodes n ≡ ts ++ n ∷ [] → AreIn ts (together h vs) → (d : Set) → Among d (together h (value.Leaf (plain.Depset n) ∷ vs)) → Among d (together h vs) ⊎ (d ≡ n)
 old_or_new h vs n ts e i d k =
     ⊎_elim (λ p. inl (among_left d (in_heap h) (in_values vs) p))
     (λ p. ⊎_elim

@@ -5,12 +5,14 @@ use Rattle.depsets.specs.Listed.{IsCoherent}
 use Rattle.depsets.specs.declared.depset.Order.{Order}
 use Rattle.depsets.specs.declared.element.Element.{Element}
 use Rattle.printing.specs.Texts.{IsCoherentTree}
+use Rattle.values.specs.Ticking.{Count}
 use Rattle.values.specs.Laws.{Change, append, extend, set_index, set_key, heap_after}
 use Rattle.values.specs.View.{FrozenTree}
 use Rattle.values.specs.declared.cells.Cell.{Cell}
 use Rattle.values.specs.declared.leaf.Leaf.TheVariants as plain
 use Rattle.values.specs.declared.value.Value.{Value}
 use Rattle.values.specs.declared.value.Value.TheVariants as value
+use Rattle.visits.specs.Freeze.{freeze_at}
 use Rattle.one_tree.specs.Found.{Set, in_tree, in_heap, together}
 use Rattle.one_tree.specs.Sets.{IsOneTree, IsFresh, IsNumbered, AreIn, next}
 
@@ -42,6 +44,11 @@ put_values (set_key v k x) = x ∷ []
 -- A change of a heap brings no depset that wasn't in the heap or in what is put.
 abbrev pub ChangesBringNone : Type 0
 ChangesBringNone = (h g : List Cell) (c : Change) → heap_after h c ≡ Ok g → AreIn (in_heap g) (together h (put_values c))
+
+-- Freezing brings none either: the depsets of the frozen value were in the heap or in the value.
+abbrev pub FreezingBringsNone : Type 0
+FreezingBringsNone = (levels : ℕ) (h : List Cell) (v : Value) (c : Count) (t : FrozenTree) (d : Count) →
+    freeze_at levels h v c ≡ Ok (t, d) → AreIn (in_tree t) (together h (v ∷ []))
 
 -- A depset in what has one tree for an id is coherent: its listing is that of the plain walk.
 abbrev pub DepsetsAreCoherent : Type 0

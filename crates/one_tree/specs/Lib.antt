@@ -1,3 +1,4 @@
+pub mod Evaluations
 pub mod Found
 pub mod Laws
 pub mod Sets
