@@ -75,47 +75,6 @@ fn diamond_in_both_orders(rt: HostRuntime) -> Result<(), Fail> {
     Ok(())
 }
 
-#[test]
-fn orders_that_go_together(rt: HostRuntime) -> Result<(), Fail> {
-    let alloc = rt.alloc();
-    let q = made(strings(alloc, 1, Order::Default, &["q"], &[])?)?;
-    let p = made(strings(alloc, 2, Order::Preorder, &["p"], &[&q])?)?;
-    let t = made(strings(alloc, 3, Order::Default, &["t"], &[&p])?)?;
-    assert_eq!(rt; listed(alloc, &p)?.0.as_str(), "p q");
-    assert_eq!(rt; listed(alloc, &t)?.0.as_str(), "q p t");
-    let refused = strings(alloc, 4, Order::Postorder, &[], &[&p])?;
-    assert!(rt; matches!(refused, Err(DepsetError::Order)));
-    Ok(())
-}
-
-#[test]
-fn elements_of_one_type(rt: HostRuntime) -> Result<(), Fail> {
-    let alloc = rt.alloc();
-    let numbers = Vec::from_array(alloc, [Element::Number(1)])?;
-    let one = made(Depset::new(
-        alloc,
-        numbered(alloc, 1)?,
-        Order::Default,
-        numbers,
-        Vec::new(alloc),
-    ))?;
-    let a = made(strings(alloc, 2, Order::Default, &["a"], &[])?)?;
-    let none = made(strings(alloc, 3, Order::Default, &[], &[])?)?;
-    let mixed = strings(alloc, 4, Order::Default, &[], &[&one, &a])?;
-    assert!(rt; matches!(mixed, Err(DepsetError::Mixed)));
-    let both = Vec::from_array(alloc, [Element::Number(1), Element::Truth(true)])?;
-    let mixed = Depset::new(
-        alloc,
-        numbered(alloc, 5)?,
-        Order::Default,
-        both,
-        Vec::new(alloc),
-    );
-    assert!(rt; matches!(mixed, Err(DepsetError::Mixed)));
-    assert!(rt; strings(alloc, 6, Order::Default, &[], &[&none, &one])?.is_ok());
-    Ok(())
-}
-
 /// Whether a depset of this element alone lists it.
 fn lists_itself(alloc: Global, element: Element) -> Result<bool, Fail> {
     let direct = Vec::from_array(alloc, [element.share()?])?;
