@@ -1,4 +1,5 @@
 pub mod Ascii
+pub mod Singles
 pub mod Cuts
 pub mod Finds
 pub mod Glued

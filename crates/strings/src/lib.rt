@@ -4,13 +4,15 @@
 //! test of where a character begins is made, and nothing is built whose size isn't known and allowed.
 #![tactic(auto)]
 
+mod bytes;
 mod errors;
 mod joining;
 pub mod laws;
 mod making;
-mod search;
+pub mod search;
 mod splitting;
 mod text;
 
+pub use bytes::ByteTexts;
 pub use errors::{StringError, StringRefusal};
 pub use text::{AsciiText, MOST_BYTES};

@@ -4,24 +4,25 @@ ghost use Rattle.strings.specs.Answers.{Answers};
 ghost use Rattle.strings.specs.Indexes.{item_of};
 ghost use Rattle.strings.specs.Texts.{is_text, sum_of};
 
+use crate::bytes::ByteTexts;
 use crate::errors::{StringError, StringRefusal};
 use crate::text::{AsciiText, MOST_BYTES};
 use numbers::place;
-use plain::Text;
 use std::alloc::{AllocError, Global};
 
 impl AsciiText {
-    /// The byte at an index, from the end where it is negative, as a text of its own.
+    /// The byte at an index, from the end where it is negative, as a text of its own: another name of one of the texts of one
+    /// byte.
     ///
     /// # Errors
     ///
     /// `Index` outside of the text.
-    pub fn item(&self, alloc: Global, index: i64) -> Result<AsciiText, StringRefusal>
+    pub fn item(&self, bytes: &ByteTexts, index: i64) -> Result<AsciiText, StringRefusal>
         ensures { Answers (λ t. t) (item_of self.now index) result }
     {
         let text = self.as_str();
         match place(index, text.len()) {
-            Some(place) => Ok(byte_text(alloc, text, place)?),
+            Some(place) => Ok(byte_text(bytes, text, place)?),
             None => Err(StringRefusal::String(StringError::Index)),
         }
     }
@@ -47,11 +48,11 @@ impl AsciiText {
 }
 
 /// The text of one byte of a text.
-fn byte_text(alloc: Global, text: &str, place: usize) -> Result<AsciiText, AllocError>
+fn byte_text(bytes: &ByteTexts, text: &str, place: usize) -> Result<AsciiText, AllocError>
     requires inside { place < length text.now }
     requires ascii { is_text text.now ≡ true }
     ensures { IfOk result (λ t. t ≡ slice_index text.now place ∷ []) }
 {
-    let byte = Text::new(alloc, &text[place..place + 1])?;
-    Ok(AsciiText::from_ascii(byte))
+    let byte = text.as_bytes()[place];
+    bytes.get(byte).share()
 }

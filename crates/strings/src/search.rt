@@ -1,4 +1,4 @@
-//! Whether and where bytes stand in a text.
+//! Whether and where bytes stand in a text: of the language's texts, and of any `str`.
 ghost use Rattle.std.specs.Prelude.{◌≡◌, ◌↔◌, IsTrue};
 ghost use Rattle.strings.specs.Affixes.{begins, ends};
 ghost use Rattle.strings.specs.Parts.{is_part, first_place};
@@ -35,25 +35,29 @@ impl AsciiText {
     }
 }
 
-fn place_in(text: &str, part: &str) -> Option<usize>
+/// The first place at which these bytes stand in a text.
+pub fn place_in(text: &str, part: &str) -> Option<usize>
     ensures { result ≡ first_place part.now text.now }
 {
     text.find(part)
 }
 
-fn is_within(text: &str, part: &str) -> bool
+/// Whether these bytes stand in a text.
+pub fn is_within(text: &str, part: &str) -> bool
     ensures { result ≡ is_part part.now text.now }
 {
     text.contains(part)
 }
 
-fn has_front(text: &str, front: &str) -> bool
+/// Whether a text begins with these bytes.
+pub fn has_front(text: &str, front: &str) -> bool
     ensures { result ≡ begins front.now text.now }
 {
     text.starts_with(front)
 }
 
-fn has_back(text: &[u8], back: &[u8]) -> bool
+/// Whether bytes end with these.
+pub fn has_back(text: &[u8], back: &[u8]) -> bool
     ensures { result ≡ ends back.now text.now }
 {
     let from = text.len().saturating_sub(back.len());

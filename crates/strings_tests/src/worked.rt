@@ -1,7 +1,7 @@
 //! Worked values of the language's documents, each call at least once.
 use plain::Text;
 use std::alloc::{AllocError, Global};
-use strings::{AsciiText, StringError, StringRefusal};
+use strings::{AsciiText, ByteTexts, StringError, StringRefusal};
 
 const NO_TEXT: StringRefusal = StringRefusal::NoMemory;
 
@@ -78,12 +78,23 @@ fn parts_and_joins(rt: HostRuntime) {
     assert!(rt; cut_is(alloc, "ab", "", "") == empty);
 }
 
-/// Whether the item of `two` at an index, behind `two`, is this text.
+/// Whether the item of a text at an index, behind the text, is this.
+fn item_behind(
+    two: &AsciiText,
+    bytes: &ByteTexts,
+    index: i64,
+    want: &str,
+    alloc: Global,
+) -> Result<bool, StringRefusal> {
+    let item = two.item(bytes, index)?;
+    let sum = two.sum(alloc, &item)?;
+    Ok(sum.as_str() == want && *two < sum)
+}
+
 fn item_is(alloc: Global, index: i64, want: &str) -> Result<bool, StringRefusal> {
     let two = text(alloc, "two")?;
-    let item = two.item(alloc, index)?;
-    let sum = two.sum(alloc, &item)?;
-    Ok(sum.as_str() == want && two < sum)
+    let bytes = ByteTexts::new(alloc)?;
+    item_behind(&two, &bytes, index, want, alloc)
 }
 
 #[test]
