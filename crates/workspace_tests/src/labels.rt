@@ -27,43 +27,73 @@ fn is_read_as(
     }
 }
 
+/// A text, the package in which it is read, and the package and the name that it has. `-` stands for none: neither is there
+/// where the text is refused.
+const ROWS: &str = "//p:n,-,p,n
+//p,-,p,p
+//a/b-c,-,a/b-c,b-c
+//:n,-,,n
+//a/b:c/d.txt,z,a/b,c/d.txt
+:n,p,p,n
+n,p/q,p/q,n
+n/m,,,n/m
+//...,-,...,...
+:x,-,-,-
+x,-,-,-
+,p,-,-
+//,-,-,-
+//:,-,-,-
+//p:,-,-,-
+///p:n,-,-,-
+//p//q:n,-,-,-
+//p/:n,-,-,-
+//p:/n,-,-,-
+//p:n:m,-,-,-
+//p:.,-,-,-
+//../p:n,-,-,-
+//p:n+,-,-,-
+//p q:n,-,-,-
+//p:caf\u{e9},-,-,-";
+
+/// The four parts of a row.
+fn parts(row: &str) -> Option<(&str, &str, &str, &str)> {
+    let (text, rest) = row.split_once(',')?;
+    let (package, rest) = rest.split_once(',')?;
+    let (found, name) = rest.split_once(',')?;
+    Some((text, package, found, name))
+}
+
+/// Whether the text of a row is read as it says.
+fn is_so(alloc: Global, row: &str) -> bool {
+    let Some((text, package, found, name)) = parts(row) else {
+        return false;
+    };
+    let package = if package == "-" { None } else { Some(package) };
+    let want = if found == "-" {
+        None
+    } else {
+        Some((found, name))
+    };
+    is_read_as(alloc, text, package, want)
+}
+
 #[test]
-fn labels_are_read(rt: HostRuntime) -> Result<(), Fail> {
+fn labels_are_read(rt: HostRuntime) {
+    for row in ROWS.lines() {
+        assert!(rt; is_so(rt.alloc(), row), "{row}");
+    }
+}
+
+#[test]
+fn the_longest_labels_are_read(rt: HostRuntime) -> Result<(), Fail> {
     let alloc = rt.alloc();
     let short = "x".repeat(alloc, 198)?;
+    let text = short.as_str();
+    assert!(rt; is_read_as(alloc, text, Some("b"), Some(("b", text))));
+    assert!(rt; is_read_as(alloc, text, Some("bc"), None));
     let root = "x".repeat(alloc, 200)?;
-    for (text, package, parts) in [
-        ("//p:n", None, Some(("p", "n"))),
-        ("//p", None, Some(("p", "p"))),
-        ("//a/b-c", None, Some(("a/b-c", "b-c"))),
-        ("//:n", None, Some(("", "n"))),
-        ("//a/b:c/d.txt", Some("z"), Some(("a/b", "c/d.txt"))),
-        (":n", Some("p"), Some(("p", "n"))),
-        ("n", Some("p/q"), Some(("p/q", "n"))),
-        ("n/m", Some(""), Some(("", "n/m"))),
-        ("//...", None, Some(("...", "..."))),
-        (":x", None, None),
-        ("x", None, None),
-        ("", Some("p"), None),
-        ("//", None, None),
-        ("//:", None, None),
-        ("//p:", None, None),
-        ("///p:n", None, None),
-        ("//p//q:n", None, None),
-        ("//p/:n", None, None),
-        ("//p:/n", None, None),
-        ("//p:n:m", None, None),
-        ("//p:.", None, None),
-        ("//../p:n", None, None),
-        ("//p:n+", None, None),
-        ("//p q:n", None, None),
-        ("//p:caf\u{e9}", None, None),
-        (short.as_str(), Some("b"), Some(("b", short.as_str()))),
-        (short.as_str(), Some("bc"), None),
-        (root.as_str(), Some(""), Some(("", root.as_str()))),
-    ] {
-        assert!(rt; is_read_as(alloc, text, package, parts), "{text}");
-    }
+    let text = root.as_str();
+    assert!(rt; is_read_as(alloc, text, Some(""), Some(("", text))));
     Ok(())
 }
 

@@ -16,39 +16,49 @@ fn is_made(alloc: Global, files: &[(&str, &str)], is_workspace: bool) -> bool {
     }
 }
 
+/// Two paths, and whether they are those of a workspace: among others a path twice, an upper case, an empty path, an empty
+/// segment, a path from the root, the folder above, and a space.
+const ROWS: &str = "a/BUILD,a/b.bzl,yes
+a,a,no
+a,A,yes
+a,,no
+a,a//b,no
+a,/a,no
+a,a/../b,no
+a,a b,no";
+
+/// The three parts of a row.
+fn parts(row: &str) -> Option<(&str, &str, &str)> {
+    let (first, rest) = row.split_once(',')?;
+    let (second, want) = rest.split_once(',')?;
+    Some((first, second, want))
+}
+
+/// Whether the paths of a row are a workspace's as it says.
+fn is_so(alloc: Global, row: &str) -> bool {
+    match parts(row) {
+        Some((first, second, want)) => {
+            is_made(alloc, &[(first, ""), (second, "x")], want == "yes")
+        }
+        None => false,
+    }
+}
+
 #[test]
-fn workspaces_are_made(rt: HostRuntime) -> Result<(), Fail> {
+fn workspaces_are_made(rt: HostRuntime) {
+    for row in ROWS.lines() {
+        assert!(rt; is_so(rt.alloc(), row), "{row}");
+    }
+}
+
+#[test]
+fn the_longest_path_and_text_are_taken(rt: HostRuntime) -> Result<(), Fail> {
     let alloc = rt.alloc();
-    let path = long_text(alloc, PATH_LIMIT)?;
-    let long_path = long_text(alloc, PATH_LIMIT + 1)?;
-    let text = long_text(alloc, TEXT_LIMIT)?;
-    let longer = long_text(alloc, TEXT_LIMIT + 1)?;
-    for (case, files, is_workspace) in [
-        ("two files", [("a/BUILD", ""), ("a/b.bzl", "x")], true),
-        ("a path twice", [("a", "x"), ("a", "y")], false),
-        ("an upper case", [("a", ""), ("A", "")], true),
-        ("an empty path", [("a", ""), ("", "")], false),
-        ("an empty segment", [("a", ""), ("a//b", "")], false),
-        ("a path from the root", [("a", ""), ("/a", "")], false),
-        ("the folder above", [("a", ""), ("a/../b", "")], false),
-        ("a space", [("a", ""), ("a b", "")], false),
-        (
-            "the longest",
-            [(path.as_str(), ""), ("a", text.as_str())],
-            true,
-        ),
-        (
-            "too long a path",
-            [("a", ""), (long_path.as_str(), "")],
-            false,
-        ),
-        (
-            "too long a text",
-            [("a", ""), ("b", longer.as_str())],
-            false,
-        ),
-    ] {
-        assert!(rt; is_made(alloc, &files, is_workspace), "{case}");
+    for (over, is_workspace) in [(0, true), (1, false)] {
+        let path = long_text(alloc, PATH_LIMIT + over)?;
+        assert!(rt; is_made(alloc, &[("a", ""), (path.as_str(), "")], is_workspace));
+        let text = long_text(alloc, TEXT_LIMIT + over)?;
+        assert!(rt; is_made(alloc, &[("a", ""), ("b", text.as_str())], is_workspace));
     }
     Ok(())
 }
