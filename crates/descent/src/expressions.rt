@@ -1,7 +1,8 @@
 //! Expressions, read from a line by descent: one loop over the levels of operators, and a function for each form of an
 //! atom. What reads the expressions inside of others is a parameter, so that each is proved by itself.
 //!
-//! Functions through which expressions stand inside of others are not inlined: so each level takes little of the stack.
+//! A part is kept behind a `Box`, and functions through which expressions stand inside of others are not inlined: so a level
+//! takes hundreds of bytes of the stack and not thousands. That is measured, and said by no clause.
 //!
 //! A reader is given room: how deep the expression may be. It goes down by one for the parts of a form. What begins with
 //! a sign or a bracket is refused before it is read where it would be too deep; of an operator, a field, an index or a
@@ -265,6 +266,7 @@ impl<F: Fn(Global, &mut Ahead<'_>, usize, Row, usize) -> Result<Part, Stop>> Rea
     }
 
     /// Behind the first entry of a dict.
+    #[inline(never)]
     fn pairs_behind(&self, ahead: &mut Ahead<'_>, room: usize, found: Pairs) -> Result<Pairs, Stop>
         requires { Nests self.now.turns (F.pre self.now.expr) (F.post self.now.expr) }
         ensures { Reads pairs_seen (spec.after_one (spec.pairs (spec.read self.now.turns) self.now.most room) (pairs_seen found) (behind_close Curly ahead.old) (behind_comma ahead.old)) result ahead.new }

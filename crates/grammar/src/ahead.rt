@@ -228,11 +228,14 @@ impl<'l> Ahead<'l> {
     pub fn comma(&mut self) -> bool
         ensures { Passes (behind_comma self.old) result self.old self.new }
     {
-        let [first, rest @ ..] = self.tokens else {
-            return false;
-        };
-        match first.kind {
-            Kind::Mark(Mark::Comma) => {
+        match self.tokens {
+            [
+                Token {
+                    kind: Kind::Mark(Mark::Comma),
+                    ..
+                },
+                rest @ ..,
+            ] => {
                 self.tokens = rest;
                 true
             }
@@ -245,11 +248,14 @@ impl<'l> Ahead<'l> {
     pub fn colon(&mut self) -> bool
         ensures { Passes (behind_colon self.old) result self.old self.new }
     {
-        let [first, rest @ ..] = self.tokens else {
-            return false;
-        };
-        match first.kind {
-            Kind::Mark(Mark::Colon) => {
+        match self.tokens {
+            [
+                Token {
+                    kind: Kind::Mark(Mark::Colon),
+                    ..
+                },
+                rest @ ..,
+            ] => {
                 self.tokens = rest;
                 true
             }
@@ -262,11 +268,14 @@ impl<'l> Ahead<'l> {
     pub fn else_word(&mut self) -> bool
         ensures { Passes (behind_else self.old) result self.old self.new }
     {
-        let [first, rest @ ..] = self.tokens else {
-            return false;
-        };
-        match first.kind {
-            Kind::Word(Word::Else) => {
+        match self.tokens {
+            [
+                Token {
+                    kind: Kind::Word(Word::Else),
+                    ..
+                },
+                rest @ ..,
+            ] => {
                 self.tokens = rest;
                 true
             }
@@ -279,11 +288,14 @@ impl<'l> Ahead<'l> {
     pub fn if_word(&mut self) -> bool
         ensures { Passes (behind_if self.old) result self.old self.new }
     {
-        let [first, rest @ ..] = self.tokens else {
-            return false;
-        };
-        match first.kind {
-            Kind::Word(Word::If) => {
+        match self.tokens {
+            [
+                Token {
+                    kind: Kind::Word(Word::If),
+                    ..
+                },
+                rest @ ..,
+            ] => {
                 self.tokens = rest;
                 true
             }
@@ -296,11 +308,14 @@ impl<'l> Ahead<'l> {
     pub fn not_word(&mut self) -> bool
         ensures { Passes (behind_not self.old) result self.old self.new }
     {
-        let [first, rest @ ..] = self.tokens else {
-            return false;
-        };
-        match first.kind {
-            Kind::Word(Word::Not) => {
+        match self.tokens {
+            [
+                Token {
+                    kind: Kind::Word(Word::Not),
+                    ..
+                },
+                rest @ ..,
+            ] => {
                 self.tokens = rest;
                 true
             }
@@ -313,11 +328,14 @@ impl<'l> Ahead<'l> {
     pub fn minus(&mut self) -> bool
         ensures { Passes (behind_minus self.old) result self.old self.new }
     {
-        let [first, rest @ ..] = self.tokens else {
-            return false;
-        };
-        match first.kind {
-            Kind::Mark(Mark::Minus) => {
+        match self.tokens {
+            [
+                Token {
+                    kind: Kind::Mark(Mark::Minus),
+                    ..
+                },
+                rest @ ..,
+            ] => {
                 self.tokens = rest;
                 true
             }
@@ -560,11 +578,14 @@ impl<'l> Ahead<'l> {
     pub fn assign(&mut self) -> bool
         ensures { Passes (behind_assign self.old) result self.old self.new }
     {
-        let [first, rest @ ..] = self.tokens else {
-            return false;
-        };
-        match first.kind {
-            Kind::Mark(Mark::Assign) => {
+        match self.tokens {
+            [
+                Token {
+                    kind: Kind::Mark(Mark::Assign),
+                    ..
+                },
+                rest @ ..,
+            ] => {
                 self.tokens = rest;
                 true
             }
@@ -577,11 +598,14 @@ impl<'l> Ahead<'l> {
     pub fn add_assign(&mut self) -> bool
         ensures { Passes (behind_add self.old) result self.old self.new }
     {
-        let [first, rest @ ..] = self.tokens else {
-            return false;
-        };
-        match first.kind {
-            Kind::Mark(Mark::AddAssign) => {
+        match self.tokens {
+            [
+                Token {
+                    kind: Kind::Mark(Mark::AddAssign),
+                    ..
+                },
+                rest @ ..,
+            ] => {
                 self.tokens = rest;
                 true
             }
@@ -594,11 +618,14 @@ impl<'l> Ahead<'l> {
     pub fn open_round(&mut self) -> bool
         ensures { Passes (behind_open self.old) result self.old self.new }
     {
-        let [first, rest @ ..] = self.tokens else {
-            return false;
-        };
-        match first.kind {
-            Kind::Mark(Mark::OpenParen) => {
+        match self.tokens {
+            [
+                Token {
+                    kind: Kind::Mark(Mark::OpenParen),
+                    ..
+                },
+                rest @ ..,
+            ] => {
                 self.tokens = rest;
                 true
             }

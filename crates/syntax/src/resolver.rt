@@ -4,7 +4,7 @@
 
 ghost use Rattle.std.specs.Prelude.{◌≡◌, ◌&&◌, ◌∷◌, [], IfOk, MatchOption, Some, map};
 ghost use Rattle.std.specs.Option.{option_map};
-ghost use Rattle.grammar.specs.Bare.{Rest, Tree, choice as choice_tree, each, each_entry, invokes, named as name_tree, operates, selects, subscript, turned};
+ghost use Rattle.grammar.specs.Bare.{Rest, Tree, choice as choice_tree, dict as dict_tree, each, each_entry, invokes, listing, named as name_tree, operates, selects, subscript, tuple as tuple_tree, turned};
 ghost use Rattle.syntax.specs.Names.{distinct};
 ghost use Rattle.syntax.specs.Names.{Scope as Around};
 ghost use Rattle.syntax.specs.ProgramView as view;
@@ -229,6 +229,30 @@ impl<F: Fn(Global, &mut Scope, &Expr, usize) -> Result<Term, Unresolved>> Resolv
             found.push(made)?;
         }
         Ok(found)
+    }
+
+    #[inline(never)]
+    fn tuple(&self, scope: &mut Scope, items: &[Expr]) -> Result<Term, Unresolved>
+        requires { ResolvesInside self.now.turns (F.pre self.now.inside) (F.post self.now.inside) }
+        ensures { GivesTerm (tuple_tree (trees items.now)) scope.old result scope.new }
+    {
+        Ok(tuple(self.all(scope, items)?))
+    }
+
+    #[inline(never)]
+    fn list_of(&self, scope: &mut Scope, items: &[Expr]) -> Result<Term, Unresolved>
+        requires { ResolvesInside self.now.turns (F.pre self.now.inside) (F.post self.now.inside) }
+        ensures { GivesTerm (listing (trees items.now)) scope.old result scope.new }
+    {
+        Ok(list_of(self.all(scope, items)?))
+    }
+
+    #[inline(never)]
+    fn dict_of(&self, scope: &mut Scope, written: &[Entry]) -> Result<Term, Unresolved>
+        requires { ResolvesInside self.now.turns (F.pre self.now.inside) (F.post self.now.inside) }
+        ensures { GivesTerm (dict_tree (entries written.now)) scope.old result scope.new }
+    {
+        Ok(dict_of(self.pairs(scope, written)?))
     }
 
     #[inline(never)]
@@ -464,9 +488,9 @@ impl<F: Fn(Global, &mut Scope, &Expr, usize) -> Result<Term, Unresolved>> Resolv
             Expr::Name(text) => resolve_name(scope, text),
             Expr::Number(value) => Ok(number(*value)),
             Expr::Str(text) => Ok(string(text.share()?)),
-            Expr::Tuple(items) => Ok(tuple(self.all(scope, items.as_slice())?)),
-            Expr::ListOf(items) => Ok(list_of(self.all(scope, items.as_slice())?)),
-            Expr::DictOf(written) => Ok(dict_of(self.pairs(scope, written.as_slice())?)),
+            Expr::Tuple(items) => self.tuple(scope, items.as_slice()),
+            Expr::ListOf(items) => self.list_of(scope, items.as_slice()),
+            Expr::DictOf(written) => self.dict_of(scope, written.as_slice()),
             Expr::Choice(then, test, other) => self.choice(scope, then, test, other),
             Expr::Binary(operator, left, right) => self.binary(scope, *operator, left, right),
             Expr::Unary(sign, operand) => self.unary(scope, *sign, operand),

@@ -24,7 +24,7 @@ use crate::scope::Scope;
 use crate::top::until_rebound;
 use grammar::{Form, Line};
 use plain::Text;
-use std::alloc::{AllocError, Global};
+use std::alloc::{AllocError, AllocFailed, Global};
 
 /// Why the lines of a file aren't resolved.
 #[derive(Clone, Copy, PartialEq, Eq, Debug)]
@@ -42,6 +42,17 @@ impl From<AllocError> for Stopped {
     ghost from_gives = { λ _ e. e ≡ NoMemory };
 
     fn from(_: AllocError) -> Self {
+        Stopped::NoMemory
+    }
+}
+
+impl<T: Drop> From<AllocFailed<T>> for Stopped {
+    ghost use Rattle.std.specs.Prelude.{◌≡◌};
+    ghost use Rattle.syntax.specs.declared.steps.Stopped.TheVariants.{NoMemory};
+
+    ghost from_gives = { λ _ e. e ≡ NoMemory };
+
+    fn from(_: AllocFailed<T>) -> Self {
         Stopped::NoMemory
     }
 }
@@ -176,13 +187,14 @@ pub(crate) struct Later {
     behind: Behind,
 }
 
-/// A line with its names resolved, but for those of its block; or its number.
+/// A line with its names resolved, but for those of its block; or its number. It is kept behind a `Box` while its block is
+/// resolved, so that blocks inside of one another take little of the stack.
 #[inline(never)]
-fn head_of(alloc: Global, scope: &mut Scope, line: &Line) -> Result<Head, Stopped>
-    ensures { Places (λ s. unless (out-Line line.now).number (line_scoped s (form_of (out-Line line.now).form))) (λ h s. head_seen h ≡ head s (form_of (out-Line line.now).form)) scope.old result scope.new }
+fn head_of(alloc: Global, scope: &mut Scope, line: &Line) -> Result<Box<Head>, Stopped>
+    ensures { Places (λ s. unless (out-Line line.now).number (line_scoped s (form_of (out-Line line.now).form))) (λ h s. head_seen h.value ≡ head s (form_of (out-Line line.now).form)) scope.old result scope.new }
 {
     match line_head(alloc, scope, &line.form) {
-        Ok(head) => Ok(head),
+        Ok(head) => Ok(Box::new(alloc, head)?),
         Err(Unresolved::Breaks) => Err(Stopped::At(line.number)),
         Err(Unresolved::NoMemory) => Err(Stopped::NoMemory),
     }
@@ -224,8 +236,12 @@ fn leave_block(scope: &mut Scope, around: Option<Levels>)
 /// A line and its block with their names resolved.
 #[cycle(blocks)]
 #[inline(never)]
-fn line_and_block(alloc: Global, scope: &mut Scope, line: &Line) -> Result<(Head, Inner), Stopped>
-    ensures { Places (λ s. own_fault s line.now) (λ m s. IsOwn s line.now m.0 m.1) scope.old result scope.new }
+fn line_and_block(
+    alloc: Global,
+    scope: &mut Scope,
+    line: &Line,
+) -> Result<(Box<Head>, Inner), Stopped>
+    ensures { Places (λ s. own_fault s line.now) (λ m s. IsOwn s line.now m.0.value m.1) scope.old result scope.new }
 {
     let block = block_of(line);
     let head = head_of(alloc, scope, line)?;
@@ -275,12 +291,13 @@ fn with_line(
 fn follows(
     alloc: Global,
     line: &Line,
-    own: (Head, Inner),
+    own: (Box<Head>, Inner),
     behind: Behind,
 ) -> Result<Behind, AllocError>
-    ensures { IfOk result (λ b. (s : Around) → IsOwn s line.now own.0 own.1 → FollowsOn s line.now behind b) }
+    ensures { IfOk result (λ b. (s : Around) → IsOwn s line.now own.0.value own.1 → FollowsOn s line.now behind b) }
 {
-    with_line(alloc, line.number, own, behind)
+    let (head, inner) = own;
+    with_line(alloc, line.number, (Box::into_inner(head), inner), behind)
 }
 
 /// A line before those that were gone through.
@@ -288,11 +305,11 @@ fn follows(
 fn before(
     alloc: Global,
     line: &Line,
-    own: Result<(Head, Inner), Stopped>,
+    own: Result<(Box<Head>, Inner), Stopped>,
     later: Later,
 ) -> Result<Later, AllocError>
     ensures seen { (rest : Lines) → line_of line.now rest ≡ before_lines line.now rest }
-    ensures made { IfOk result (λ l. (s t : Around) (rest : Lines) → Places (λ s. own_fault s line.now) (λ m s. IsOwn s line.now m.0 m.1) s own t → IsLater s rest later → IsLater s (before_lines line.now rest) l × (t ≡ s)) }
+    ensures made { IfOk result (λ l. (s t : Around) (rest : Lines) → Places (λ s. own_fault s line.now) (λ m s. IsOwn s line.now m.0.value m.1) s own t → IsLater s rest later → IsLater s (before_lines line.now rest) l × (t ≡ s)) }
 {
     match own {
         Ok(own) => Ok(Later {

@@ -1,0 +1,60 @@
+//! The deepest texts that are served: expressions 200 deep, which 100 brackets may take part in, and 32 blocks.
+use crate::small_stack::{Verdict, expect, nested};
+use std::alloc::Global;
+use std::test::Fail;
+
+/// A function with 32 blocks inside of one another, and in the last one an expression.
+fn in_blocks(alloc: Global, expression: &str) -> Result<String, Fail> {
+    let mut text = String::from_str(alloc, "def f(x):\n ")?;
+    let mut indent = String::from_str(alloc, " ")?;
+    for _ in 1..32 {
+        text.push_str("if x:\n ")?;
+        text.push_str(indent.as_str())?;
+        indent.push_str(" ")?;
+    }
+    text.push_str("if x: ")?;
+    text.push_str(expression)?;
+    text.push('\n')?;
+    Ok(text)
+}
+
+#[test]
+fn signs_and_operators(rt: HostRuntime) -> Result<(), Fail> {
+    let alloc = rt.alloc();
+    let text = nested(alloc, "not ", "0", "", 199)?;
+    expect(&rt, alloc, text, Verdict::Tree)?;
+    let text = nested(alloc, "0 if 0 else ", "0", "", 199)?;
+    expect(&rt, alloc, text, Verdict::Tree)?;
+    let text = nested(alloc, "", "len", "()", 199)?;
+    expect(&rt, alloc, text, Verdict::Tree)
+}
+
+#[test]
+fn brackets(rt: HostRuntime) -> Result<(), Fail> {
+    let alloc = rt.alloc();
+    let text = nested(alloc, "0 if 0 else [", "0", "]", 99)?;
+    expect(&rt, alloc, text, Verdict::Tree)?;
+    let text = nested(alloc, "0 if 0 else {0: 0, 0: ", "0", "}", 99)?;
+    expect(&rt, alloc, text, Verdict::Tree)?;
+    let text = nested(alloc, "0 if 0 else len(", "0", ")", 99)?;
+    expect(&rt, alloc, text, Verdict::Tree)
+}
+
+#[test]
+fn comprehensions(rt: HostRuntime) -> Result<(), Fail> {
+    let alloc = rt.alloc();
+    let text = nested(alloc, "-[", "0", " for a in 0]", 99)?;
+    expect(&rt, alloc, text, Verdict::Tree)?;
+    let text = nested(alloc, "-[0 for a in ", "0", "]", 99)?;
+    expect(&rt, alloc, text, Verdict::Tree)?;
+    let text = nested(alloc, "-{0: 0 for a in 0 if ", "0", "}", 99)?;
+    expect(&rt, alloc, text, Verdict::Tree)
+}
+
+#[test]
+fn blocks(rt: HostRuntime) -> Result<(), Fail> {
+    let alloc = rt.alloc();
+    let deep = nested(alloc, "0 if 0 else len(a = ", "0", ")", 99)?;
+    let text = in_blocks(alloc, deep.as_str())?;
+    expect(&rt, alloc, text, Verdict::Tree)
+}
