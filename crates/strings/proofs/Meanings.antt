@@ -16,7 +16,7 @@ begins_says p t = (behind p t, λ h. begins_at p t h.0 h.1)
 
 -- ---- ends
 
-all_dropped : (a b : List ℕ) → drop (length a) (a ++ b) ≡ b
+pub all_dropped : (a b : List ℕ) → drop (length a) (a ++ b) ≡ b
 all_dropped [] b = refl
 all_dropped (x ∷ a) b = all_dropped a b
 
@@ -61,7 +61,7 @@ glued_some : (s p : List ℕ) (ts : List (List ℕ)) → 0 < length ts → glued
 glued_some s p [] l = absurd (omega arith)
 glued_some s p (t ∷ ts) l = refl
 
-split_at : (s : List ℕ) (y : ℕ) (t rest : List ℕ) → 0 < length s → y ∷ t ≡ s ++ rest → drop (length s - 1) t ≡ rest
+pub split_at : (s : List ℕ) (y : ℕ) (t rest : List ℕ) → 0 < length s → y ∷ t ≡ s ++ rest → drop (length s - 1) t ≡ rest
 split_at [] y t rest l e = absurd (omega arith)
 split_at (x ∷ s) y t rest l e =
     let n : suc (length s) - 1 ≡ length s = omega arith in

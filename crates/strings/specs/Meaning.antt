@@ -1,8 +1,8 @@
 -- What the tests on texts say, without a way of looking.
-use Rattle.std.specs.Prelude.{◌≡◌, ◌↔◌, ◌<◌, ℕ, true, List, ◌++◌, length}
+use Rattle.std.specs.Prelude.{◌≡◌, ◌↔◌, ◌<◌, ℕ, true, false, List, [], ◌∷◌, ◌++◌, length, Some}
 use Rattle.strings.specs.Affixes.{begins, ends}
 use Rattle.strings.specs.Joining.{glued}
-use Rattle.strings.specs.Parts.{is_part}
+use Rattle.strings.specs.Parts.{is_part, first_place}
 use Rattle.strings.specs.Splitting.{parts}
 
 -- a text begins with the bytes p exactly where it is p and a rest
@@ -20,3 +20,12 @@ PartSays p t = (is_part p t ≡ true) ↔ ((front : List ℕ) × (rest : List �
 -- the parts of a text, with the separator between each and the next, make it again
 abbrev pub PartsMakeTheText : List ℕ → List ℕ → Type 0
 PartsMakeTheText sep t = 0 < length sep → glued sep (parts sep t) ≡ t
+
+-- Each part but the last ends where the separator first stands, from the part's own beginning on; the last doesn't hold it.
+abbrev pub EndAtTheFirst : List ℕ → List (List ℕ) → Type 0
+EndAtTheFirst sep [] = ⊥
+EndAtTheFirst sep (p ∷ []) = is_part sep p ≡ false
+EndAtTheFirst sep (p ∷ q ∷ ps) = (first_place sep (p ++ sep) ≡ Some (length p)) × EndAtTheFirst sep (q ∷ ps)
+
+abbrev pub PartsEndAtTheFirst : List ℕ → List ℕ → Type 0
+PartsEndAtTheFirst sep t = 0 < length sep → EndAtTheFirst sep (parts sep t)

@@ -1,6 +1,6 @@
 //! What the tests on texts mean. These functions do nothing; their contracts hold of all lists of bytes.
 ghost use Rattle.std.specs.Prelude.{List, ℕ};
-ghost use Rattle.strings.specs.Meaning.{BeginsSays, EndsSays, PartSays, PartsMakeTheText};
+ghost use Rattle.strings.specs.Meaning.{BeginsSays, EndsSays, PartSays, PartsMakeTheText, PartsEndAtTheFirst};
 
 /// A text begins with bytes, ends with them or holds them exactly where it is made of them, and of what stands beside them.
 pub fn texts_are_made_of_what_they_hold()
@@ -9,7 +9,9 @@ pub fn texts_are_made_of_what_they_hold()
     ensures holds { (p t : List ℕ) → PartSays p t }
 {}
 
-/// The parts of a text, joined by the separator, are the text.
+/// The parts of a text, joined by the separator, are the text; and each part but the last ends where the separator first
+/// stands, from the part's own beginning on.
 pub fn parts_make_the_text()
-    ensures { (sep t : List ℕ) → PartsMakeTheText sep t }
+    ensures whole { (sep t : List ℕ) → PartsMakeTheText sep t }
+    ensures firsts { (sep t : List ℕ) → PartsEndAtTheFirst sep t }
 {}
