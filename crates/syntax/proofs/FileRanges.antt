@@ -1,6 +1,5 @@
 -- A file that has a tree is a program.
-use Rattle.std.proofs.Common.{◌≡◌, ℕ, List, [], length, Result, Ok, refl, subst, sym}
-use Rattle.lexer.specs.declared.fault.SyntaxFault.{SyntaxFault}
+use Rattle.std.proofs.Common.{◌≡◌, ℕ, List, length, Ok, refl, subst, sym}
 use Rattle.lexer.specs.declared.file_kind.FileKind.{FileKind}
 use Rattle.grammar.specs.Blocks.{Block}
 use Rattle.grammar.specs.BareLines.{bare_lines}

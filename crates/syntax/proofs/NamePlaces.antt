@@ -1,13 +1,13 @@
 -- What names stand for is there: a slot of the frame, or a name of the file.
-use Rattle.std.proofs.Common.{◌≡◌, ℕ, zero, suc, ◌+◌, ◌<◌, ◌≤◌, Bool, true, false, not, ◌&&◌, ◌||◌, List, [], ◌∷◌, ◌++◌, length, map, Option, Some, None, refl, sym, ap, ◌∙◌, subst, arith, if◌then◌else◌}
-use Rattle.std.specs.Prelude.{bytes_eq, is_some, option_map, position, unwrap_or, nat_lt}
-use Rattle.std.specs.List.{AllByRecursion, list_any, position_or_len}
+use Rattle.std.proofs.Common.{◌≡◌, ℕ, suc, ◌+◌, ◌<◌, ◌≤◌, Bool, true, false, not, ◌&&◌, ◌||◌, List, [], ◌∷◌, ◌++◌, length, Option, Some, None, refl, sym, ap, ◌∙◌, subst, arith, if◌then◌else◌}
+use Rattle.std.specs.Prelude.{bytes_eq, is_some, option_map, position, unwrap_or}
+use Rattle.std.specs.List.{AllByRecursion, position_or_len}
 use Rattle.std.proofs.lemmas.Bool.{lt-ltb}
 use Rattle.std.proofs.lemmas.List.Quantifiers.{position-Some}
 use Rattle.std.proofs.lemmas.List.Recursion.{is_position_or_len}
 use Rattle.std.proofs.lemmas.Slice.Eq.{bytes_eq-Decides}
 use Rattle.grammar.specs.Bare.{Rest}
-use Rattle.syntax.specs.Names.{Name, Binding, Predeclared, Scope, slot, global, builtin, or_else, among, apart, distinct, once, without, clause_names, width, slot_of, stands_for, predeclared, inside_of}
+use Rattle.syntax.specs.Names.{Name, Binding, Predeclared, Scope, slot, global, builtin, or_else, among, distinct, once, without, clause_names, width, slot_of, predeclared, inside_of}
 use Rattle.syntax.specs.Scopes.{is_bound}
 use Rattle.syntax.specs.Resolved.{binding_of, global_of, own_slots}
 use Rattle.syntax.specs.IsProgram.{IsInRange, IsOwnSlot, Around, at_top, in_function, in_loop, IsTarget}

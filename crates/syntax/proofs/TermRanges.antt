@@ -1,9 +1,9 @@
 -- What the names of expressions stand for is there, in each frame that has slots for the names around and for the
 -- comprehensions inside.
-use Rattle.std.proofs.Common.{◌≡◌, ℕ, suc, ◌≤◌, Bool, true, false, ◌&&◌, List, [], ◌∷◌, ◌++◌, length, map, max, refl, sym, ap, subst, arith}
+use Rattle.std.proofs.Common.{◌≡◌, ℕ, ◌≤◌, true, List, [], ◌∷◌, ◌++◌, length, map, refl, subst, arith}
 use Rattle.std.specs.List.{AllByRecursion}
 use Rattle.grammar.specs.Bare as bare
-use Rattle.syntax.specs.Names.{Name, Binding, Scope, width, clause_names, inside_of}
+use Rattle.syntax.specs.Names.{Scope, width, clause_names, inside_of}
 use Rattle.syntax.specs.Scopes.{scoped, trees_scoped, entries_scoped, keywords_scoped, rest_scoped, none_predeclared, keyword_names}
 use Rattle.syntax.specs.Names.{distinct}
 use Rattle.syntax.specs.Resolved.{OwnSlots, term, terms, pairs, keywords, rounds, binding_of, own_slots, term_slots, terms_slots, pairs_slots, keywords_slots, rounds_slots}

@@ -1,5 +1,5 @@
 -- The tokens of a text stand on lines from 1 on, and no number among them is too great: so it is of a file's lines.
-use Rattle.std.proofs.Common.{◌≡◌, ℕ, ◌+◌, ◌≤◌, List, [], ◌∷◌, ◌++◌, drop, take, map, refl, sym, subst, arith}
+use Rattle.std.proofs.Common.{ℕ, ◌+◌, ◌≤◌, List, [], ◌∷◌, ◌++◌, drop, take, map, sym, subst, arith}
 use Rattle.std.specs.List.{AllByRecursion}
 use Rattle.lexer.specs.declared.token.Word.TheVariants.{Else, If, In}
 use Rattle.lexer.specs.declared.token.Mark.TheVariants.{CloseBracket, CloseParen, AddAssign, Assign, Colon, Comma, Dot, OpenBracket, OpenParen}

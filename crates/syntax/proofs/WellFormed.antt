@@ -1,6 +1,6 @@
 -- What is so of the lines of a file by its grammar: each comprehension begins with a `for`, no number is too great, and each
 -- form stands in its place, on a line from 1 on.
-use Rattle.std.proofs.Common.{◌≡◌, ◌≤◌, ℕ, suc, Bool, true, false, List, [], ◌∷◌, Option, None, Some, refl, sym, subst}
+use Rattle.std.proofs.Common.{◌≡◌, ◌≤◌, ℕ, Bool, true, false, None, Some, refl, sym, subst}
 use Rattle.std.specs.List.{AllByRecursion}
 use Rattle.lexer.specs.declared.file_kind.FileKind.{FileKind}
 use Rattle.lexer.specs.declared.file_kind.FileKind.TheVariants.{Module, Build}
