@@ -50,7 +50,8 @@ fn joined(
     parts: &[&AsciiText],
     length: usize,
 ) -> Result<String, AllocError>
-    ensures bytes { IfOk result (λ t. string_bytes t ≡ glued separator.now (map (λ p. p.now) parts.now)) }
+    ensures bytes { IfOk result
+        (λ t. string_bytes t ≡ glued separator.now (map (λ p. p.now) parts.now)) }
     ensures ascii { IfOk result (λ t. is_ascii (string_bytes t) ≡ true) }
 {
     let mut text = String::with_capacity(alloc, length)?;
@@ -66,8 +67,10 @@ fn joined(
 
 /// Puts a text behind a separator.
 fn put(text: &mut String, separator: &AsciiText, part: &AsciiText) -> Result<(), AllocError>
-    ensures bytes { OnOk result (string_bytes text.new ≡ string_bytes text.old ++ separator.now ++ part.now) }
-    ensures ascii { OnOk result (is_ascii (string_bytes text.old) ≡ true → is_ascii (string_bytes text.new) ≡ true) }
+    ensures bytes { OnOk result
+        (string_bytes text.new ≡ string_bytes text.old ++ separator.now ++ part.now) }
+    ensures ascii { OnOk result
+        (is_ascii (string_bytes text.old) ≡ true → is_ascii (string_bytes text.new) ≡ true) }
 {
     text.push_str(separator.as_str())?;
     text.push_str(part.as_str())?;

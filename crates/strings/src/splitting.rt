@@ -44,7 +44,8 @@ fn cut<'a>(text: &'a str, separator: &str) -> Option<(&'a str, &'a str)>
     ensures parts { MatchOption result (parts separator.now text.now ≡ text.now ∷ [])
         (λ x. parts separator.now text.now ≡ x.0.now ∷ parts separator.now x.1.now) }
     ensures front { MatchOption result (Unit {0}) (λ x. is_text x.0.now ≡ true) }
-    ensures back { MatchOption result (Unit {0}) (λ x. (is_text x.1.now ≡ true) × (length x.1.now < length text.now)) }
+    ensures back { MatchOption result (Unit {0})
+        (λ x. (is_text x.1.now ≡ true) × (length x.1.now < length text.now)) }
 {
     text.split_once(separator)
 }
