@@ -1,0 +1,3 @@
+pub mod Backwards
+pub mod Parts
+pub mod Clauses

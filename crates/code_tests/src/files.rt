@@ -1,0 +1,284 @@
+//! Files that are read and compiled: their instructions are those that the definitions of the code give for them.
+use code::{Code, Instruction, Source, compile};
+use std::alloc::{AllocError, Global};
+use std::process::Abort;
+use syntax::{FileKind, parse};
+
+/// The line of an instruction, what it is, and its numbers.
+type Row = (usize, &'static str, usize, usize);
+
+fn compiled(rt: &impl Abort, alloc: Global, text: &str) -> Code {
+    match parse(alloc, text, FileKind::Module) {
+        Ok(parsed) => compile(alloc, &parsed).expect(rt, "no memory"),
+        Err(_) => panic!(rt; "no tree of {text:?}"),
+    }
+}
+
+/// The number of an operand.
+fn number(source: Source) -> usize {
+    match source {
+        Source::Slot(slot) => slot,
+        Source::Number(number) => number as usize,
+    }
+}
+
+/// Names, values and operators.
+fn value(instruction: &Instruction) -> Option<(&'static str, usize, usize)> {
+    match instruction {
+        Instruction::PushNumber(number) => Some(("number", *number as usize, 0)),
+        Instruction::PushText(text) => Some(("text", text.len(), 0)),
+        Instruction::PushNone => Some(("none", 0, 0)),
+        Instruction::PushBuiltin(_) => Some(("builtin", 0, 0)),
+        Instruction::LoadSlot(slot) => Some(("load", *slot, 0)),
+        Instruction::StoreSlot(slot) => Some(("store", *slot, 0)),
+        Instruction::StoreGlobal(number) => Some(("global", *number, 0)),
+        Instruction::StoreLoaded(number) => Some(("loaded", *number, 0)),
+        Instruction::ClearSlots(own) => Some(("clear", own.first, own.end)),
+        Instruction::Operate(_) => Some(("operate", 0, 0)),
+        Instruction::OperateOnSlot(_, slot) => Some(("on slot", *slot, 0)),
+        Instruction::OperateBoth(both) => Some(("both", number(both.left), number(both.right))),
+        Instruction::Increase => Some(("increase", 0, 0)),
+        _ => None,
+    }
+}
+
+/// Jumps, walks, displays and calls.
+fn step(instruction: &Instruction) -> Option<(&'static str, usize, usize)> {
+    match instruction {
+        Instruction::Skip(passed) => Some(("skip", *passed, 0)),
+        Instruction::SkipUnless(passed) => Some(("skip unless", *passed, 0)),
+        Instruction::KeepUnless(passed) => Some(("keep unless", *passed, 0)),
+        Instruction::KeepIf(passed) => Some(("keep if", *passed, 0)),
+        Instruction::MakeList(items) => Some(("list", *items, 0)),
+        Instruction::Collect => Some(("collect", 0, 0)),
+        Instruction::TakeCallee => Some(("callee", 0, 0)),
+        Instruction::Find(name) => Some(("find", name.len(), 0)),
+        Instruction::Call(items) => Some(("call", *items, 0)),
+        Instruction::CallNamed(call) => Some(("call named", call.items, call.names.len())),
+        Instruction::BeginWalk(passed) => Some(("walk", *passed, 0)),
+        Instruction::NextInto(slot) => Some(("next", *slot, 0)),
+        Instruction::Again => Some(("again", 0, 0)),
+        Instruction::StopWalk => Some(("stop", 0, 0)),
+        Instruction::Import(import) => Some(("import", import.module.len(), import.name.len())),
+        Instruction::Define(defined) => Some(("define", defined.function, defined.defaults)),
+        Instruction::GiveBack => Some(("back", 0, 0)),
+        _ => None,
+    }
+}
+
+/// What an instruction is, where a row can say so.
+fn told(instruction: &Instruction) -> Option<(&'static str, usize, usize)> {
+    match value(instruction) {
+        Some(told) => Some(told),
+        None => step(instruction),
+    }
+}
+
+/// The rows are the instructions of a function of the text, but for the two at its end.
+fn expect_code(rt: &impl Abort, alloc: Global, text: &str, function: usize, rows: &[Row]) {
+    let code = compiled(rt, alloc, text);
+    let lines = match code.instructions(function) {
+        Some(lines) => lines,
+        None => panic!(rt; "no function {function} in {text:?}"),
+    };
+    assert!(rt;
+        lines.len() == rows.len().saturating_add(2),
+        "{text:?}: {}",
+        lines.len()
+    );
+    for (lined, row) in lines.iter().zip(rows) {
+        let (line, name, first, second) = *row;
+        let Some((is, one, two)) = told(&lined.instruction) else {
+            panic!(rt; "{text:?}: not {name}");
+        };
+        assert!(rt;
+            is == name && lined.line == line,
+            "{text:?}: {is} for {name}"
+        );
+        assert!(rt; one == first && two == second, "{text:?}: {is} {one} {two}");
+    }
+}
+
+#[test]
+fn assignments_and_loads_are_compiled(rt: HostRuntime) {
+    let alloc = rt.alloc();
+    expect_code(
+        &rt,
+        alloc,
+        "x = 1\n",
+        0,
+        &[(1, "number", 1, 0), (1, "global", 0, 0)],
+    );
+    let rows = [
+        (1, "import", 6, 1),
+        (1, "loaded", 0, 0),
+        (1, "import", 6, 2),
+        (1, "loaded", 1, 0),
+    ];
+    expect_code(
+        &rt,
+        alloc,
+        "load(\":a.bzl\", \"p\", q = \"rs\")\n",
+        0,
+        &rows,
+    );
+}
+
+#[test]
+fn and_and_or_keep_their_operands(rt: HostRuntime) {
+    let alloc = rt.alloc();
+    let rows = [
+        (2, "load", 0, 0),
+        (2, "keep unless", 1, 0),
+        (2, "number", 7, 0),
+        (2, "back", 0, 0),
+    ];
+    expect_code(&rt, alloc, "def f(x):\n    return x and 7\n", 1, &rows);
+    let rows = [
+        (2, "load", 0, 0),
+        (2, "keep if", 1, 0),
+        (2, "both", 0, 7),
+        (2, "back", 0, 0),
+    ];
+    expect_code(&rt, alloc, "def f(x):\n    return x or x + 7\n", 1, &rows);
+}
+
+#[test]
+fn operators_take_slots_and_numbers(rt: HostRuntime) {
+    let alloc = rt.alloc();
+    let rows = [
+        (2, "both", 0, 7),
+        (2, "on slot", 0, 0),
+        (2, "list", 0, 0),
+        (2, "operate", 0, 0),
+        (2, "back", 0, 0),
+    ];
+    expect_code(
+        &rt,
+        alloc,
+        "def f(x):\n    return x + 7 - x == []\n",
+        1,
+        &rows,
+    );
+}
+
+#[test]
+fn conditions_jump_over_what_is_not_done(rt: HostRuntime) {
+    let alloc = rt.alloc();
+    let text = "def f(x):\n    if x:\n        return 1\n    else:\n        return 2\n";
+    let rows = [
+        (2, "load", 0, 0),
+        (2, "skip unless", 3, 0),
+        (3, "number", 1, 0),
+        (3, "back", 0, 0),
+        (2, "skip", 2, 0),
+        (5, "number", 2, 0),
+        (5, "back", 0, 0),
+    ];
+    expect_code(&rt, alloc, text, 1, &rows);
+    let text = "def f(x):\n    if x:\n        return 1\n    else:\n        pass\n";
+    let rows = [
+        (2, "load", 0, 0),
+        (2, "skip unless", 2, 0),
+        (3, "number", 1, 0),
+        (3, "back", 0, 0),
+    ];
+    expect_code(&rt, alloc, text, 1, &rows);
+}
+
+#[test]
+fn loops_walk_over_their_operand(rt: HostRuntime) {
+    let alloc = rt.alloc();
+    let text = "def f(l, n = 3):\n    for x in l:\n        n += x\n        break\n";
+    let rows = [
+        (2, "load", 0, 0),
+        (2, "walk", 7, 0),
+        (2, "next", 2, 0),
+        (3, "load", 1, 0),
+        (3, "load", 2, 0),
+        (3, "increase", 0, 0),
+        (3, "store", 1, 0),
+        (4, "stop", 0, 0),
+        (2, "again", 0, 0),
+    ];
+    expect_code(&rt, alloc, text, 1, &rows);
+    let rows = [
+        (1, "number", 3, 0),
+        (1, "define", 1, 1),
+        (1, "global", 0, 0),
+    ];
+    expect_code(&rt, alloc, text, 0, &rows);
+}
+
+#[test]
+fn comprehensions_empty_their_slots_behind_the_first_operand(rt: HostRuntime) {
+    let alloc = rt.alloc();
+    let rows = [
+        (1, "list", 0, 0),
+        (1, "number", 5, 0),
+        (1, "list", 1, 0),
+        (1, "clear", 0, 2),
+        (1, "walk", 10, 0),
+        (1, "next", 0, 0),
+        (1, "load", 0, 0),
+        (1, "skip unless", 6, 0),
+        (1, "load", 0, 0),
+        (1, "walk", 4, 0),
+        (1, "next", 1, 0),
+        (1, "load", 1, 0),
+        (1, "collect", 0, 0),
+        (1, "again", 0, 0),
+        (1, "again", 0, 0),
+        (1, "global", 0, 0),
+    ];
+    expect_code(
+        &rt,
+        alloc,
+        "x = [z for y in [5] if y for z in y]\n",
+        0,
+        &rows,
+    );
+}
+
+#[test]
+fn calls_find_their_callee_first(rt: HostRuntime) {
+    let alloc = rt.alloc();
+    let rows = [
+        (1, "builtin", 0, 0),
+        (1, "callee", 0, 0),
+        (1, "number", 1, 0),
+        (1, "text", 2, 0),
+        (1, "call named", 1, 1),
+        (1, "global", 0, 0),
+    ];
+    expect_code(&rt, alloc, "x = len(1, k = \"no\")\n", 0, &rows);
+    let rows = [
+        (1, "number", 1, 0),
+        (1, "list", 1, 0),
+        (1, "find", 6, 0),
+        (1, "number", 2, 0),
+        (1, "call", 1, 0),
+        (1, "global", 0, 0),
+    ];
+    expect_code(&rt, alloc, "x = [1].append(2)\n", 0, &rows);
+}
+
+/// A number with so many signs before it.
+fn signed(alloc: Global, signs: usize) -> Result<String, AllocError> {
+    let mut text = String::new(alloc);
+    text.push_str("x = ")?;
+    for _ in 0..signs {
+        text.push('-')?;
+    }
+    text.push_str("1\n")?;
+    Ok(text)
+}
+
+#[test]
+fn deep_expressions_are_compiled(rt: HostRuntime) {
+    let alloc = rt.alloc();
+    let text = signed(alloc, 199).expect(&rt, "no memory");
+    let code = compiled(&rt, alloc, text.as_str());
+    let lines = code.instructions(0).expect(&rt, "a top level");
+    assert!(&rt; lines.len() == 203, "{}", lines.len());
+}
