@@ -14,8 +14,9 @@ use Rattle.values.specs.declared.value.Value.TheVariants as value
 use Rattle.one_tree.specs.Found.{Set, in_outcome, in_values, together}
 use Rattle.one_tree.specs.Sets.{IsOneTree, IsFresh, IsNumbered, AreIn, next}
 
--- The evaluation's owner has made so many depsets, was given those, and holds this heap and these values: an id has one tree,
--- also together with what was given, and each depset that it holds was given or is its own.
+-- The evaluation's owner has made so many depsets, was given those, and holds this heap and these values, which are all that
+-- names, defaults, operands and registered actions have: an id has one tree, also together with what was given, and each depset
+-- that it holds was given or is its own.
 pub record Holds (owner : List ℕ) (made : ℕ) (known : List Set) (h : List Cell) (vs : List Value) : Type 0 where
   pub one : IsOneTree (known ++ together h vs)
   pub numbered : IsNumbered owner made (known ++ together h vs)

@@ -50,7 +50,7 @@ abbrev mutual
   in_slots (missing ss) = in_slots ss
   in_slots (given t ss) = in_tree t ++ in_slots ss
 
--- in the values of an outcome, or of a module
+-- In the values of an outcome, or of a module. A depset that an action has as its inputs stands among them, as a value.
 abbrev pub in_outcome : List FrozenTree → List Set
 in_outcome [] = []
 in_outcome (t ∷ ts) = in_tree t ++ in_outcome ts
