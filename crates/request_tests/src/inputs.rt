@@ -22,46 +22,52 @@ fn padded(alloc: Global, length: usize) -> Result<String, Fail> {
     Ok(input)
 }
 
+/// Inputs of a line each, with how many files they have before them. `-` says that they are refused.
+const ROWS: &str = "0 []
+1  [ [ \"a/BUILD\" , \"x = \\\"y\\\"\\n\" ] ]
+2 [[\"b\", \"\"], [\"a\", \"caf\u{e9}\"]]
+- 
+- [[\"a/BUILD
+- {}
+- {\"a\": \"x\"}
+- [\"a\", \"x\"]
+- [[]]
+- [[\"a\"]]
+- [[\"a\", \"x\", \"y\"]]
+- [[\"a\", 1]]
+- [[1, \"x\"]]
+- [[\"a\", \"x\"],]
+- [[\"a\", \"x\"]] []
+- \u{feff}[]
+- [[\"a\", \"\\ud800\"]]
+- [[\"a\", \"x\"], [\"a\", \"x\"]]
+- [[\"a b\", \"x\"]]";
+
+/// Whether the input of a row is what it says.
+fn is_so(alloc: Global, row: &str) -> bool {
+    match row.split_once(' ') {
+        Some((files, input)) => is_input(alloc, input.as_bytes(), files.parse::<usize>().ok()),
+        None => false,
+    }
+}
+
 #[test]
-fn inputs_are_read(rt: HostRuntime) -> Result<(), Fail> {
+fn inputs_are_read(rt: HostRuntime) {
+    for row in ROWS.lines() {
+        assert!(rt; is_so(rt.alloc(), row), "{row}");
+    }
+    assert!(rt;
+        is_input(rt.alloc(), b"[[\"a\", \"\xff\"]]", None),
+        "no UTF-8"
+    );
+}
+
+#[test]
+fn the_longest_input_is_read(rt: HostRuntime) -> Result<(), Fail> {
     let alloc = rt.alloc();
-    let longest = padded(alloc, INPUT_LIMIT)?;
-    let too_long = padded(alloc, INPUT_LIMIT + 1)?;
-    for (input, files) in [
-        (b"[]".as_slice(), Some(0)),
-        (
-            b" [ [ \"a/BUILD\" , \"x = \\\"y\\\"\\n\" ] ]\n".as_slice(),
-            Some(1),
-        ),
-        (
-            b"[[\"b\", \"\"], [\"a\", \"caf\xc3\xa9\"]]".as_slice(),
-            Some(2),
-        ),
-        (longest.as_bytes(), Some(0)),
-        (too_long.as_bytes(), None),
-        (b"".as_slice(), None),
-        (b"[[\"a/BUILD".as_slice(), None),
-        (b"{}".as_slice(), None),
-        (b"{\"a\": \"x\"}".as_slice(), None),
-        (b"[\"a\", \"x\"]".as_slice(), None),
-        (b"[[]]".as_slice(), None),
-        (b"[[\"a\"]]".as_slice(), None),
-        (b"[[\"a\", \"x\", \"y\"]]".as_slice(), None),
-        (b"[[\"a\", 1]]".as_slice(), None),
-        (b"[[1, \"x\"]]".as_slice(), None),
-        (b"[[\"a\", \"x\"],]".as_slice(), None),
-        (b"[[\"a\", \"x\"]] []".as_slice(), None),
-        (b"\xef\xbb\xbf[]".as_slice(), None),
-        (b"[[\"a\", \"\xff\"]]".as_slice(), None),
-        (b"[[\"a\", \"\\ud800\"]]".as_slice(), None),
-        (b"[[\"a\", \"x\"], [\"a\", \"x\"]]".as_slice(), None),
-        (b"[[\"a b\", \"x\"]]".as_slice(), None),
-    ] {
-        assert!(rt;
-            is_input(alloc, input, files),
-            "an input of {} bytes",
-            input.len()
-        );
+    for (over, files) in [(0, Some(0)), (1, None)] {
+        let input = padded(alloc, INPUT_LIMIT + over)?;
+        assert!(rt; is_input(alloc, input.as_bytes(), files));
     }
     Ok(())
 }
