@@ -3,3 +3,4 @@ pub mod CallRows
 pub mod OperatorRows
 pub mod BuiltInRows
 pub mod Turns
+pub mod StringRows

@@ -14,3 +14,5 @@ pub mod Instances
 pub mod Operators
 pub mod BuiltIns
 pub mod Methods
+pub mod Strings
+pub mod Calls
