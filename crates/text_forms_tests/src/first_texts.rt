@@ -1,8 +1,8 @@
 //! Texts of the first form with their free parts, and texts that deviate from it in one place.
 use lexer::FileKind;
-use std::alloc::Global;
+use std::alloc::{AllocError, Global};
 use std::test::Fail;
-use text_forms::{FileForm, TargetForm, TargetsForm, form};
+use text_forms::{BuildForm, DepsModuleForm, FileForm, ModuleForm, TargetForm, TargetsForm, form};
 
 /// The target with the texts of its dependencies behind it, a `/` before each.
 fn target_shown(alloc: Global, target: &TargetForm) -> Result<String, Fail> {
@@ -37,36 +37,47 @@ pub(crate) fn has_parts(
     Ok(shown.as_str() == want)
 }
 
+fn module_shown(alloc: Global, f: &ModuleForm) -> Result<String, AllocError> {
+    let provider = f.provider.as_str();
+    let implementation = f.implementation.as_str();
+    let context = f.context.as_str();
+    let rule = f.rule.as_str();
+    let field = f.field.as_str();
+    let number = f.number;
+    format!(in alloc; "{provider} {implementation} {context} {rule} {field} {number}")
+}
+
+fn deps_module_shown(alloc: Global, f: &DepsModuleForm) -> Result<String, AllocError> {
+    let provider = f.provider.as_str();
+    let implementation = f.implementation.as_str();
+    let context = f.context.as_str();
+    let rule = f.rule.as_str();
+    let field = f.field.as_str();
+    let dependency = f.dependency.as_str();
+    format!(in alloc; "{provider} {implementation} {context} {rule} {field} {dependency}")
+}
+
+fn build_shown(alloc: Global, f: &BuildForm) -> Result<String, AllocError> {
+    let module = f.module.as_str();
+    let rule = f.rule.as_str();
+    let target = f.target.as_str();
+    format!(in alloc; "{module} {rule} {target}")
+}
+
+/// The free parts in one line.
+fn form_shown(alloc: Global, form: &FileForm) -> Result<String, Fail> {
+    match form {
+        FileForm::Module(f) => Ok(module_shown(alloc, f)?),
+        FileForm::DepsModule(f) => Ok(deps_module_shown(alloc, f)?),
+        FileForm::Build(f) => Ok(build_shown(alloc, f)?),
+        FileForm::Targets(f) => targets_shown(alloc, f),
+    }
+}
+
 /// The free parts of a text in one line, or `none`.
 fn shown(alloc: Global, text: &str, kind: FileKind) -> Result<String, Fail> {
     match form(alloc, text, kind)? {
-        Some(FileForm::Module(f)) => {
-            let provider = f.provider.as_str();
-            let implementation = f.implementation.as_str();
-            let context = f.context.as_str();
-            let rule = f.rule.as_str();
-            let field = f.field.as_str();
-            let number = f.number;
-            Ok(format!(in alloc; "{provider} {implementation} {context} {rule} {field} {number}")?)
-        }
-        Some(FileForm::DepsModule(f)) => {
-            let provider = f.provider.as_str();
-            let implementation = f.implementation.as_str();
-            let context = f.context.as_str();
-            let rule = f.rule.as_str();
-            let field = f.field.as_str();
-            let dependency = f.dependency.as_str();
-            Ok(format!(in alloc;
-                "{provider} {implementation} {context} {rule} {field} {dependency}"
-            )?)
-        }
-        Some(FileForm::Build(f)) => {
-            let module = f.module.as_str();
-            let rule = f.rule.as_str();
-            let target = f.target.as_str();
-            Ok(format!(in alloc; "{module} {rule} {target}")?)
-        }
-        Some(FileForm::Targets(f)) => targets_shown(alloc, &f),
+        Some(found) => form_shown(alloc, &found),
         None => Ok(String::from_str(alloc, "none")?),
     }
 }
