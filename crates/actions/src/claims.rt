@@ -29,7 +29,8 @@ pub(crate) fn all_claims(alloc: Global, owned: &[Owned]) -> Result<BTreeSet<Clai
 
 /// Adds the claims of one action.
 fn claim_all(claims: &mut BTreeSet<Claim>, place: usize, owned: &Owned) -> Result<(), AllocError>
-    ensures { OnOk result (claims.new.keys ≡ all_in_order claims.old.keys (claims_of place owned.now)) }
+    ensures { OnOk result (claims.new.keys ≡ all_in_order claims.old.keys
+        (claims_of place owned.now)) }
 {
     let files = owned.action.outputs.as_slice();
     for i in 0..files.len() {
@@ -45,7 +46,8 @@ fn add_claim(
     label: &Text,
     file: &Shared<FileRef>,
 ) -> Result<(), AllocError>
-    ensures { OnOk result (claims.new.keys ≡ put_in_order claims.old.keys (claim_on place label.now file.now)) }
+    ensures { OnOk result (claims.new.keys ≡ put_in_order claims.old.keys
+        (claim_on place label.now file.now)) }
 {
     let path = file.get().path.share()?;
     let label = label.share()?;

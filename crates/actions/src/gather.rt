@@ -68,7 +68,9 @@ struct Gatherer {
 impl Gatherer {
     /// Takes the next claim in order.
     fn take(&mut self, alloc: Global, claim: &Claim) -> Result<(), AllocError>
-        ensures { OnOk result ((rest : List Claimed) → (self.new.found.items ++ gathered self.new.path self.new.labels rest) ≡ (self.old.found.items ++ gathered self.old.path self.old.labels (claim.now ∷ rest))) }
+        ensures { OnOk result ((rest : List Claimed)
+            → (self.new.found.items ++ gathered self.new.path self.new.labels rest)
+            ≡ (self.old.found.items ++ gathered self.old.path self.old.labels (claim.now ∷ rest))) }
     {
         if self.path != claim.path {
             self.close(alloc)?;
@@ -81,7 +83,8 @@ impl Gatherer {
 
     /// Ends the path that is gathered: a conflict where there are at least two labels.
     fn close(&mut self, alloc: Global) -> Result<(), AllocError>
-        ensures found { OnOk result (self.new.found.items ≡ self.old.found.items ++ conflict_of self.old.path self.old.labels) }
+        ensures found { OnOk result (self.new.found.items
+            ≡ self.old.found.items ++ conflict_of self.old.path self.old.labels) }
         ensures path { OnOk result (self.new.path ≡ self.old.path) }
         ensures labels { OnOk result (self.new.labels ≡ []) }
     {

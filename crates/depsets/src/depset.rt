@@ -8,6 +8,7 @@ ghost use Rattle.depsets.specs.Rose.{children, label, node, roses, depth, depths
 ghost use Rattle.depsets.specs.Orders.{fits, all_fit};
 ghost use Rattle.depsets.specs.Elements.{elements, elements_of, is_uniform, first_type, goes_on, type_after, joined};
 ghost use Rattle.depsets.specs.Refusals.{refusal};
+ghost use Rattle.depsets.specs.Own.{Own};
 ghost use Rattle.depsets.specs.Orders.{is_preorder};
 
 use crate::{Element, ElementType};
@@ -138,8 +139,10 @@ impl Depset {
         direct: Vec<Element>,
         children: Vec<Depset>,
     ) -> Result<Depset, DepsetError>
-        ensures { let tree = node (record { id = id; order = order; direct = direct.items }) (roses children.items) in
-            MatchResult result (λ d. (d ≡ tree) × (refusal tree ≡ None)) (λ e. (e ≡ DepsetError.NoMemory) ⊎ (refusal tree ≡ Some e)) }
+        ensures { let given : Own = record { id = id; order = order; direct = direct.items } in
+            let tree = node given (roses children.items) in
+            MatchResult result (λ d. (d ≡ tree) × (refusal tree ≡ None))
+            (λ e. (e ≡ DepsetError.NoMemory) ⊎ (refusal tree ≡ Some e)) }
     {
         let known = match type_of_direct(direct.as_slice()) {
             Ok(known) => known,
@@ -232,7 +235,8 @@ impl Depset {
 
 /// The type of these elements, as far as they have one.
 fn type_of_direct(direct: &[Element]) -> Result<Option<ElementType>, DepsetError>
-    ensures { MatchResult result (λ t. (is_uniform direct.now ≡ true) × (t ≡ first_type direct.now)) (λ e. (e ≡ DepsetError.Mixed) × (is_uniform direct.now ≡ false)) }
+    ensures { MatchResult result (λ t. (is_uniform direct.now ≡ true) × (t ≡ first_type direct.now))
+        (λ e. (e ≡ DepsetError.Mixed) × (is_uniform direct.now ≡ false)) }
 {
     let mut known = None;
     for element in direct {
@@ -249,7 +253,10 @@ fn type_with_children(
     known: Option<ElementType>,
     children: &[Depset],
 ) -> Result<Option<ElementType>, DepsetError>
-    ensures { MatchResult result (λ t. (goes_on known (elements_of (roses children.now)) ≡ true) × (t ≡ type_after known (elements_of (roses children.now)))) (λ e. (e ≡ DepsetError.Mixed) × (goes_on known (elements_of (roses children.now)) ≡ false)) }
+    ensures { MatchResult result (λ t. (goes_on known (elements_of (roses children.now)) ≡ true)
+        × (t ≡ type_after known (elements_of (roses children.now))))
+        (λ e. (e ≡ DepsetError.Mixed) × (goes_on known (elements_of (roses children.now))
+        ≡ false)) }
 {
     let mut known = known;
     for child in children {
@@ -266,7 +273,8 @@ fn joined(
     known: Option<ElementType>,
     next: Option<ElementType>,
 ) -> Result<Option<ElementType>, DepsetError>
-    ensures { MatchResult result (λ t. joined known next ≡ Some t) (λ e. (e ≡ DepsetError.Mixed) × (joined known next ≡ None)) }
+    ensures { MatchResult result (λ t. joined known next ≡ Some t)
+        (λ e. (e ≡ DepsetError.Mixed) × (joined known next ≡ None)) }
 {
     match (known, next) {
         (None, _) => Ok(next),

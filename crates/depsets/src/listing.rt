@@ -82,7 +82,8 @@ impl Depset {
         ensures items { IfOk result (λ l. IsCoherent self.now → l.items.keys ≡ flat self.now) }
         ensures steps { IfOk result (λ l. IsCoherent self.now → l.steps ≡ work self.now) }
         ensures fits { IfOk result (λ l. IsCoherent self.now → length (flat self.now) ≤ ITEMS) }
-        ensures large { result ≡ Err ListError.Large → IsCoherent self.now → ITEMS < length (flat self.now) }
+        ensures large { result ≡ Err ListError.Large → IsCoherent self.now
+            → ITEMS < length (flat self.now) }
     {
         match self.list_whole(alloc) {
             Ok(listing) => {
@@ -131,7 +132,8 @@ struct Walker {
 impl Walker {
     /// Takes the depset's own elements.
     fn take_own(&mut self, d: &Depset) -> Result<(), AllocError>
-        ensures { OnOk result (walk_of self.new ≡ took (label d.now).direct (label d.now) (walk_of self.old)) }
+        ensures { OnOk result (walk_of self.new
+            ≡ took (label d.now).direct (label d.now) (walk_of self.old)) }
     {
         let direct = d.direct();
         for i in 0..direct.len() {
@@ -170,7 +172,8 @@ impl Walker {
     /// Visits each child in turn.
     #[cycle(walk)]
     fn visit_children(&mut self, d: &Depset, preorder: bool) -> Result<(), AllocError>
-        ensures { OnOk result (walk_of self.new ≡ visited_all preorder (children d.now) (walk_of self.old)) }
+        ensures { OnOk result (walk_of self.new
+            ≡ visited_all preorder (children d.now) (walk_of self.old)) }
     {
         let children = d.children();
         for i in 0..children.len() {

@@ -27,7 +27,9 @@ pub const LARGEST_TEXT: usize = 1_048_576;
 /// number, string, list, tuple, dict, label or File; each value is tested in this order. At the end `large`
 /// where there are more than `LARGEST_TEXT` bytes. After a `Broken` the ticks are open.
 pub fn repr(alloc: Global, item: Item<'_>, heap: &Heap, ticks: &mut Ticks) -> Result<String, Broken>
-    ensures { MatchResult result (λ s. repr_of heap.now (item_value item.entry) ticks.old ≡ Ok (string_bytes s, ticks.new)) (λ e. FaultOr (repr_of heap.now (item_value item.entry) ticks.old) e) }
+    ensures { MatchResult result (λ s. repr_of heap.now (item_value item.entry) ticks.old
+        ≡ Ok (string_bytes s, ticks.new)) (λ e. FaultOr
+        (repr_of heap.now (item_value item.entry) ticks.old) e) }
 {
     let mut out = String::new(alloc);
     if let Err(broken) = put_whole(alloc, VISITED_LEVELS, item, heap, ticks, &mut out) {
@@ -58,7 +60,8 @@ fn put_text(out: &mut String, text: &str) -> Result<(), AllocError>
 
 /// Appends what stands before the part at a place.
 fn put_comma(out: &mut String, place: usize) -> Result<(), AllocError>
-    ensures { OnOk result (fits (string_bytes out.new) ≡ fits (string_bytes out.old ++ separator place)) }
+    ensures { OnOk result (fits (string_bytes out.new)
+        ≡ fits (string_bytes out.old ++ separator place)) }
 {
     if !is_full(out) {
         put_separator(out, place)?;
@@ -68,7 +71,8 @@ fn put_comma(out: &mut String, place: usize) -> Result<(), AllocError>
 
 /// Appends what stands before the value of a dict's entry.
 fn put_entry_head(out: &mut String, key: &Key) -> Result<(), AllocError>
-    ensures { OnOk result (fits (string_bytes out.new) ≡ fits (string_bytes out.old ++ entry_head key.now)) }
+    ensures { OnOk result (fits (string_bytes out.new)
+        ≡ fits (string_bytes out.old ++ entry_head key.now)) }
 {
     if !is_full(out) {
         put_key(out, key)?;
@@ -87,7 +91,8 @@ fn can_be_printed(leaf: &Leaf) -> bool
 /// Appends a leaf that has a text.
 fn put_printed(alloc: Global, leaf: &Leaf, out: &mut String) -> Result<(), AllocError>
     requires { has_text leaf.now ≡ true }
-    ensures { OnOk result (fits (string_bytes out.new) ≡ fits (string_bytes out.old ++ leaf_text flat leaf.now)) }
+    ensures { OnOk result (fits (string_bytes out.new)
+        ≡ fits (string_bytes out.old ++ leaf_text flat leaf.now)) }
 {
     if !is_full(out) {
         put_leaf(alloc, out, leaf)?;
@@ -97,7 +102,8 @@ fn put_printed(alloc: Global, leaf: &Leaf, out: &mut String) -> Result<(), Alloc
 
 /// Appends a key.
 fn put_shown_key(key: &Key, out: &mut String) -> Result<(), AllocError>
-    ensures { OnOk result (fits (string_bytes out.new) ≡ fits (string_bytes out.old ++ key_text key.now)) }
+    ensures { OnOk result (fits (string_bytes out.new)
+        ≡ fits (string_bytes out.old ++ key_text key.now)) }
 {
     if !is_full(out) {
         put_key(out, key)?;
@@ -107,7 +113,8 @@ fn put_shown_key(key: &Key, out: &mut String) -> Result<(), AllocError>
 
 /// Appends a key that is visited.
 fn put_key_text(key: &Key, ticks: &Ticks, out: &mut String) -> Result<(), Broken>
-    ensures { Prints (Ok (key_text key.now, ticks.now)) result (string_bytes out.old) (string_bytes out.new) ticks.now }
+    ensures { Prints (Ok (key_text key.now, ticks.now)) result (string_bytes out.old)
+        (string_bytes out.new) ticks.now }
 {
     put_shown_key(key, out)?;
     Ok(())
@@ -115,7 +122,8 @@ fn put_key_text(key: &Key, ticks: &Ticks, out: &mut String) -> Result<(), Broken
 
 /// Appends a leaf, if it has a text.
 fn put_plain(alloc: Global, leaf: &Leaf, ticks: &Ticks, out: &mut String) -> Result<(), Broken>
-    ensures { Prints (with_count (printed_leaf leaf.now) ticks.now) result (string_bytes out.old) (string_bytes out.new) ticks.now }
+    ensures { Prints (with_count (printed_leaf leaf.now) ticks.now) result (string_bytes out.old)
+        (string_bytes out.new) ticks.now }
 {
     if !can_be_printed(leaf) {
         return Err(Broken::Kind(Kind::Wrong));
@@ -145,7 +153,8 @@ fn text_of_key<'a>(key: &'a Key) -> Option<&'a Text>
 
 /// The visit of a string, which is itself.
 fn put_itself(left: u32, text: &Text, ticks: &mut Ticks, out: &mut String) -> Result<(), Broken>
-    ensures { Prints (after_tick (entered left ticks.old) (λ d. Ok (text.now, d))) result (string_bytes out.old) (string_bytes out.new) ticks.new }
+    ensures { Prints (after_tick (entered left ticks.old) (λ d. Ok (text.now, d))) result
+        (string_bytes out.old) (string_bytes out.new) ticks.new }
 {
     if let Err(broken) = ticks.enter(left) {
         return Err(broken);
@@ -163,7 +172,8 @@ fn put_whole(
     ticks: &mut Ticks,
     out: &mut String,
 ) -> Result<(), Broken>
-    ensures { Prints (whole_at left heap.now (item_value item.entry) ticks.old) result (string_bytes out.old) (string_bytes out.new) ticks.new }
+    ensures { Prints (whole_at left heap.now (item_value item.entry) ticks.old) result
+        (string_bytes out.old) (string_bytes out.new) ticks.new }
 {
     let shown = heap.see_item(item);
     match text_in(&shown) {
@@ -182,7 +192,8 @@ fn put_within(
     ticks: &mut Ticks,
     out: &mut String,
 ) -> Result<(), Broken>
-    ensures { Prints (print_at left heap.now (item_value item.entry) ticks.old) result (string_bytes out.old) (string_bytes out.new) ticks.new }
+    ensures { Prints (print_at left heap.now (item_value item.entry) ticks.old) result
+        (string_bytes out.old) (string_bytes out.new) ticks.new }
 {
     if let Err(broken) = ticks.enter(left) {
         return Err(broken);
@@ -201,7 +212,8 @@ fn put_shown(
     ticks: &mut Ticks,
     out: &mut String,
 ) -> Result<(), Broken>
-    ensures { Prints (printed (entered left) (print_at left heap.now) (seen shown.now) ticks.old) result (string_bytes out.old) (string_bytes out.new) ticks.new }
+    ensures { Prints (printed (entered left) (print_at left heap.now) (seen shown.now) ticks.old)
+        result (string_bytes out.old) (string_bytes out.new) ticks.new }
 {
     match shown {
         Seen::Key(key) => put_key_text(key, ticks, out),
@@ -239,7 +251,9 @@ fn put_sequence(
     ticks: &mut Ticks,
     out: &mut String,
 ) -> Result<(), Broken>
-    ensures { Prints (enclosed (opening is_list) (closing is_list (length (group_items items.now))) (commas (all_of (print_at left heap.now) (group_items items.now) ticks.old))) result (string_bytes out.old) (string_bytes out.new) ticks.new }
+    ensures { Prints (enclosed (opening is_list) (closing is_list (length (group_items items.now)))
+        (commas (all_of (print_at left heap.now) (group_items items.now) ticks.old))) result
+        (string_bytes out.old) (string_bytes out.new) ticks.new }
 {
     put_text(out, start_of(is_list))?;
     if let Err(broken) = put_items(alloc, left, items, heap, ticks, out) {
@@ -259,7 +273,8 @@ fn put_items(
     ticks: &mut Ticks,
     out: &mut String,
 ) -> Result<(), Broken>
-    ensures { Prints (commas (all_of (print_at left heap.now) (group_items items.now) ticks.old)) result (string_bytes out.old) (string_bytes out.new) ticks.new }
+    ensures { Prints (commas (all_of (print_at left heap.now) (group_items items.now) ticks.old))
+        result (string_bytes out.old) (string_bytes out.new) ticks.new }
 {
     for i in 0..items.len() {
         put_comma(out, i)?;
@@ -280,7 +295,10 @@ fn put_dict(
     ticks: &mut Ticks,
     out: &mut String,
 ) -> Result<(), Broken>
-    ensures { Prints (enclosed (codes "{") (codes "}") (commas (all_of (printed_entry (entered left) (print_at left heap.now)) (table_entries entries.now) ticks.old))) result (string_bytes out.old) (string_bytes out.new) ticks.new }
+    ensures { Prints (enclosed (codes "{") (codes "}")
+        (commas (all_of (printed_entry (entered left) (print_at left heap.now))
+        (table_entries entries.now) ticks.old))) result (string_bytes out.old)
+        (string_bytes out.new) ticks.new }
 {
     put_text(out, "{")?;
     if let Err(broken) = put_entries(alloc, left, entries, heap, ticks, out) {
@@ -300,7 +318,9 @@ fn put_entries(
     ticks: &mut Ticks,
     out: &mut String,
 ) -> Result<(), Broken>
-    ensures { Prints (commas (all_of (printed_entry (entered left) (print_at left heap.now)) (table_entries entries.now) ticks.old)) result (string_bytes out.old) (string_bytes out.new) ticks.new }
+    ensures { Prints (commas (all_of (printed_entry (entered left) (print_at left heap.now))
+        (table_entries entries.now) ticks.old)) result (string_bytes out.old) (string_bytes out.new)
+        ticks.new }
 {
     for i in 0..entries.len() {
         let Some((key, value)) = entries.at(i) else {
@@ -325,7 +345,9 @@ fn put_entry(
     ticks: &mut Ticks,
     out: &mut String,
 ) -> Result<(), Broken>
-    ensures { Prints (printed_entry (entered left) (print_at left heap.now) (key.now, item_value value.entry) ticks.old) result (string_bytes out.old) (string_bytes out.new) ticks.new }
+    ensures { Prints (printed_entry (entered left) (print_at left heap.now)
+        (key.now, item_value value.entry) ticks.old) result (string_bytes out.old)
+        (string_bytes out.new) ticks.new }
 {
     if let Err(broken) = ticks.enter(left) {
         return Err(broken);

@@ -88,7 +88,8 @@ fn put_truth(out: &mut String, truth: bool) -> Result<(), AllocError>
 
 /// Appends a text between two others.
 fn put_between(out: &mut String, before: &str, text: &str, behind: &str) -> Result<(), AllocError>
-    ensures { OnOk result (string_bytes out.new ≡ string_bytes out.old ++ (before.now ++ text.now ++ behind.now)) }
+    ensures { OnOk result (string_bytes out.new
+        ≡ string_bytes out.old ++ (before.now ++ text.now ++ behind.now)) }
 {
     out.push_str(before)?;
     out.push_str(text)?;
@@ -116,7 +117,8 @@ fn put_export(out: &mut String, name: &ExportName) -> Result<(), AllocError>
 
 /// Appends the module's path and the name.
 fn put_exported(out: &mut String, exported: &Exported) -> Result<(), AllocError>
-    ensures { OnOk result (string_bytes out.new ≡ string_bytes out.old ++ exported_text exported.now) }
+    ensures { OnOk result (string_bytes out.new
+        ≡ string_bytes out.old ++ exported_text exported.now) }
 {
     out.push_str(exported.path.as_str())?;
     out.push_str("%")?;
@@ -126,7 +128,8 @@ fn put_exported(out: &mut String, exported: &Exported) -> Result<(), AllocError>
 
 /// Appends the name of a provider.
 pub(crate) fn put_provider(out: &mut String, provider: &ProviderRef) -> Result<(), AllocError>
-    ensures { OnOk result (string_bytes out.new ≡ string_bytes out.old ++ provider_text provider.now) }
+    ensures { OnOk result (string_bytes out.new
+        ≡ string_bytes out.old ++ provider_text provider.now) }
 {
     match provider {
         ProviderRef::DefaultInfo => out.push_str("DefaultInfo")?,
@@ -137,7 +140,8 @@ pub(crate) fn put_provider(out: &mut String, provider: &ProviderRef) -> Result<(
 
 /// Appends a provider as a value.
 fn put_provider_value(out: &mut String, provider: &ProviderRef) -> Result<(), AllocError>
-    ensures { OnOk result (string_bytes out.new ≡ string_bytes out.old ++ (codes "<provider " ++ provider_text provider.now ++ codes ">")) }
+    ensures { OnOk result (string_bytes out.new
+        ≡ string_bytes out.old ++ (codes "<provider " ++ provider_text provider.now ++ codes ">")) }
 {
     out.push_str("<provider ")?;
     put_provider(out, provider)?;
@@ -147,7 +151,8 @@ fn put_provider_value(out: &mut String, provider: &ProviderRef) -> Result<(), Al
 
 /// Appends a rule as a value.
 fn put_rule(out: &mut String, rule: &Exported) -> Result<(), AllocError>
-    ensures { OnOk result (string_bytes out.new ≡ string_bytes out.old ++ (codes "<rule " ++ exported_text rule.now ++ codes ">")) }
+    ensures { OnOk result (string_bytes out.new
+        ≡ string_bytes out.old ++ (codes "<rule " ++ exported_text rule.now ++ codes ">")) }
 {
     out.push_str("<rule ")?;
     put_exported(out, rule)?;
@@ -157,7 +162,9 @@ fn put_rule(out: &mut String, rule: &Exported) -> Result<(), AllocError>
 
 /// Appends a function.
 fn put_function(out: &mut String, function: &FunctionRef) -> Result<(), AllocError>
-    ensures { OnOk result (string_bytes out.new ≡ string_bytes out.old ++ (codes "<function " ++ function.now.path ++ codes "%" ++ function.now.name ++ codes ">")) }
+    ensures { OnOk result (string_bytes out.new
+        ≡ string_bytes out.old ++ (codes "<function " ++ function.now.path ++ codes "%" ++
+        function.now.name ++ codes ">")) }
 {
     put_between(out, "<function ", function.path.as_str(), "%")?;
     out.push_str(function.name.as_str())?;
@@ -215,7 +222,8 @@ pub(crate) fn put_separator(out: &mut String, place: usize) -> Result<(), AllocE
 
 /// Appends an element of a depset.
 fn put_element(out: &mut String, element: &Element) -> Result<(), AllocError>
-    ensures { OnOk result (string_bytes out.new ≡ string_bytes out.old ++ element_text element.now) }
+    ensures { OnOk result (string_bytes out.new
+        ≡ string_bytes out.old ++ element_text element.now) }
 {
     match element {
         Element::Text(text) => put_quoted(out, text.as_str().as_bytes())?,
@@ -229,7 +237,8 @@ fn put_element(out: &mut String, element: &Element) -> Result<(), AllocError>
 
 /// Appends the element at a place of a listing.
 fn put_element_at(out: &mut String, place: usize, element: &Element) -> Result<(), AllocError>
-    ensures { OnOk result (string_bytes out.new ≡ string_bytes out.old ++ (separator place ++ element_text element.now)) }
+    ensures { OnOk result (string_bytes out.new
+        ≡ string_bytes out.old ++ (separator place ++ element_text element.now)) }
 {
     put_separator(out, place)?;
     put_element(out, element)?;
@@ -238,7 +247,8 @@ fn put_element_at(out: &mut String, place: usize, element: &Element) -> Result<(
 
 /// Appends elements with commas between them.
 fn put_elements(out: &mut String, elements: &[Element]) -> Result<(), AllocError>
-    ensures { OnOk result (string_bytes out.new ≡ string_bytes out.old ++ joined (map element_text elements.now)) }
+    ensures { OnOk result (string_bytes out.new
+        ≡ string_bytes out.old ++ joined (map element_text elements.now)) }
 {
     for i in 0..elements.len() {
         put_element_at(out, i, &elements[i])?;
@@ -248,7 +258,9 @@ fn put_elements(out: &mut String, elements: &[Element]) -> Result<(), AllocError
 
 /// Appends a depset, by its listing.
 fn put_depset(alloc: Global, out: &mut String, depset: &Depset) -> Result<(), AllocError>
-    ensures { OnOk result (string_bytes out.new ≡ string_bytes out.old ++ (codes "depset(" ++ order_text (label depset.now).order ++ codes ", [" ++ joined (map element_text (walked depset.now)) ++ codes "])")) }
+    ensures { OnOk result (string_bytes out.new
+        ≡ string_bytes out.old ++ (codes "depset(" ++ order_text (label depset.now).order ++ codes
+        ", [" ++ joined (map element_text (walked depset.now)) ++ codes "])")) }
 {
     put_between(out, "depset(", order_name(depset.order()), ", [")?;
     let listing = depset.list_whole(alloc)?;
@@ -259,7 +271,8 @@ fn put_depset(alloc: Global, out: &mut String, depset: &Depset) -> Result<(), Al
 
 /// Appends a leaf.
 pub(crate) fn put_leaf(alloc: Global, out: &mut String, leaf: &Leaf) -> Result<(), AllocError>
-    ensures { OnOk result (string_bytes out.new ≡ string_bytes out.old ++ leaf_text walked leaf.now) }
+    ensures { OnOk result (string_bytes out.new
+        ≡ string_bytes out.old ++ leaf_text walked leaf.now) }
 {
     match leaf {
         Leaf::None => out.push_str("None")?,

@@ -67,7 +67,8 @@ fn put_tree(alloc: Global, out: &mut String, tree: &Frozen) -> Result<(), AllocE
 /// Appends a frozen value of these parts.
 #[cycle(text)]
 fn put_node(alloc: Global, out: &mut String, node: &Node) -> Result<(), AllocError>
-    ensures { OnOk result (string_bytes out.new ≡ string_bytes out.old ++ branch_text_by walked (node_branch node.now)) }
+    ensures { OnOk result (string_bytes out.new
+        ≡ string_bytes out.old ++ branch_text_by walked (node_branch node.now)) }
 {
     match node {
         Node::List(items) => {
@@ -99,7 +100,8 @@ fn put_node(alloc: Global, out: &mut String, node: &Node) -> Result<(), AllocErr
 /// Appends frozen values with commas between them.
 #[cycle(text)]
 fn put_trees(alloc: Global, out: &mut String, items: &[Frozen]) -> Result<(), AllocError>
-    ensures { OnOk result (string_bytes out.new ≡ string_bytes out.old ++ joined (texts_by walked (trees items.now))) }
+    ensures { OnOk result (string_bytes out.new
+        ≡ string_bytes out.old ++ joined (texts_by walked (trees items.now))) }
 {
     for i in 0..items.len() {
         put_separator(out, i)?;
@@ -116,7 +118,9 @@ fn put_pairs(
     keys: &IndexSet<Key>,
     values: &[Frozen],
 ) -> Result<(), AllocError>
-    ensures { OnOk result (string_bytes out.new ≡ string_bytes out.old ++ joined (pair_texts_by walked entry_head (pairs keys.now.keys values.now))) }
+    ensures { OnOk result (string_bytes out.new
+        ≡ string_bytes out.old ++ joined (pair_texts_by walked entry_head
+        (pairs keys.now.keys values.now))) }
 {
     for i in 0..keys.len().min(values.len()) {
         put_separator(out, i)?;
@@ -134,7 +138,8 @@ fn put_fields(
     names: &[Text],
     fields: &[Option<Frozen>],
 ) -> Result<(), AllocError>
-    ensures { OnOk result (string_bytes out.new ≡ string_bytes out.old ++ joined (field_texts_by walked names.now (slots fields.now))) }
+    ensures { OnOk result (string_bytes out.new
+        ≡ string_bytes out.old ++ joined (field_texts_by walked names.now (slots fields.now))) }
 {
     let mut written = 0usize;
     for i in 0..names.len().min(fields.len()) {

@@ -208,7 +208,8 @@ impl Entries {
 
     /// The key and the value at a place, by order of insertion.
     pub fn at(&self, place: usize) -> Option<(&Key, &Value)>
-        ensures { MatchOption result (length self.now ≤ place) (λ e. slice_get self.now place ≡ Some (e.0.now, e.1.now)) }
+        ensures { MatchOption result (length self.now ≤ place)
+            (λ e. slice_get self.now place ≡ Some (e.0.now, e.1.now)) }
     {
         self.map.get_index(place)
     }

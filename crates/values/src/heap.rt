@@ -51,7 +51,9 @@ impl Heap {
 
     /// A new list in the next cell, or `large`.
     pub fn new_list(&mut self, items: Items) -> Result<Value, Broken>
-        ensures { MatchResult result (λ v. made self.old (Cell.List items 0) (length items) ≡ Ok (v, self.new)) (λ e. (self.new ≡ self.old) × FaultOr (made self.old (Cell.List items 0) (length items)) e) }
+        ensures { MatchResult result (λ v. made self.old (Cell.List items 0) (length items)
+            ≡ Ok (v, self.new)) (λ e. (self.new ≡ self.old)
+            × FaultOr (made self.old (Cell.List items 0) (length items)) e) }
     {
         let parts = items.len();
         self.add(Cell::List(items, 0), parts)
@@ -59,7 +61,9 @@ impl Heap {
 
     /// A new tuple in the next cell, or `large`.
     pub fn new_tuple(&mut self, items: Items) -> Result<Value, Broken>
-        ensures { MatchResult result (λ v. made self.old (Cell.Tuple items) (length items) ≡ Ok (v, self.new)) (λ e. (self.new ≡ self.old) × FaultOr (made self.old (Cell.Tuple items) (length items)) e) }
+        ensures { MatchResult result (λ v. made self.old (Cell.Tuple items) (length items)
+            ≡ Ok (v, self.new)) (λ e. (self.new ≡ self.old)
+            × FaultOr (made self.old (Cell.Tuple items) (length items)) e) }
     {
         let parts = items.len();
         self.add(Cell::Tuple(items), parts)
@@ -67,7 +71,9 @@ impl Heap {
 
     /// A new dict in the next cell, or `large`.
     pub fn new_dict(&mut self, entries: Entries) -> Result<Value, Broken>
-        ensures { MatchResult result (λ v. made self.old (Cell.Dict entries 0) (length entries) ≡ Ok (v, self.new)) (λ e. (self.new ≡ self.old) × FaultOr (made self.old (Cell.Dict entries 0) (length entries)) e) }
+        ensures { MatchResult result (λ v. made self.old (Cell.Dict entries 0) (length entries)
+            ≡ Ok (v, self.new)) (λ e. (self.new ≡ self.old)
+            × FaultOr (made self.old (Cell.Dict entries 0) (length entries)) e) }
     {
         let parts = entries.len();
         self.add(Cell::Dict(entries, 0), parts)
@@ -79,14 +85,17 @@ impl Heap {
         provider: Shared<Provider>,
         fields: Fields,
     ) -> Result<Value, Broken>
-        ensures { MatchResult result (λ v. made self.old (Cell.Instance provider fields) 0 ≡ Ok (v, self.new)) (λ e. (self.new ≡ self.old) × FaultOr (made self.old (Cell.Instance provider fields) 0) e) }
+        ensures { MatchResult result (λ v. made self.old (Cell.Instance provider fields) 0
+            ≡ Ok (v, self.new)) (λ e. (self.new ≡ self.old)
+            × FaultOr (made self.old (Cell.Instance provider fields) 0) e) }
     {
         self.add(Cell::Instance(provider, fields), 0)
     }
 
     /// A new cell of so many parts.
     fn add(&mut self, cell: Cell, parts: usize) -> Result<Value, Broken>
-        ensures { MatchResult result (λ v. made self.old cell parts ≡ Ok (v, self.new)) (λ e. (self.new ≡ self.old) × FaultOr (made self.old cell parts) e) }
+        ensures { MatchResult result (λ v. made self.old cell parts ≡ Ok (v, self.new))
+            (λ e. (self.new ≡ self.old) × FaultOr (made self.old cell parts) e) }
     {
         if parts > LARGEST {
             return Err(Broken::Kind(Kind::Large));
@@ -100,7 +109,9 @@ impl Heap {
 
     /// Puts an item last in a list: refused by `type`, `frozen`, `iterating` and `large`, in this order.
     pub fn append(&mut self, list: &Value, item: Value) -> Result<(), Broken>
-        ensures { MatchResult result (λ _. list_changed (pushed item) self.old list.now ≡ Ok self.new) (λ e. (self.new ≡ self.old) × FaultOr (list_changed (pushed item) self.old list.now) e) }
+        ensures { MatchResult result (λ _. list_changed (pushed item) self.old list.now
+            ≡ Ok self.new) (λ e. (self.new ≡ self.old)
+            × FaultOr (list_changed (pushed item) self.old list.now) e) }
     {
         let changed = match self.list_cell(list) {
             Ok(number) => number,
@@ -115,7 +126,9 @@ impl Heap {
 
     /// Puts items last in a list, in place: refused as `append` is.
     pub fn extend(&mut self, list: &Value, items: Items) -> Result<(), Broken>
-        ensures { MatchResult result (λ _. list_changed (joined items) self.old list.now ≡ Ok self.new) (λ e. (self.new ≡ self.old) × FaultOr (list_changed (joined items) self.old list.now) e) }
+        ensures { MatchResult result (λ _. list_changed (joined items) self.old list.now
+            ≡ Ok self.new) (λ e. (self.new ≡ self.old)
+            × FaultOr (list_changed (joined items) self.old list.now) e) }
     {
         let number = match self.list_cell(list) {
             Ok(number) => number,
@@ -131,7 +144,9 @@ impl Heap {
     /// Sets the item of a list at an index, from the end where it is negative: refused by `type`, `frozen`,
     /// `iterating` and `index`, in this order.
     pub fn set_index(&mut self, list: &Value, index: i64, item: Value) -> Result<(), Broken>
-        ensures { MatchResult result (λ _. list_changed (indexed index item) self.old list.now ≡ Ok self.new) (λ e. (self.new ≡ self.old) × FaultOr (list_changed (indexed index item) self.old list.now) e) }
+        ensures { MatchResult result (λ _. list_changed (indexed index item) self.old list.now
+            ≡ Ok self.new) (λ e. (self.new ≡ self.old)
+            × FaultOr (list_changed (indexed index item) self.old list.now) e) }
     {
         let number = match self.list_cell(list) {
             Ok(number) => number,
@@ -147,7 +162,9 @@ impl Heap {
     /// Gives a key of a dict the value; a key that is there keeps its place. Refused by `type`, `frozen`,
     /// `iterating` and, for a new key, `large`, in this order.
     pub fn set_key(&mut self, dict: &Value, key: Key, item: Value) -> Result<(), Broken>
-        ensures { MatchResult result (λ _. dict_changed (keyed key item) self.old dict.now ≡ Ok self.new) (λ e. (self.new ≡ self.old) × FaultOr (dict_changed (keyed key item) self.old dict.now) e) }
+        ensures { MatchResult result (λ _. dict_changed (keyed key item) self.old dict.now
+            ≡ Ok self.new) (λ e. (self.new ≡ self.old)
+            × FaultOr (dict_changed (keyed key item) self.old dict.now) e) }
     {
         let number = match self.dict_cell(dict) {
             Ok(number) => number,
@@ -164,7 +181,8 @@ impl Heap {
     /// All else is `type`. It gives the cell in which the walk is counted, where there is one: in a frozen value
     /// nothing is counted.
     pub fn begin_walk(&mut self, walked: &Value) -> Result<Option<usize>, Broken>
-        ensures { MatchResult result (λ n. walk_begun_at self.old walked.now ≡ Ok (n, self.new)) (λ e. (self.new ≡ self.old) × FaultOr (walk_begun_at self.old walked.now) e) }
+        ensures { MatchResult result (λ n. walk_begun_at self.old walked.now ≡ Ok (n, self.new))
+            (λ e. (self.new ≡ self.old) × FaultOr (walk_begun_at self.old walked.now) e) }
     {
         let number = match self.walked_cell(walked) {
             Ok(Some(number)) => number,
@@ -198,7 +216,8 @@ impl Heap {
 
     /// The number of the cell that a change of a list changes, or why there is none.
     fn list_cell(&self, list: &Value) -> Result<usize, Broken>
-        ensures { MatchResult result (λ n. (n < length self.now) × (list.now ≡ Value.Cell n)) (λ e. (f : Kept → Result Kept Fault) → FaultOr (list_changed f self.now list.now) e) }
+        ensures { MatchResult result (λ n. (n < length self.now) × (list.now ≡ Value.Cell n))
+            (λ e. (f : Kept → Result Kept Fault) → FaultOr (list_changed f self.now list.now) e) }
     {
         match list {
             Value::Key(_) | Value::Leaf(_) => Err(Broken::Kind(Kind::Wrong)),
@@ -219,7 +238,8 @@ impl Heap {
 
     /// The number of the cell that a change of a dict changes, or why there is none.
     fn dict_cell(&self, dict: &Value) -> Result<usize, Broken>
-        ensures { MatchResult result (λ n. (n < length self.now) × (dict.now ≡ Value.Cell n)) (λ e. (f : Kept → Result Kept Fault) → FaultOr (dict_changed f self.now dict.now) e) }
+        ensures { MatchResult result (λ n. (n < length self.now) × (dict.now ≡ Value.Cell n))
+            (λ e. (f : Kept → Result Kept Fault) → FaultOr (dict_changed f self.now dict.now) e) }
     {
         match dict {
             Value::Key(_) | Value::Leaf(_) => Err(Broken::Kind(Kind::Wrong)),
@@ -240,7 +260,8 @@ impl Heap {
 
     /// The number of the cell that a walk counts in, None where it counts in none, or why it is refused.
     fn walked_cell(&self, walked: &Value) -> Result<Option<usize>, Broken>
-        ensures { MatchResult result (IsWalked self.now walked.now) (λ e. FaultOr (walk_begun_at self.now walked.now) e) }
+        ensures { MatchResult result (IsWalked self.now walked.now)
+            (λ e. FaultOr (walk_begun_at self.now walked.now) e) }
     {
         match walked {
             Value::Key(_) | Value::Leaf(_) => Err(Broken::Kind(Kind::Wrong)),
@@ -264,7 +285,8 @@ impl Heap {
 
 /// Puts an item last in the list of a cell.
 fn push_to(cell: &mut Cell, item: Value) -> Result<(), Broken>
-    ensures { MatchResult result (λ _. pushed item cell.old ≡ Ok cell.new) (λ e. (cell.new ≡ cell.old) × FaultOr (pushed item cell.old) e) }
+    ensures { MatchResult result (λ _. pushed item cell.old ≡ Ok cell.new)
+        (λ e. (cell.new ≡ cell.old) × FaultOr (pushed item cell.old) e) }
 {
     match cell {
         Cell::List(parts, walked) => {
@@ -282,7 +304,8 @@ fn push_to(cell: &mut Cell, item: Value) -> Result<(), Broken>
 
 /// Puts items last in the list of a cell.
 fn join_to(cell: &mut Cell, more: Items) -> Result<(), Broken>
-    ensures { MatchResult result (λ _. joined more cell.old ≡ Ok cell.new) (λ e. (cell.new ≡ cell.old) × FaultOr (joined more cell.old) e) }
+    ensures { MatchResult result (λ _. joined more cell.old ≡ Ok cell.new)
+        (λ e. (cell.new ≡ cell.old) × FaultOr (joined more cell.old) e) }
 {
     match cell {
         Cell::List(parts, walks) => {
@@ -300,7 +323,8 @@ fn join_to(cell: &mut Cell, more: Items) -> Result<(), Broken>
 
 /// Sets an item of the list of a cell.
 fn set_in(cell: &mut Cell, index: i64, item: Value) -> Result<(), Broken>
-    ensures { MatchResult result (λ _. indexed index item cell.old ≡ Ok cell.new) (λ e. (cell.new ≡ cell.old) × FaultOr (indexed index item cell.old) e) }
+    ensures { MatchResult result (λ _. indexed index item cell.old ≡ Ok cell.new)
+        (λ e. (cell.new ≡ cell.old) × FaultOr (indexed index item cell.old) e) }
 {
     match cell {
         Cell::List(parts, walks) => {
@@ -318,7 +342,8 @@ fn set_in(cell: &mut Cell, index: i64, item: Value) -> Result<(), Broken>
 
 /// Gives a key of the dict of a cell the value.
 fn put_in(cell: &mut Cell, key: Key, item: Value) -> Result<(), Broken>
-    ensures { MatchResult result (λ _. keyed key item cell.old ≡ Ok cell.new) (λ e. (cell.new ≡ cell.old) × FaultOr (keyed key item cell.old) e) }
+    ensures { MatchResult result (λ _. keyed key item cell.old ≡ Ok cell.new)
+        (λ e. (cell.new ≡ cell.old) × FaultOr (keyed key item cell.old) e) }
 {
     match cell {
         Cell::Dict(parts, walks) => {
@@ -336,7 +361,8 @@ fn put_in(cell: &mut Cell, key: Key, item: Value) -> Result<(), Broken>
 
 /// Puts an item last, unless there are as many as a list may have.
 fn push(items: &mut Items, item: Value) -> Result<(), Broken>
-    ensures { MatchResult result (λ _. pushed_items item items.old ≡ Ok items.new) (λ e. (items.new ≡ items.old) × FaultOr (pushed_items item items.old) e) }
+    ensures { MatchResult result (λ _. pushed_items item items.old ≡ Ok items.new)
+        (λ e. (items.new ≡ items.old) × FaultOr (pushed_items item items.old) e) }
 {
     if items.len() >= LARGEST {
         return Err(Broken::Kind(Kind::Large));
@@ -347,7 +373,8 @@ fn push(items: &mut Items, item: Value) -> Result<(), Broken>
 
 /// Puts items last, unless there would be more than a list may have.
 fn join(items: &mut Items, more: Items) -> Result<(), Broken>
-    ensures { MatchResult result (λ _. joined_items more items.old ≡ Ok items.new) (λ e. (items.new ≡ items.old) × FaultOr (joined_items more items.old) e) }
+    ensures { MatchResult result (λ _. joined_items more items.old ≡ Ok items.new)
+        (λ e. (items.new ≡ items.old) × FaultOr (joined_items more items.old) e) }
 {
     if items.len().saturating_add(more.len()) > LARGEST {
         return Err(Broken::Kind(Kind::Large));
@@ -360,7 +387,8 @@ fn join(items: &mut Items, more: Items) -> Result<(), Broken>
 
 /// Sets the item that an index means, if it means one.
 fn set(items: &mut Items, index: i64, item: Value) -> Result<(), Broken>
-    ensures { MatchResult result (λ _. indexed_items index item items.old ≡ Ok items.new) (λ e. (items.new ≡ items.old) × FaultOr (indexed_items index item items.old) e) }
+    ensures { MatchResult result (λ _. indexed_items index item items.old ≡ Ok items.new)
+        (λ e. (items.new ≡ items.old) × FaultOr (indexed_items index item items.old) e) }
 {
     match place_of(index, items.len()) {
         None => Err(Broken::Kind(Kind::Index)),
@@ -373,7 +401,8 @@ fn set(items: &mut Items, index: i64, item: Value) -> Result<(), Broken>
 
 /// Gives a key the value, unless it would be one more than a dict may have.
 fn put(entries: &mut Entries, key: Key, item: Value) -> Result<(), Broken>
-    ensures { MatchResult result (λ _. keyed_entries key item entries.old ≡ Ok entries.new) (λ e. (entries.new ≡ entries.old) × FaultOr (keyed_entries key item entries.old) e) }
+    ensures { MatchResult result (λ _. keyed_entries key item entries.old ≡ Ok entries.new)
+        (λ e. (entries.new ≡ entries.old) × FaultOr (keyed_entries key item entries.old) e) }
 {
     if entries.len() >= LARGEST && !entries.has(&key) {
         return Err(Broken::Kind(Kind::Large));
@@ -384,7 +413,8 @@ fn put(entries: &mut Entries, key: Key, item: Value) -> Result<(), Broken>
 
 /// Counts a walk over a cell.
 fn begin_in(cell: &mut Cell) -> Result<(), Broken>
-    ensures { MatchResult result (λ _. walk_begun cell.old ≡ Ok cell.new) (λ e. (cell.new ≡ cell.old) × FaultOr (walk_begun cell.old) e) }
+    ensures { MatchResult result (λ _. walk_begun cell.old ≡ Ok cell.new)
+        (λ e. (cell.new ≡ cell.old) × FaultOr (walk_begun cell.old) e) }
 {
     match cell {
         Cell::List(_, walks) => {
@@ -406,7 +436,8 @@ fn begin_in(cell: &mut Cell) -> Result<(), Broken>
 
 /// One walk more. More than a `u64` counts are answered as want of memory.
 fn count_up(walks: &mut u64) -> Result<(), Broken>
-    ensures { MatchResult result (λ _. walks.new ≡ walks.old + 1) (λ e. (walks.new ≡ walks.old) × (e ≡ Broken.NoMemory)) }
+    ensures { MatchResult result (λ _. walks.new ≡ walks.old + 1)
+        (λ e. (walks.new ≡ walks.old) × (e ≡ Broken.NoMemory)) }
 {
     match walks.checked_add(1) {
         Some(more) => {

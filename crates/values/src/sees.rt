@@ -166,7 +166,8 @@ impl<'a> Table<'a> {
 
     /// The key and the value at a place.
     pub fn at(&self, place: usize) -> Option<(&'a Key, Item<'a>)>
-        ensures { MatchOption result (length (table_entries self.now) ≤ place) (λ e. slice_get (table_entries self.now) place ≡ Some (e.0.now, item_value e.1)) }
+        ensures { MatchOption result (length (table_entries self.now) ≤ place)
+            (λ e. slice_get (table_entries self.now) place ≡ Some (e.0.now, item_value e.1)) }
     {
         match self {
             Table::Values(entries) => entry_at(entries, place),
@@ -186,7 +187,8 @@ impl<'a> Table<'a> {
 }
 
 fn entry_at<'a>(entries: &'a Entries, place: usize) -> Option<(&'a Key, Item<'a>)>
-    ensures { MatchOption result (length entries.now ≤ place) (λ e. slice_get entries.now place ≡ Some (e.0.now, item_value e.1)) }
+    ensures { MatchOption result (length entries.now ≤ place)
+        (λ e. slice_get entries.now place ≡ Some (e.0.now, item_value e.1)) }
 {
     match entries.at(place) {
         Some((key, value)) => Some((key, Item::Value(value))),
@@ -199,7 +201,8 @@ fn pair_at<'a>(
     values: &'a [Frozen],
     place: usize,
 ) -> Option<(&'a Key, Item<'a>)>
-    ensures { MatchOption result (length (zip keys.now.keys values.now) ≤ place) (λ e. slice_get (zip keys.now.keys values.now) place ≡ Some (e.0.now, item_value e.1)) }
+    ensures { MatchOption result (length (zip keys.now.keys values.now) ≤ place)
+        (λ e. slice_get (zip keys.now.keys values.now) place ≡ Some (e.0.now, item_value e.1)) }
 {
     if place >= keys.len() {
         return None;

@@ -18,7 +18,8 @@ use values::{
 /// `steps` at the tick past the limit; `deep` at a pair at depth 65; `type` where two values of a type that
 /// isn't compared meet; each pair is tested in this order. After a `Broken` the ticks are open.
 pub fn equal(a: Item<'_>, b: Item<'_>, heap: &Heap, ticks: &mut Ticks) -> Result<bool, Broken>
-    ensures { Says (equal_at VISITED_LEVELS heap.now (item_value a.entry) (item_value b.entry) ticks.old) result ticks.new }
+    ensures { Says (equal_at VISITED_LEVELS heap.now (item_value a.entry) (item_value b.entry)
+        ticks.old) result ticks.new }
 {
     equal_within(VISITED_LEVELS, a, b, heap, ticks)
 }
@@ -46,7 +47,8 @@ fn files(a: &FileRef, b: &FileRef) -> bool
 
 /// Whether two leaves are equal.
 fn leaves(a: &Leaf, b: &Leaf) -> Result<bool, Broken>
-    ensures { MatchResult result (λ r. leaf_equal a.now b.now ≡ Ok r) (λ e. (e ≡ Broken.Kind Kind.Wrong) × (leaf_equal a.now b.now ≡ Err Kind.Wrong)) }
+    ensures { MatchResult result (λ r. leaf_equal a.now b.now ≡ Ok r)
+        (λ e. (e ≡ Broken.Kind Kind.Wrong) × (leaf_equal a.now b.now ≡ Err Kind.Wrong)) }
 {
     match (a, b) {
         (Leaf::None, Leaf::None) => Ok(true),
@@ -79,7 +81,8 @@ fn equal_within(
     heap: &Heap,
     ticks: &mut Ticks,
 ) -> Result<bool, Broken>
-    ensures { Says (equal_at left heap.now (item_value a.entry) (item_value b.entry) ticks.old) result ticks.new }
+    ensures { Says (equal_at left heap.now (item_value a.entry) (item_value b.entry) ticks.old)
+        result ticks.new }
 {
     if let Err(broken) = ticks.enter(left) {
         return Err(broken);
@@ -98,7 +101,8 @@ fn shapes(
     heap: &Heap,
     ticks: &mut Ticks,
 ) -> Result<bool, Broken>
-    ensures { Says (compared (equal_at left heap.now) (seen a.now) (seen b.now) ticks.old) result ticks.new }
+    ensures { Says (compared (equal_at left heap.now) (seen a.now) (seen b.now) ticks.old) result
+        ticks.new }
 {
     match (a, b) {
         (Seen::Key(x), Seen::Key(y)) => Ok(keys(x, y)),
@@ -126,7 +130,8 @@ fn groups(
     heap: &Heap,
     ticks: &mut Ticks,
 ) -> Result<bool, Broken>
-    ensures { Says (items_equal (equal_at left heap.now) (group_items xs.now) (group_items ys.now) ticks.old) result ticks.new }
+    ensures { Says (items_equal (equal_at left heap.now) (group_items xs.now) (group_items ys.now)
+        ticks.old) result ticks.new }
 {
     if xs.len() != ys.len() {
         return Ok(false);
@@ -152,7 +157,8 @@ fn tables(
     heap: &Heap,
     ticks: &mut Ticks,
 ) -> Result<bool, Broken>
-    ensures { Says (entries_equal (equal_at left heap.now) (table_entries xs.now) (table_entries ys.now) ticks.old) result ticks.new }
+    ensures { Says (entries_equal (equal_at left heap.now) (table_entries xs.now)
+        (table_entries ys.now) ticks.old) result ticks.new }
 {
     if xs.len() != ys.len() {
         return Ok(false);
@@ -210,7 +216,8 @@ fn slots(
     heap: &Heap,
     ticks: &mut Ticks,
 ) -> Result<bool, Broken>
-    ensures { Says (pairs_equal (slot_equal (equal_at left heap.now)) (slot_values xs.now) (slot_values ys.now) ticks.old) result ticks.new }
+    ensures { Says (pairs_equal (slot_equal (equal_at left heap.now)) (slot_values xs.now)
+        (slot_values ys.now) ticks.old) result ticks.new }
 {
     for i in 0..xs.len().min(ys.len()) {
         let x = xs.slot(i);
@@ -233,7 +240,8 @@ fn both_slots(
     heap: &Heap,
     ticks: &mut Ticks,
 ) -> Result<bool, Broken>
-    ensures { Says (slot_equal (equal_at left heap.now) (option_value x.entry) (option_value y.entry) ticks.old) result ticks.new }
+    ensures { Says (slot_equal (equal_at left heap.now) (option_value x.entry)
+        (option_value y.entry) ticks.old) result ticks.new }
 {
     match (x, y) {
         (Some(x), Some(y)) => equal_within(left, x, y, heap, ticks),

@@ -31,7 +31,8 @@ pub fn freeze(
     heap: &Heap,
     ticks: &mut Ticks,
 ) -> Result<Frozen, Broken>
-    ensures { Says (freeze_at VISITED_LEVELS heap.now (item_value item.entry) ticks.old) result ticks.new }
+    ensures { Says (freeze_at VISITED_LEVELS heap.now (item_value item.entry) ticks.old) result
+        ticks.new }
 {
     match item {
         Item::Value(value) => freeze_within(alloc, VISITED_LEVELS, value, heap, ticks),
@@ -42,7 +43,8 @@ pub fn freeze(
 
 /// The visit of a key, and its frozen value.
 fn freeze_key(left: u32, key: &Key, ticks: &mut Ticks) -> Result<Frozen, Broken>
-    ensures { Says (after_tick (entered left ticks.old) (λ d. Ok (key_tree key.now, d))) result ticks.new }
+    ensures { Says (after_tick (entered left ticks.old) (λ d. Ok (key_tree key.now, d))) result
+        ticks.new }
 {
     if let Err(broken) = ticks.enter(left) {
         return Err(broken);
@@ -53,7 +55,8 @@ fn freeze_key(left: u32, key: &Key, ticks: &mut Ticks) -> Result<Frozen, Broken>
 
 /// A leaf as a frozen value, if it can be one.
 fn leaf_tree(leaf: &Leaf) -> Result<Frozen, Broken>
-    ensures { MatchResult result (λ t. frozen_leaf leaf.now ≡ Ok t) (λ e. FaultOr (frozen_leaf leaf.now) e) }
+    ensures { MatchResult result (λ t. frozen_leaf leaf.now ≡ Ok t)
+        (λ e. FaultOr (frozen_leaf leaf.now) e) }
 {
     if !can_be_frozen(leaf) {
         return Err(Broken::Kind(Kind::Wrong));
@@ -64,7 +67,8 @@ fn leaf_tree(leaf: &Leaf) -> Result<Frozen, Broken>
 
 /// The visit of a leaf, and its frozen value.
 fn freeze_leaf(left: u32, leaf: &Leaf, ticks: &mut Ticks) -> Result<Frozen, Broken>
-    ensures { Says (after_tick (entered left ticks.old) (λ d. with_count (frozen_leaf leaf.now) d)) result ticks.new }
+    ensures { Says (after_tick (entered left ticks.old) (λ d. with_count (frozen_leaf leaf.now) d))
+        result ticks.new }
 {
     if let Err(broken) = ticks.enter(left) {
         return Err(broken);
@@ -106,7 +110,8 @@ fn keep_slot(kept: &mut Vec<Option<Frozen>>, tree: Option<Frozen>) -> Result<(),
 
 /// A frozen list of these items.
 fn list_of(alloc: Global, items: Vec<Frozen>) -> Result<Frozen, Broken>
-    ensures { MatchResult result (λ t. t ≡ branch (list (trees items.items))) (λ e. e ≡ Broken.NoMemory) }
+    ensures { MatchResult result (λ t. t ≡ branch (list (trees items.items)))
+        (λ e. e ≡ Broken.NoMemory) }
 {
     let limb = Branch::list(alloc, items)?;
     Ok(Frozen::of_branch(limb))
@@ -114,7 +119,8 @@ fn list_of(alloc: Global, items: Vec<Frozen>) -> Result<Frozen, Broken>
 
 /// A frozen tuple of these items.
 fn tuple_of(alloc: Global, items: Vec<Frozen>) -> Result<Frozen, Broken>
-    ensures { MatchResult result (λ t. t ≡ branch (tuple (trees items.items))) (λ e. e ≡ Broken.NoMemory) }
+    ensures { MatchResult result (λ t. t ≡ branch (tuple (trees items.items)))
+        (λ e. e ≡ Broken.NoMemory) }
 {
     let limb = Branch::tuple(alloc, items)?;
     Ok(Frozen::of_branch(limb))
@@ -123,7 +129,8 @@ fn tuple_of(alloc: Global, items: Vec<Frozen>) -> Result<Frozen, Broken>
 /// A frozen dict of these keys, each with the value at its place.
 fn dict_of(alloc: Global, keys: IndexSet<Key>, values: Vec<Frozen>) -> Result<Frozen, Broken>
     requires { length keys.keys ≡ length values.items }
-    ensures { MatchResult result (λ t. t ≡ branch (dict (pairs keys.keys values.items))) (λ e. e ≡ Broken.NoMemory) }
+    ensures { MatchResult result (λ t. t ≡ branch (dict (pairs keys.keys values.items)))
+        (λ e. e ≡ Broken.NoMemory) }
 {
     let limb = Branch::dict(alloc, keys, values)?;
     Ok(Frozen::of_branch(limb))
@@ -135,7 +142,8 @@ fn instance_of(
     provider: &Shared<Provider>,
     fields: Vec<Option<Frozen>>,
 ) -> Result<Frozen, Broken>
-    ensures { MatchResult result (λ t. t ≡ branch (instance provider.now (slots fields.items))) (λ e. e ≡ Broken.NoMemory) }
+    ensures { MatchResult result (λ t. t ≡ branch (instance provider.now (slots fields.items)))
+        (λ e. e ≡ Broken.NoMemory) }
 {
     let provider = provider.share()?;
     let limb = Branch::instance(alloc, provider, fields)?;
@@ -190,7 +198,8 @@ fn freeze_parts(
     heap: &Heap,
     ticks: &mut Ticks,
 ) -> Result<Frozen, Broken>
-    ensures { Says (built (entered left) (freeze_at left heap.now) (cell_shape (Some cell.now)) ticks.old) result ticks.new }
+    ensures { Says (built (entered left) (freeze_at left heap.now) (cell_shape (Some cell.now))
+        ticks.old) result ticks.new }
 {
     match cell {
         Cell::List(items, _) => match freeze_all(alloc, left, items.as_slice(), heap, ticks) {
@@ -226,7 +235,9 @@ fn freeze_all(
     heap: &Heap,
     ticks: &mut Ticks,
 ) -> Result<Vec<Frozen>, Broken>
-    ensures { MatchResult result (λ v. all_of (freeze_at left heap.now) values.now ticks.old ≡ Ok (v.items, ticks.new)) (λ e. FaultOr (all_of (freeze_at left heap.now) values.now ticks.old) e) }
+    ensures { MatchResult result (λ v. all_of (freeze_at left heap.now) values.now ticks.old
+        ≡ Ok (v.items, ticks.new)) (λ e. FaultOr
+        (all_of (freeze_at left heap.now) values.now ticks.old) e) }
 {
     let mut kept = Vec::with_capacity(alloc, values.len())?;
     for i in 0..values.len() {
@@ -247,7 +258,10 @@ fn freeze_entries(
     heap: &Heap,
     ticks: &mut Ticks,
 ) -> Result<Vec<Frozen>, Broken>
-    ensures { MatchResult result (λ v. all_of (frozen_entry (entered left) (freeze_at left heap.now)) entries.now ticks.old ≡ Ok (v.items, ticks.new)) (λ e. FaultOr (all_of (frozen_entry (entered left) (freeze_at left heap.now)) entries.now ticks.old) e) }
+    ensures { MatchResult result (λ v. all_of (frozen_entry (entered left)
+        (freeze_at left heap.now)) entries.now ticks.old ≡ Ok (v.items, ticks.new))
+        (λ e. FaultOr (all_of (frozen_entry (entered left) (freeze_at left heap.now)) entries.now
+        ticks.old) e) }
 {
     let mut kept = Vec::with_capacity(alloc, entries.len())?;
     for i in 0..entries.len() {
@@ -271,7 +285,8 @@ fn freeze_entry(
     heap: &Heap,
     ticks: &mut Ticks,
 ) -> Result<Frozen, Broken>
-    ensures { Says (after_tick (entered left ticks.old) (λ d. freeze_at left heap.now value.now d)) result ticks.new }
+    ensures { Says (after_tick (entered left ticks.old) (λ d. freeze_at left heap.now value.now d))
+        result ticks.new }
 {
     if let Err(broken) = ticks.enter(left) {
         return Err(broken);
@@ -288,7 +303,9 @@ fn freeze_slots(
     heap: &Heap,
     ticks: &mut Ticks,
 ) -> Result<Vec<Option<Frozen>>, Broken>
-    ensures { MatchResult result (λ v. all_of (frozen_slot (freeze_at left heap.now)) fields.now ticks.old ≡ Ok (v.items, ticks.new)) (λ e. FaultOr (all_of (frozen_slot (freeze_at left heap.now)) fields.now ticks.old) e) }
+    ensures { MatchResult result (λ v. all_of (frozen_slot (freeze_at left heap.now)) fields.now
+        ticks.old ≡ Ok (v.items, ticks.new)) (λ e. FaultOr
+        (all_of (frozen_slot (freeze_at left heap.now)) fields.now ticks.old) e) }
 {
     let mut kept = Vec::with_capacity(alloc, fields.len())?;
     for i in 0..fields.len() {

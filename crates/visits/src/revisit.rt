@@ -11,7 +11,8 @@ use values::{Branch, Broken, Frozen, Held, Key, Kind, Leaf, Node, Ticks, tree_at
 
 /// A second name of a frozen value, after its visit.
 pub(crate) fn freeze_tree(left: u32, tree: &Frozen, ticks: &mut Ticks) -> Result<Frozen, Broken>
-    ensures { Says (after_tick (visit_at left tree.now ticks.old) (λ d. Ok (tree.now, d))) result ticks.new }
+    ensures { Says (after_tick (visit_at left tree.now ticks.old) (λ d. Ok (tree.now, d))) result
+        ticks.new }
 {
     if let Err(broken) = visit_tree(left, tree, ticks) {
         return Err(broken);
@@ -22,7 +23,8 @@ pub(crate) fn freeze_tree(left: u32, tree: &Frozen, ticks: &mut Ticks) -> Result
 
 /// A second name of a frozen value with parts, after its visit.
 pub(crate) fn freeze_branch(left: u32, limb: &Branch, ticks: &mut Ticks) -> Result<Frozen, Broken>
-    ensures { Says (after_tick (visit_at left (branch limb.now) ticks.old) (λ d. Ok (branch limb.now, d))) result ticks.new }
+    ensures { Says (after_tick (visit_at left (branch limb.now) ticks.old)
+        (λ d. Ok (branch limb.now, d))) result ticks.new }
 {
     if let Err(broken) = visit_branch(left, limb, ticks) {
         return Err(broken);
@@ -50,7 +52,8 @@ pub(crate) fn can_be_frozen(leaf: &Leaf) -> bool
 
 /// The visit of a leaf that is frozen.
 fn visit_leaf(leaf: &Leaf) -> Result<(), Broken>
-    ensures { MatchResult result (λ _. can_freeze leaf.now ≡ true) (λ e. (e ≡ Broken.Kind Kind.Wrong) × (can_freeze leaf.now ≡ false)) }
+    ensures { MatchResult result (λ _. can_freeze leaf.now ≡ true)
+        (λ e. (e ≡ Broken.Kind Kind.Wrong) × (can_freeze leaf.now ≡ false)) }
 {
     if can_be_frozen(leaf) {
         Ok(())
@@ -73,7 +76,8 @@ fn visit_tree(left: u32, tree: &Frozen, ticks: &mut Ticks) -> Result<(), Broken>
 /// The visits below a frozen value.
 #[cycle(visit)]
 fn visit_held(left: u32, held: &Held, ticks: &mut Ticks) -> Result<(), Broken>
-    ensures { Goes (visited (entered left) (visit_at left) (tree_of held.now) ticks.old) result ticks.new }
+    ensures { Goes (visited (entered left) (visit_at left) (tree_of held.now) ticks.old) result
+        ticks.new }
 {
     match held {
         Held::Key(_) => Ok(()),
@@ -85,7 +89,8 @@ fn visit_held(left: u32, held: &Held, ticks: &mut Ticks) -> Result<(), Broken>
 /// The visits of the parts of a frozen value.
 #[cycle(visit)]
 fn visit_node(left: u32, node: &Node, ticks: &mut Ticks) -> Result<(), Broken>
-    ensures { Goes (branch_visited (entered left) (visit_at left) (node_branch node.now) ticks.old) result ticks.new }
+    ensures { Goes (branch_visited (entered left) (visit_at left) (node_branch node.now) ticks.old)
+        result ticks.new }
 {
     match node {
         Node::List(items) => visit_trees(left, items.as_slice(), ticks),
@@ -116,7 +121,8 @@ fn visit_pairs(
     values: &[Frozen],
     ticks: &mut Ticks,
 ) -> Result<(), Broken>
-    ensures { Goes (all_visited (entry_visited (entered left) (visit_at left)) (values_in (pairs keys.now.keys values.now)) ticks.old) result ticks.new }
+    ensures { Goes (all_visited (entry_visited (entered left) (visit_at left))
+        (values_in (pairs keys.now.keys values.now)) ticks.old) result ticks.new }
 {
     for i in 0..keys.len().min(values.len()) {
         if let Err(broken) = visit_entry(left, tree_at(values, i), ticks) {
@@ -129,7 +135,8 @@ fn visit_pairs(
 /// The visit of a key, and then that of its value.
 #[cycle(visit)]
 fn visit_entry(left: u32, tree: &Frozen, ticks: &mut Ticks) -> Result<(), Broken>
-    ensures { Goes (entry_visited (entered left) (visit_at left) tree.now ticks.old) result ticks.new }
+    ensures { Goes (entry_visited (entered left) (visit_at left) tree.now ticks.old) result
+        ticks.new }
 {
     if let Err(broken) = ticks.enter(left) {
         return Err(broken);
@@ -148,7 +155,8 @@ fn slot_at(slots: &[Option<Frozen>], place: usize) -> &Option<Frozen>
 /// The visits of the fields that were given, in order.
 #[cycle(visit)]
 fn visit_slots(left: u32, slots: &[Option<Frozen>], ticks: &mut Ticks) -> Result<(), Broken>
-    ensures { Goes (all_visited (slot_visited (visit_at left)) slots.now ticks.old) result ticks.new }
+    ensures { Goes (all_visited (slot_visited (visit_at left)) slots.now ticks.old) result
+        ticks.new }
 {
     for i in 0..slots.len() {
         if let Err(broken) = visit_slot(left, slot_at(slots, i), ticks) {
