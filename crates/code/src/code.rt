@@ -103,7 +103,8 @@ impl Code {
 
     /// The instructions of a function, by its number; None where there is none.
     pub fn instructions(&self, function: usize) -> Option<&[Lined]>
-        ensures { option_map lines_seen (option_copied result) ≡ option_map (λ f. f.code) (slice_get self.now function) }
+        ensures { option_map lines_seen (option_copied result) ≡ option_map
+            (λ f. f.code) (slice_get self.now function) }
     {
         match self.functions.get(function) {
             Some(code) => Some(code.instructions()),

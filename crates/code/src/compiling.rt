@@ -74,8 +74,10 @@ fn add_function(
     line: usize,
     statement: &Statement,
 ) -> Result<(), AllocError>
-    ensures { (behind : List functions.Function) → OnOk result (all.new.items ++ map function_code behind
-        ≡ all.old.items ++ map function_code (functions.before globals.now.keys line (view.statement statement.now) behind)) }
+    ensures { (behind : List functions.Function)
+        → OnOk result (all.new.items ++ map function_code behind
+        ≡ all.old.items ++ map function_code (functions.before globals.now.keys line
+        (view.statement statement.now) behind)) }
 {
     match statement {
         Statement::Define(function) => {

@@ -74,7 +74,8 @@ impl<F: Fn(Global, &mut Ahead<'_>, usize, Row, usize) -> Result<Part, Stop>> Rea
         mut found: Several,
     ) -> Result<Several, Stop>
         requires { Nests self.now.turns (F.pre self.now.expr) (F.post self.now.expr) }
-        ensures { Reads several_seen (spec.items (spec.read self.now.turns) self.now.most room bracket (several_seen found) ahead.old) result ahead.new }
+        ensures { Reads several_seen (spec.items (spec.read self.now.turns) self.now.most room
+            bracket (several_seen found) ahead.old) result ahead.new }
     {
         for _turn in 0..self.most {
             if ahead.close(bracket) {
@@ -97,7 +98,8 @@ impl<F: Fn(Global, &mut Ahead<'_>, usize, Row, usize) -> Result<Part, Stop>> Rea
     #[inline(never)]
     fn pair(&self, ahead: &mut Ahead<'_>, room: usize) -> Result<(Part, Part), Stop>
         requires { Nests self.now.turns (F.pre self.now.expr) (F.post self.now.expr) }
-        ensures { Reads pair_seen (spec.pair (spec.read self.now.turns) self.now.most room ahead.old) result ahead.new }
+        ensures { Reads pair_seen (spec.pair (spec.read self.now.turns) self.now.most room
+            ahead.old) result ahead.new }
     {
         let key = self.inside(ahead, Row::Whole, room)?;
         if !ahead.colon() {
@@ -111,7 +113,8 @@ impl<F: Fn(Global, &mut Ahead<'_>, usize, Row, usize) -> Result<Part, Stop>> Rea
     #[tactic(auto, unfolding(grammar::specs::Descent::pairs, grammar::specs::Descent::gather))]
     fn pairs(&self, ahead: &mut Ahead<'_>, room: usize, mut found: Pairs) -> Result<Pairs, Stop>
         requires { Nests self.now.turns (F.pre self.now.expr) (F.post self.now.expr) }
-        ensures { Reads pairs_seen (spec.pairs (spec.read self.now.turns) self.now.most room (pairs_seen found) ahead.old) result ahead.new }
+        ensures { Reads pairs_seen (spec.pairs (spec.read self.now.turns) self.now.most room
+            (pairs_seen found) ahead.old) result ahead.new }
     {
         for _turn in 0..self.most {
             if ahead.close(Bracket::Curly) {
@@ -138,7 +141,9 @@ impl<F: Fn(Global, &mut Ahead<'_>, usize, Row, usize) -> Result<Part, Stop>> Rea
         found: Arguments,
     ) -> Result<Arguments, Stop>
         requires { Nests self.now.turns (F.pre self.now.expr) (F.post self.now.expr) }
-        ensures { Reads arguments_seen (then_read (spec.argument (spec.read self.now.turns) self.now.most room ahead.old) (λ a u. Some (spec.with_argument (arguments_seen found) a, u))) result ahead.new }
+        ensures { Reads arguments_seen (then_read
+            (spec.argument (spec.read self.now.turns) self.now.most room ahead.old)
+            (λ a u. Some (spec.with_argument (arguments_seen found) a, u))) result ahead.new }
     {
         match ahead.named() {
             Some(name) => {
@@ -158,7 +163,8 @@ impl<F: Fn(Global, &mut Ahead<'_>, usize, Row, usize) -> Result<Part, Stop>> Rea
     #[inline(never)]
     fn arguments(&self, ahead: &mut Ahead<'_>, room: usize) -> Result<Arguments, Stop>
         requires { Nests self.now.turns (F.pre self.now.expr) (F.post self.now.expr) }
-        ensures { Reads arguments_seen (spec.arguments (spec.read self.now.turns) self.now.most room ahead.old) result ahead.new }
+        ensures { Reads arguments_seen (spec.arguments (spec.read self.now.turns) self.now.most room
+            ahead.old) result ahead.new }
     {
         let mut found = parts::no_arguments(self.alloc);
         for _turn in 0..self.most {
@@ -181,7 +187,8 @@ impl<F: Fn(Global, &mut Ahead<'_>, usize, Row, usize) -> Result<Part, Stop>> Rea
     #[inline(never)]
     fn clauses(&self, ahead: &mut Ahead<'_>, room: usize) -> Result<Conditions, Stop>
         requires { Nests self.now.turns (F.pre self.now.expr) (F.post self.now.expr) }
-        ensures { Reads conditions_seen (spec.clauses (spec.read self.now.turns) self.now.most room self.now.most spec.no_conditions ahead.old) result ahead.new }
+        ensures { Reads conditions_seen (spec.clauses (spec.read self.now.turns) self.now.most room
+            self.now.most spec.no_conditions ahead.old) result ahead.new }
     {
         let mut found = parts::no_conditions(self.alloc);
         for _turn in 0..self.most {
@@ -205,7 +212,8 @@ impl<F: Fn(Global, &mut Ahead<'_>, usize, Row, usize) -> Result<Part, Stop>> Rea
     #[inline(never)]
     fn round(&self, ahead: &mut Ahead<'_>, room: usize) -> Result<Part, Stop>
         requires { Nests self.now.turns (F.pre self.now.expr) (F.post self.now.expr) }
-        ensures { Reads part_seen (spec.round (spec.read self.now.turns) self.now.most room ahead.old) result ahead.new }
+        ensures { Reads part_seen (spec.round (spec.read self.now.turns) self.now.most room
+            ahead.old) result ahead.new }
     {
         if ahead.close(Bracket::Round) {
             return parts::tuple(self.alloc, parts::no_items(self.alloc), room);
@@ -230,7 +238,9 @@ impl<F: Fn(Global, &mut Ahead<'_>, usize, Row, usize) -> Result<Part, Stop>> Rea
         found: Several,
     ) -> Result<Several, Stop>
         requires { Nests self.now.turns (F.pre self.now.expr) (F.post self.now.expr) }
-        ensures { Reads several_seen (spec.after_one (spec.items (spec.read self.now.turns) self.now.most room Square) (several_seen found) (behind_close Square ahead.old) (behind_comma ahead.old)) result ahead.new }
+        ensures { Reads several_seen (spec.after_one
+            (spec.items (spec.read self.now.turns) self.now.most room Square) (several_seen found)
+            (behind_close Square ahead.old) (behind_comma ahead.old)) result ahead.new }
     {
         if ahead.close(Bracket::Square) {
             return Ok(found);
@@ -246,7 +256,8 @@ impl<F: Fn(Global, &mut Ahead<'_>, usize, Row, usize) -> Result<Part, Stop>> Rea
     #[inline(never)]
     fn square(&self, ahead: &mut Ahead<'_>, room: usize) -> Result<Part, Stop>
         requires { Nests self.now.turns (F.pre self.now.expr) (F.post self.now.expr) }
-        ensures { Reads part_seen (spec.square (spec.read self.now.turns) self.now.most room ahead.old) result ahead.new }
+        ensures { Reads part_seen (spec.square (spec.read self.now.turns) self.now.most room
+            ahead.old) result ahead.new }
     {
         if ahead.close(Bracket::Square) {
             return parts::list(self.alloc, parts::no_items(self.alloc), room);
@@ -269,7 +280,9 @@ impl<F: Fn(Global, &mut Ahead<'_>, usize, Row, usize) -> Result<Part, Stop>> Rea
     #[inline(never)]
     fn pairs_behind(&self, ahead: &mut Ahead<'_>, room: usize, found: Pairs) -> Result<Pairs, Stop>
         requires { Nests self.now.turns (F.pre self.now.expr) (F.post self.now.expr) }
-        ensures { Reads pairs_seen (spec.after_one (spec.pairs (spec.read self.now.turns) self.now.most room) (pairs_seen found) (behind_close Curly ahead.old) (behind_comma ahead.old)) result ahead.new }
+        ensures { Reads pairs_seen (spec.after_one
+            (spec.pairs (spec.read self.now.turns) self.now.most room) (pairs_seen found)
+            (behind_close Curly ahead.old) (behind_comma ahead.old)) result ahead.new }
     {
         if ahead.close(Bracket::Curly) {
             return Ok(found);
@@ -285,7 +298,8 @@ impl<F: Fn(Global, &mut Ahead<'_>, usize, Row, usize) -> Result<Part, Stop>> Rea
     #[inline(never)]
     fn curly(&self, ahead: &mut Ahead<'_>, room: usize) -> Result<Part, Stop>
         requires { Nests self.now.turns (F.pre self.now.expr) (F.post self.now.expr) }
-        ensures { Reads part_seen (spec.curly (spec.read self.now.turns) self.now.most room ahead.old) result ahead.new }
+        ensures { Reads part_seen (spec.curly (spec.read self.now.turns) self.now.most room
+            ahead.old) result ahead.new }
     {
         if ahead.close(Bracket::Curly) {
             return parts::dict(self.alloc, parts::no_pairs(self.alloc), room);
@@ -307,7 +321,8 @@ impl<F: Fn(Global, &mut Ahead<'_>, usize, Row, usize) -> Result<Part, Stop>> Rea
     /// What begins with a bracket.
     fn display(&self, ahead: &mut Ahead<'_>, room: usize) -> Result<Part, Stop>
         requires { Nests self.now.turns (F.pre self.now.expr) (F.post self.now.expr) }
-        ensures { Reads part_seen (spec.display_step (spec.read self.now.turns) self.now.most room (bracket_at ahead.old)) result ahead.new }
+        ensures { Reads part_seen (spec.display_step (spec.read self.now.turns) self.now.most room
+            (bracket_at ahead.old)) result ahead.new }
     {
         match ahead.bracket() {
             Some(Bracket::Round) => self.round(ahead, room),
@@ -322,7 +337,8 @@ impl<F: Fn(Global, &mut Ahead<'_>, usize, Row, usize) -> Result<Part, Stop>> Rea
     #[inline(never)]
     fn atom(&self, ahead: &mut Ahead<'_>, room: usize) -> Result<Part, Stop>
         requires { Nests self.now.turns (F.pre self.now.expr) (F.post self.now.expr) }
-        ensures { Reads part_seen (spec.atom (spec.read self.now.turns) self.now.most room ahead.old) result ahead.new }
+        ensures { Reads part_seen (spec.atom (spec.read self.now.turns) self.now.most room
+            ahead.old) result ahead.new }
     {
         if let Some(name) = ahead.name() {
             return parts::name(self.alloc, name, room);
@@ -348,7 +364,8 @@ impl<F: Fn(Global, &mut Ahead<'_>, usize, Row, usize) -> Result<Part, Stop>> Rea
         room: usize,
     ) -> Result<Part, Stop>
         requires { Nests self.now.turns (F.pre self.now.expr) (F.post self.now.expr) }
-        ensures { Reads part_seen (spec.suffixed (spec.read self.now.turns) self.now.most room (part_seen of) suffix ahead.old) result ahead.new }
+        ensures { Reads part_seen (spec.suffixed (spec.read self.now.turns) self.now.most room
+            (part_seen of) suffix ahead.old) result ahead.new }
     {
         let below = room.saturating_sub(1);
         match suffix {
@@ -378,7 +395,8 @@ impl<F: Fn(Global, &mut Ahead<'_>, usize, Row, usize) -> Result<Part, Stop>> Rea
     #[inline(never)]
     fn e9(&self, ahead: &mut Ahead<'_>, room: usize) -> Result<Part, Stop>
         requires { Nests self.now.turns (F.pre self.now.expr) (F.post self.now.expr) }
-        ensures { Reads part_seen (spec.e9 (spec.read self.now.turns) self.now.most room ahead.old) result ahead.new }
+        ensures { Reads part_seen (spec.e9 (spec.read self.now.turns) self.now.most room ahead.old)
+            result ahead.new }
     {
         let mut whole = self.atom(ahead, room)?;
         for _turn in 0..self.most {
@@ -394,7 +412,8 @@ impl<F: Fn(Global, &mut Ahead<'_>, usize, Row, usize) -> Result<Part, Stop>> Rea
     #[tactic(auto, unfolding(grammar::specs::Descent::e8))]
     fn operand(&self, ahead: &mut Ahead<'_>, room: usize) -> Result<Part, Stop>
         requires { Nests self.now.turns (F.pre self.now.expr) (F.post self.now.expr) }
-        ensures { Reads part_seen (spec.e8 (spec.read self.now.turns) self.now.most room ahead.old) result ahead.new }
+        ensures { Reads part_seen (spec.e8 (spec.read self.now.turns) self.now.most room ahead.old)
+            result ahead.new }
     {
         if ahead.minus() {
             let operand = self.inside(ahead, Row::Opposed, room.saturating_sub(1))?;
@@ -407,7 +426,8 @@ impl<F: Fn(Global, &mut Ahead<'_>, usize, Row, usize) -> Result<Part, Stop>> Rea
     #[inline(never)]
     fn negated(&self, ahead: &mut Ahead<'_>, room: usize) -> Result<Part, Stop>
         requires { Nests self.now.turns (F.pre self.now.expr) (F.post self.now.expr) }
-        ensures { Reads part_seen (spec.negated (spec.read self.now.turns) self.now.most room ahead.old) result ahead.new }
+        ensures { Reads part_seen (spec.negated (spec.read self.now.turns) self.now.most room
+            ahead.old) result ahead.new }
     {
         let operand = self.inside(ahead, Row::Negated, room.saturating_sub(1))?;
         parts::signed(self.alloc, Sign::Not, operand, room)
@@ -433,7 +453,8 @@ impl<F: Fn(Global, &mut Ahead<'_>, usize, Row, usize) -> Result<Part, Stop>> Rea
         requires inner { Nests self.now.turns (F.pre self.now.expr) (F.post self.now.expr) }
         requires loose { 2 ≤ level }
         requires tight { level < 8 }
-        ensures { Reads part_seen (spec.joined (spec.read self.now.turns) self.now.most level room (part_seen left) ahead.old) result ahead.new }
+        ensures { Reads part_seen (spec.joined (spec.read self.now.turns) self.now.most level room
+            (part_seen left) ahead.old) result ahead.new }
     {
         for _turn in 0..self.in_a_row(level) {
             let Some(operator) = ahead.operator(level) else {
@@ -460,7 +481,8 @@ impl<F: Fn(Global, &mut Ahead<'_>, usize, Row, usize) -> Result<Part, Stop>> Rea
         requires loose { 2 ≤ level }
         requires upward { level ≤ top }
         requires tight { top ≤ 8 }
-        ensures { Reads part_seen (spec.onward (spec.read self.now.turns) self.now.most level room top (part_seen left) ahead.old) result ahead.new }
+        ensures { Reads part_seen (spec.onward (spec.read self.now.turns) self.now.most level room
+            top (part_seen left) ahead.old) result ahead.new }
     {
         if ahead.ends_here() {
             return Ok(left);
@@ -477,7 +499,8 @@ impl<F: Fn(Global, &mut Ahead<'_>, usize, Row, usize) -> Result<Part, Stop>> Rea
         requires inner { Nests self.now.turns (F.pre self.now.expr) (F.post self.now.expr) }
         requires loose { 2 ≤ level }
         requires tight { level ≤ 8 }
-        ensures { Reads part_seen (spec.level (spec.read self.now.turns) self.now.most level room ahead.old) result ahead.new }
+        ensures { Reads part_seen (spec.level (spec.read self.now.turns) self.now.most level room
+            ahead.old) result ahead.new }
     {
         if negates(ahead, level) {
             let first = self.negated(ahead, room)?;
@@ -491,7 +514,8 @@ impl<F: Fn(Global, &mut Ahead<'_>, usize, Row, usize) -> Result<Part, Stop>> Rea
     #[inline(never)]
     fn chosen(&self, ahead: &mut Ahead<'_>, then: Part, room: usize) -> Result<Part, Stop>
         requires { Nests self.now.turns (F.pre self.now.expr) (F.post self.now.expr) }
-        ensures { Reads part_seen (spec.if_step (spec.read self.now.turns) self.now.most room (part_seen then) ahead.old (behind_if ahead.old)) result ahead.new }
+        ensures { Reads part_seen (spec.if_step (spec.read self.now.turns) self.now.most room
+            (part_seen then) ahead.old (behind_if ahead.old)) result ahead.new }
     {
         if !ahead.if_word() {
             return Ok(then);
@@ -509,7 +533,8 @@ impl<F: Fn(Global, &mut Ahead<'_>, usize, Row, usize) -> Result<Part, Stop>> Rea
     #[tactic(auto, unfolding(grammar::specs::Descent::e1))]
     fn whole(&self, ahead: &mut Ahead<'_>, room: usize) -> Result<Part, Stop>
         requires { Nests self.now.turns (F.pre self.now.expr) (F.post self.now.expr) }
-        ensures { Reads part_seen (spec.e1 (spec.read self.now.turns) self.now.most room ahead.old) result ahead.new }
+        ensures { Reads part_seen (spec.e1 (spec.read self.now.turns) self.now.most room ahead.old)
+            result ahead.new }
     {
         let then = self.level(ahead, LOOSEST, room)?;
         self.chosen(ahead, then, room)
@@ -517,7 +542,8 @@ impl<F: Fn(Global, &mut Ahead<'_>, usize, Row, usize) -> Result<Part, Stop>> Rea
 
     fn row(&self, ahead: &mut Ahead<'_>, row: Row, room: usize) -> Result<Part, Stop>
         requires { Nests self.now.turns (F.pre self.now.expr) (F.post self.now.expr) }
-        ensures { Reads part_seen (spec.row (spec.read self.now.turns) self.now.most row room ahead.old) result ahead.new }
+        ensures { Reads part_seen (spec.row (spec.read self.now.turns) self.now.most row room
+            ahead.old) result ahead.new }
     {
         match row {
             Row::Whole => self.whole(ahead, room),

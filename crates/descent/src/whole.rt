@@ -18,7 +18,8 @@ use std::alloc::Global;
 /// The expression that these tokens are.
 #[tactic(auto, unfolding(grammar::specs::Descent::reads_all))]
 fn read_all(alloc: Global, lines: &Lines, tokens: &[Token]) -> Result<Option<Expr>, NoMemory>
-    ensures { IfOk result (λ r. option_map tree_of r ≡ reads_all (tokens_seen lines.now.text tokens.now)) }
+    ensures { IfOk result (λ r. option_map tree_of r
+        ≡ reads_all (tokens_seen lines.now.text tokens.now)) }
 {
     let mut ahead = Ahead::new(lines, tokens);
     let turns = ahead.len();
@@ -43,7 +44,8 @@ fn read_all(alloc: Global, lines: &Lines, tokens: &[Token]) -> Result<Option<Exp
 /// [`NoMemory`] where memory was refused.
 pub fn line_expression(alloc: Global, lines: &Lines, place: usize) -> Result<Option<Expr>, NoMemory>
     requires { place < length lines.now.lines }
-    ensures { (line : List Placed) → slice_get lines.now.lines place ≡ Some line → IfOk result (λ r. IsExpression (line_tokens line) (option_map tree_of r)) }
+    ensures { (line : List Placed) → slice_get lines.now.lines place ≡ Some line
+        → IfOk result (λ r. IsExpression (line_tokens line) (option_map tree_of r)) }
 {
     read_all(alloc, lines, lines.line(place))
 }

@@ -82,7 +82,8 @@ fn names_to<'l>(
     lines: &Lines<'l>,
     tokens: &'l [Token],
 ) -> Result<Option<(Vec<Text>, &'l [Token])>, AllocError>
-    ensures { IfOk result (λ r. option_map (λ p. (p.0.items, tokens_seen lines.now.text p.1.now)) r ≡ names_to (tokens_seen lines.now.text tokens.now)) }
+    ensures { IfOk result (λ r. option_map (λ p. (p.0.items, tokens_seen lines.now.text p.1.now)) r
+        ≡ names_to (tokens_seen lines.now.text tokens.now)) }
 {
     let mut names = Vec::new(alloc);
     let mut left = tokens;
@@ -122,7 +123,8 @@ fn names_in<'l>(
     lines: &Lines<'l>,
     tokens: &'l [Token],
 ) -> Result<Option<(Vec<Text>, &'l [Token])>, AllocError>
-    ensures { IfOk result (λ r. option_map (λ p. (p.0.items, tokens_seen lines.now.text p.1.now)) r ≡ names_in (tokens_seen lines.now.text tokens.now)) }
+    ensures { IfOk result (λ r. option_map (λ p. (p.0.items, tokens_seen lines.now.text p.1.now)) r
+        ≡ names_in (tokens_seen lines.now.text tokens.now)) }
 {
     let mut names = Vec::new(alloc);
     let mut left = tokens;
@@ -147,7 +149,8 @@ fn names_in<'l>(
 /// The operator between two parts that comes first, and the tokens behind it.
 #[tactic(auto, unfolding(crate::specs::Front::next))]
 fn operator_in(tokens: &[Token]) -> Option<(Operator, &[Token])>
-    ensures { (text : List ℕ) → option_map (λ p. (operator_seen p.0, tokens_seen text p.1.now)) result ≡ operator_of (next (tokens_seen text tokens.now)) }
+    ensures { (text : List ℕ) → option_map (λ p. (operator_seen p.0, tokens_seen text p.1.now))
+        result ≡ operator_of (next (tokens_seen text tokens.now)) }
 {
     let [first, rest @ ..] = tokens else {
         return None;

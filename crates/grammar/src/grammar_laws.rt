@@ -35,5 +35,6 @@ pub fn lines_are_read()
 
 /// The logical lines of a file have at most one tree.
 pub fn files_have_one_tree()
-    ensures { (p : Place) (lines : List (List Placed)) (t u : Block) → SpellsFile p lines t → SpellsFile p lines u → t ≡ u }
+    ensures { (p : Place) (lines : List (List Placed)) (t u : Block) → SpellsFile p lines t
+        → SpellsFile p lines u → t ≡ u }
 {}

@@ -117,7 +117,8 @@ pub fn operated(
     right: Part,
     room: usize,
 ) -> Result<Part, Stop>
-    ensures { Makes part_seen (spec.operated room (operator_seen operator) (part_seen left) (part_seen right)) result }
+    ensures { Makes part_seen (spec.operated room (operator_seen operator) (part_seen left)
+        (part_seen right)) result }
 {
     let depth = left.depth.max(right.depth);
     let expr = tree::binary(operator, left.expr, right.expr);
@@ -136,7 +137,8 @@ pub fn signed(alloc: Global, sign: Sign, operand: Part, room: usize) -> Result<P
 /// A conditional, with its parts in the order of the text.
 #[inline(never)]
 pub fn chosen(alloc: Global, then: Part, test: Part, other: Part, room: usize) -> Result<Part, Stop>
-    ensures { Makes part_seen (spec.chosen room (part_seen then) (part_seen test) (part_seen other)) result }
+    ensures { Makes part_seen (spec.chosen room (part_seen then) (part_seen test) (part_seen other))
+        result }
 {
     let depth = then.depth.max(test.depth.max(other.depth));
     let expr = tree::choice(then.expr, test.expr, other.expr);
@@ -166,7 +168,8 @@ pub fn subscripted(alloc: Global, of: Part, at: Part, room: usize) -> Result<Par
 /// A call.
 #[inline(never)]
 pub fn called(alloc: Global, callee: Part, arguments: Arguments, room: usize) -> Result<Part, Stop>
-    ensures { Makes part_seen (spec.called room (part_seen callee) (arguments_seen arguments)) result }
+    ensures { Makes part_seen (spec.called room (part_seen callee) (arguments_seen arguments))
+        result }
 {
     let depth = callee.depth.max(arguments.depth);
     let expr = tree::call(callee.expr, arguments.items, arguments.named);
@@ -223,7 +226,8 @@ pub fn list_each(
     conditions: Conditions,
     room: usize,
 ) -> Result<Part, Stop>
-    ensures { Makes part_seen (spec.list_each_part room (part_seen element) (conditions_seen conditions)) result }
+    ensures { Makes part_seen (spec.list_each_part room (part_seen element)
+        (conditions_seen conditions)) result }
 {
     let depth = element.depth.max(conditions.depth);
     let expr = tree::list_each(element.expr, conditions.clauses);
@@ -238,7 +242,8 @@ pub fn dict_each(
     conditions: Conditions,
     room: usize,
 ) -> Result<Part, Stop>
-    ensures { Makes part_seen (spec.dict_each_part room (pair_seen entry) (conditions_seen conditions)) result }
+    ensures { Makes part_seen (spec.dict_each_part room (pair_seen entry)
+        (conditions_seen conditions)) result }
 {
     let (key, value) = entry;
     let depth = key.depth.max(value.depth).max(conditions.depth);
@@ -281,7 +286,8 @@ fn add_item(items: &mut Vec<Expr>, item: Expr) -> Result<(), AllocError>
 /// One expression more.
 #[inline(never)]
 pub fn with_item(several: Several, part: Part) -> Result<Several, AllocError>
-    ensures { IfOk result (λ s. several_seen s ≡ spec.with_item (several_seen several) (part_seen part)) }
+    ensures { IfOk result (λ s. several_seen s
+        ≡ spec.with_item (several_seen several) (part_seen part)) }
 {
     let depth = several.depth.max(part.depth);
     let mut items = several.items;
@@ -329,7 +335,8 @@ pub fn no_arguments(alloc: Global) -> Arguments
 /// One positional argument more.
 #[inline(never)]
 pub fn with_positional(arguments: Arguments, part: Part) -> Result<Arguments, AllocError>
-    ensures { IfOk result (λ s. arguments_seen s ≡ spec.with_argument (arguments_seen arguments) (spec.positional (part_seen part))) }
+    ensures { IfOk result (λ s. arguments_seen s
+        ≡ spec.with_argument (arguments_seen arguments) (spec.positional (part_seen part))) }
 {
     let depth = arguments.depth.max(part.depth);
     let in_order = arguments.in_order && arguments.named.is_empty();
@@ -346,7 +353,8 @@ pub fn with_positional(arguments: Arguments, part: Part) -> Result<Arguments, Al
 /// One argument with a name more.
 #[inline(never)]
 pub fn with_keyword(arguments: Arguments, name: Text, part: Part) -> Result<Arguments, AllocError>
-    ensures { IfOk result (λ s. arguments_seen s ≡ spec.with_argument (arguments_seen arguments) (spec.keyword name (part_seen part))) }
+    ensures { IfOk result (λ s. arguments_seen s
+        ≡ spec.with_argument (arguments_seen arguments) (spec.keyword name (part_seen part))) }
 {
     let depth = arguments.depth.max(part.depth);
     let mut named = arguments.named;
@@ -380,7 +388,8 @@ pub fn with_for(
     others: Vec<Text>,
     part: Part,
 ) -> Result<Conditions, AllocError>
-    ensures { IfOk result (λ s. conditions_seen s ≡ spec.with_for (conditions_seen found) first others.items (part_seen part)) }
+    ensures { IfOk result (λ s. conditions_seen s
+        ≡ spec.with_for (conditions_seen found) first others.items (part_seen part)) }
 {
     let depth = found.depth.max(part.depth);
     let mut clauses = found.clauses;
@@ -391,7 +400,8 @@ pub fn with_for(
 /// An `if` clause more.
 #[inline(never)]
 pub fn with_if(found: Conditions, part: Part) -> Result<Conditions, AllocError>
-    ensures { IfOk result (λ s. conditions_seen s ≡ spec.with_if (conditions_seen found) (part_seen part)) }
+    ensures { IfOk result (λ s. conditions_seen s
+        ≡ spec.with_if (conditions_seen found) (part_seen part)) }
 {
     let depth = found.depth.max(part.depth);
     let mut clauses = found.clauses;

@@ -170,7 +170,8 @@ pub enum Clause {
 }
 
 pub(crate) fn binary(operator: Operator, left: Box<Expr>, right: Box<Expr>) -> Expr
-    ensures { tree_of result ≡ bare.operates (operator_seen operator) (tree_of left.value) (tree_of right.value) }
+    ensures { tree_of result ≡ bare.operates (operator_seen operator) (tree_of left.value)
+        (tree_of right.value) }
 {
     Expr::Binary(operator, left, right)
 }
@@ -182,7 +183,8 @@ pub(crate) fn unary(sign: Sign, operand: Box<Expr>) -> Expr
 }
 
 pub(crate) fn choice(then: Box<Expr>, test: Box<Expr>, other: Box<Expr>) -> Expr
-    ensures { tree_of result ≡ bare.choice (tree_of then.value) (tree_of test.value) (tree_of other.value) }
+    ensures { tree_of result ≡ bare.choice (tree_of then.value) (tree_of test.value)
+        (tree_of other.value) }
 {
     Expr::Choice(then, test, other)
 }
@@ -200,7 +202,8 @@ pub(crate) fn index(of: Box<Expr>, at: Box<Expr>) -> Expr
 }
 
 pub(crate) fn call(callee: Box<Expr>, arguments: Vec<Expr>, named: Vec<Keyword>) -> Expr
-    ensures { tree_of result ≡ bare.invokes (tree_of callee.value) (trees arguments.items) (keywords named.items) }
+    ensures { tree_of result ≡ bare.invokes (tree_of callee.value) (trees arguments.items)
+        (keywords named.items) }
 {
     Expr::Call(callee, arguments, named)
 }
@@ -212,7 +215,8 @@ pub(crate) fn list_each(element: Box<Expr>, clauses: Vec<Clause>) -> Expr
 }
 
 pub(crate) fn dict_each(key: Box<Expr>, value: Box<Expr>, clauses: Vec<Clause>) -> Expr
-    ensures { tree_of result ≡ bare.each_entry (tree_of key.value) (tree_of value.value) (rests clauses.items) }
+    ensures { tree_of result ≡ bare.each_entry (tree_of key.value) (tree_of value.value)
+        (rests clauses.items) }
 {
     Expr::DictEach(key, value, clauses)
 }

@@ -112,7 +112,8 @@ fn as_text(bytes: &[u8]) -> &str
 fn read(alloc: Global, text: &[u8]) -> Result<Lines<'_>, ParseStop>
     ensures text { IfOk result (λ read. read.text ≡ text.now) }
     ensures lines { IfOk result (λ read. reading text.now ≡ Ok read.lines) }
-    ensures fault { (f : SyntaxFault) → result ≡ Err (ParseStop.Fault f) → reading text.now ≡ Err f }
+    ensures fault { (f : SyntaxFault) → result ≡ Err (ParseStop.Fault f)
+        → reading text.now ≡ Err f }
 {
     match character_fault(text) {
         Some(line) => {
@@ -148,7 +149,8 @@ pub fn logical_lines(alloc: Global, text: &str) -> Result<Lines<'_>, ParseStop>
     ensures text { IfOk result (λ read. read.text ≡ text.now) }
     ensures lines { IfOk result (λ read. reading text.now ≡ Ok read.lines) }
     ensures laid_out { IfOk result (λ read. IsReading text.now read.lines) }
-    ensures fault { (f : SyntaxFault) → result ≡ Err (ParseStop.Fault f) → reading text.now ≡ Err f }
+    ensures fault { (f : SyntaxFault) → result ≡ Err (ParseStop.Fault f)
+        → reading text.now ≡ Err f }
 {
     read(alloc, text.as_bytes())
 }

@@ -74,7 +74,8 @@ fn meaning(escaped: bool, b: u8) -> Option<u8>
 /// Appends what a byte of a body stands for.
 fn push_meaning(text: &mut String, escaped: bool, b: u8) -> Result<(), AllocError>
     requires { b < 128 }
-    ensures { IfOk result (λ _. string_bytes text.new ≡ string_bytes text.old ++ meaning_of escaped b) }
+    ensures { IfOk result (λ _. string_bytes text.new
+        ≡ string_bytes text.old ++ meaning_of escaped b) }
 {
     if let Some(meant) = meaning(escaped, b) {
         text.push(char::from(meant))?;

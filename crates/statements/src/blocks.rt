@@ -66,7 +66,8 @@ fn put(
     column: usize,
     line: Line,
 ) -> Result<(), AllocError>
-    ensures { IfOk result (λ _. pendings blocks.new.items ≡ put column (line_of line) (pendings blocks.old.items)) }
+    ensures { IfOk result (λ _. pendings blocks.new.items
+        ≡ put column (line_of line) (pendings blocks.old.items)) }
 {
     match blocks.pop() {
         Some(mut innermost) => {
@@ -90,8 +91,10 @@ fn block_of(
     body: Body,
     blocks: &mut Vec<Pending>,
 ) -> Result<Vec<Line>, AllocError>
-    ensures lines { IfOk result (λ ls. lines ls.items ≡ inner_of number (body_of body) (pendings blocks.old.items)) }
-    ensures left { IfOk result (λ _. pendings blocks.new.items ≡ left_by (body_of body) (pendings blocks.old.items)) }
+    ensures lines { IfOk result (λ ls. lines ls.items
+        ≡ inner_of number (body_of body) (pendings blocks.old.items)) }
+    ensures left { IfOk result (λ _. pendings blocks.new.items
+        ≡ left_by (body_of body) (pendings blocks.old.items)) }
 {
     match body {
         Body::Nothing => Ok(Vec::new(alloc)),
@@ -110,7 +113,8 @@ fn block_of(
 
 /// Puts a line before those behind it, with what belongs to it.
 fn attach(alloc: Global, blocks: &mut Vec<Pending>, read: Read) -> Result<(), AllocError>
-    ensures { IfOk result (λ _. pendings blocks.new.items ≡ attached (read_of read) (pendings blocks.old.items)) }
+    ensures { IfOk result (λ _. pendings blocks.new.items
+        ≡ attached (read_of read) (pendings blocks.old.items)) }
 {
     let block = block_of(alloc, read.number, read.body, blocks)?;
     let line = Line {

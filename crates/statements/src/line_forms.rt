@@ -98,7 +98,8 @@ impl FormReader {
     /// Expressions with commas between them, up to the end of the line, behind those that were found.
     #[tactic(auto, unfolding(grammar::specs::FormDescent::more_values))]
     fn more_values(&self, ahead: &mut Ahead<'_>, mut found: Several) -> Result<Several, Stop>
-        ensures { Makes several_seen (spec.more_values self.now.turns (self.now.turns - 1) (several_seen found) ahead.old) result }
+        ensures { Makes several_seen (spec.more_values self.now.turns (self.now.turns - 1)
+            (several_seen found) ahead.old) result }
     {
         for _turn in 0..self.turns.saturating_sub(1) {
             let item = self.expr(ahead, MAX_DEPTH - 1)?;
@@ -115,7 +116,8 @@ impl FormReader {
 
     /// Several expressions, of which the first was found, as a tuple.
     fn values_behind(&self, ahead: &mut Ahead<'_>, first: Part) -> Result<Expr, Stop>
-        ensures { Makes tree_of (spec.value_step self.now.turns (self.now.turns - 1) (part_seen first) [] (Some ahead.old)) result }
+        ensures { Makes tree_of (spec.value_step self.now.turns (self.now.turns - 1)
+            (part_seen first) [] (Some ahead.old)) result }
     {
         let found = parts::with_item(parts::no_items(self.alloc), first)?;
         let found = self.more_values(ahead, found)?;
@@ -141,7 +143,8 @@ impl FormReader {
 
     /// Names behind the first target, up to `=`, and what is assigned.
     fn names_behind(&self, ahead: &mut Ahead<'_>, first: Part) -> Result<Form, Stop>
-        ensures { Makes form_of (spec.names_step self.now.turns (part_seen first) (names_to ahead.old)) result }
+        ensures { Makes form_of (spec.names_step self.now.turns (part_seen first)
+            (names_to ahead.old)) result }
     {
         match ahead.names_to(self.alloc)? {
             Some(names) => {
@@ -174,7 +177,8 @@ impl FormReader {
 
     /// Behind `return`.
     fn returned(&self, ahead: &mut Ahead<'_>) -> Result<Form, Stop>
-        ensures { Makes form_of (spec.return_step self.now.turns ahead.old (is_done ahead.old)) result }
+        ensures { Makes form_of (spec.return_step self.now.turns ahead.old (is_done ahead.old))
+            result }
     {
         if ahead.is_done() {
             return Ok(Form::Return(None));
@@ -185,7 +189,8 @@ impl FormReader {
 
     /// Behind the word that a statement without a head begins with.
     fn simple_behind(&self, opening: Opening, ahead: &mut Ahead<'_>) -> Result<Form, Stop>
-        ensures { Makes form_of (spec.simple_step self.now.turns [] (Some (opening, ahead.old))) result }
+        ensures { Makes form_of (spec.simple_step self.now.turns [] (Some (opening, ahead.old)))
+            result }
     {
         match opening {
             Opening::Pass => alone(ahead, Form::Pass),
@@ -224,7 +229,8 @@ impl FormReader {
 
     /// A head with its body.
     fn bodied(&self, ahead: &mut Ahead<'_>, form: Form) -> Result<(Form, Body), Stop>
-        ensures { Makes shaped_of (spec.bodied self.now.turns (form_of form) (spec.body self.now.turns ahead.old)) result }
+        ensures { Makes shaped_of (spec.bodied self.now.turns (form_of form)
+            (spec.body self.now.turns ahead.old)) result }
     {
         let body = self.body(ahead)?;
         Ok((form, body))
@@ -249,7 +255,8 @@ impl FormReader {
     /// The parameters of a function, up to the closing bracket.
     #[tactic(auto, unfolding(grammar::specs::FormDescent::params, grammar::specs::Descent::gather))]
     fn params(&self, ahead: &mut Ahead<'_>) -> Result<Vec<Param>, Stop>
-        ensures { Reads (λ ps. map param_of ps.items) (spec.params self.now.turns ahead.old) result ahead.new }
+        ensures { Reads (λ ps. map param_of ps.items) (spec.params self.now.turns ahead.old) result
+            ahead.new }
     {
         let mut found = Vec::new(self.alloc);
         for _turn in 0..self.turns {
@@ -300,7 +307,8 @@ impl FormReader {
     /// All that a `load` asks for, up to the closing bracket.
     #[tactic(auto, unfolding(grammar::specs::FormDescent::items, grammar::specs::Descent::gather))]
     fn items(&self, ahead: &mut Ahead<'_>) -> Result<Vec<Item>, Stop>
-        ensures { Reads (λ is. map item_of is.items) (spec.items self.now.turns ahead.old) result ahead.new }
+        ensures { Reads (λ is. map item_of is.items) (spec.items self.now.turns ahead.old) result
+            ahead.new }
     {
         let mut found = Vec::new(self.alloc);
         for _turn in 0..self.turns {
@@ -396,7 +404,8 @@ impl FormReader {
 
     /// Behind the word that a line begins with.
     fn form_behind(&self, opening: Opening, ahead: &mut Ahead<'_>) -> Result<(Form, Body), Stop>
-        ensures { Makes shaped_of (spec.form_step self.now.turns [] (Some (opening, ahead.old))) result }
+        ensures { Makes shaped_of (spec.form_step self.now.turns [] (Some (opening, ahead.old)))
+            result }
     {
         match opening {
             Opening::Load => self.load_line(ahead),
@@ -439,7 +448,8 @@ pub(crate) fn read_form(
     lines: &Lines,
     tokens: &[Token],
 ) -> Result<Option<(Form, Body)>, NoMemory>
-    ensures { IfOk result (λ r. option_map shaped_of r ≡ spec.reads_form (tokens_seen lines.now.text tokens.now)) }
+    ensures { IfOk result (λ r. option_map shaped_of r
+        ≡ spec.reads_form (tokens_seen lines.now.text tokens.now)) }
 {
     let mut ahead = Ahead::new(lines, tokens);
     let turns = ahead.len() + 1;

@@ -301,7 +301,8 @@ fn next_of(lines: &[Outline], place: usize) -> Option<Outline>
 ///
 /// A fault of the statements, at that line. Want of memory may be answered in its place.
 pub(crate) fn lines_stand(alloc: Global, lines: &[Outline], top: Place) -> Result<(), ParseStop>
-    ensures value { IfOk result (λ _. (os : List Open) × (pass lines.now (top_level top ∷ []) ≡ Ok os)) }
+    ensures value { IfOk result (λ _. (os : List Open)
+        × (pass lines.now (top_level top ∷ []) ≡ Ok os)) }
     ensures fault { FaultsAt FaultKind.Statement (pass lines.now (top_level top ∷ [])) result }
 {
     let mut blocks = Stack::new(alloc);

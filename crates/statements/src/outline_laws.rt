@@ -8,5 +8,7 @@ ghost use Rattle.statements.specs.Outlines.{outline_of, pass, place_of, top_leve
 
 /// The outlines of logical lines tell at which of them a file is refused.
 pub fn outlines_tell_the_fault()
-    ensures { (p : Place) (lines : List Laid) (n : ℕ) → (file_reads p lines ≡ Err n) ↔ (pass (map outline_of lines) (top_level (place_of p) ∷ []) ≡ Err n) }
+    ensures { (p : Place) (lines : List Laid) (n : ℕ)
+        → (file_reads p lines ≡ Err n) ↔ (pass (map outline_of lines) (top_level (place_of p) ∷ [])
+        ≡ Err n) }
 {}

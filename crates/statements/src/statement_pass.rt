@@ -91,8 +91,15 @@ struct LineRead {
 
 /// What is read of a line that begins there.
 fn with_start(number: usize, column: usize, form: Option<(Form, Body)>, is_text: bool) -> LineRead
-    ensures outline { result.outline ≡ record { line = number; column = column; form = option_map (formed_as is_text) (option_map shaped_of form) } }
-    ensures read { option_map read_of result.read ≡ option_map (λ s. record { number = number; column = column; form = s.0; body = s.1 }) (option_map shaped_of form) }
+    ensures outline { result.outline ≡ record {
+      line = number;
+      column = column;
+      form = option_map
+          (formed_as is_text) (option_map shaped_of form);
+    } }
+    ensures read { option_map read_of result.read ≡ option_map
+        (λ s. record { number = number; column = column; form = s.0; body = s.1 })
+        (option_map shaped_of form) }
 {
     match form {
         Some((form, body)) => {
@@ -127,8 +134,10 @@ fn with_start(number: usize, column: usize, form: Option<(Form, Body)>, is_text:
 
 /// Reads the line of these tokens.
 fn read_line(alloc: Global, lines: &Lines, tokens: &[Token]) -> Result<LineRead, NoMemory>
-    ensures outline { IfOk result (λ r. r.outline ≡ outline_read (laid (map (seen lines.now.text) tokens.now))) }
-    ensures read { IfOk result (λ r. option_map read_of r.read ≡ line_read (laid (map (seen lines.now.text) tokens.now))) }
+    ensures outline { IfOk result (λ r. r.outline
+        ≡ outline_read (laid (map (seen lines.now.text) tokens.now))) }
+    ensures read { IfOk result (λ r. option_map read_of r.read
+        ≡ line_read (laid (map (seen lines.now.text) tokens.now))) }
 {
     let (number, column) = start_of(tokens);
     let form = read_form(alloc, lines, tokens)?;
@@ -145,8 +154,11 @@ struct LinesRead {
 impl LinesRead {
     /// Adds a line.
     fn add(&mut self, line: LineRead) -> Result<(), AllocError>
-        ensures outlines { OnOk result (self.new.outlines.items ≡ self.old.outlines.items ++ line.outline ∷ []) }
-        ensures reads { OnOk result ((ms : List Made) → map read_of self.new.reads.items ++ ms ≡ map read_of self.old.reads.items ++ cons_option (option_map read_of line.read) ms) }
+        ensures outlines { OnOk result (self.new.outlines.items
+            ≡ self.old.outlines.items ++ line.outline ∷ []) }
+        ensures reads { OnOk result ((ms : List Made)
+            → map read_of self.new.reads.items ++ ms
+            ≡ map read_of self.old.reads.items ++ cons_option (option_map read_of line.read) ms) }
     {
         self.outlines.push(line.outline)?;
         if let Some(read) = line.read {
@@ -158,8 +170,10 @@ impl LinesRead {
 
 /// Reads each line of a text.
 fn read_lines(alloc: Global, lines: &Lines) -> Result<LinesRead, NoMemory>
-    ensures outlines { IfOk result (λ r. r.outlines.items ≡ map outline_read (map laid lines.now.lines)) }
-    ensures reads { IfOk result (λ r. map read_of r.reads.items ≡ filter_map line_read (map laid lines.now.lines)) }
+    ensures outlines { IfOk result (λ r. r.outlines.items
+        ≡ map outline_read (map laid lines.now.lines)) }
+    ensures reads { IfOk result (λ r. map read_of r.reads.items
+        ≡ filter_map line_read (map laid lines.now.lines)) }
 {
     let mut found = LinesRead {
         outlines: Vec::new(alloc),
@@ -184,8 +198,11 @@ fn top_of(kind: FileKind) -> Place
 
 /// The same as [`read_file`].
 fn blocks_of(alloc: Global, lines: &Lines, kind: FileKind) -> Result<Vec<Line>, ParseStop>
-    ensures tree { IfOk result (λ ls. (tree : Block) × (file_reads (top_of kind) (map laid lines.now.lines) ≡ Ok tree) × (view.lines ls.items ≡ bare_lines tree)) }
-    ensures fault { FaultsAt FaultKind.Statement (file_reads (top_of kind) (map laid lines.now.lines)) result }
+    ensures tree { IfOk result (λ ls. (tree : Block)
+        × (file_reads (top_of kind) (map laid lines.now.lines) ≡ Ok tree)
+        × (view.lines ls.items ≡ bare_lines tree)) }
+    ensures fault { FaultsAt FaultKind.Statement
+        (file_reads (top_of kind) (map laid lines.now.lines)) result }
 {
     let read = match read_lines(alloc, lines) {
         Ok(read) => read,
@@ -206,9 +223,12 @@ fn blocks_of(alloc: Global, lines: &Lines, kind: FileKind) -> Result<Vec<Line>, 
 /// A fault of the statements at the first line that has no form, or stands where it may not. Want of memory may be
 /// answered in its place.
 pub fn read_file(alloc: Global, lines: &Lines, kind: FileKind) -> Result<Vec<Line>, ParseStop>
-    ensures tree { IfOk result (λ ls. (tree : Block) × (file_reads (top_of kind) (map laid lines.now.lines) ≡ Ok tree) × (view.lines ls.items ≡ bare_lines tree)) }
+    ensures tree { IfOk result (λ ls. (tree : Block)
+        × (file_reads (top_of kind) (map laid lines.now.lines) ≡ Ok tree)
+        × (view.lines ls.items ≡ bare_lines tree)) }
     ensures shallow { IfOk result (λ ls. lines_depth (view.lines ls.items) ≤ 200) }
-    ensures fault { FaultsAt FaultKind.Statement (file_reads (top_of kind) (map laid lines.now.lines)) result }
+    ensures fault { FaultsAt FaultKind.Statement
+        (file_reads (top_of kind) (map laid lines.now.lines)) result }
 {
     blocks_of(alloc, lines, kind)
 }

@@ -17,7 +17,8 @@ use std::alloc::{AllocError, Global};
 
 /// Adds the names that a `load` binds.
 fn add_items(found: &mut Vec<Text>, items: &[Item]) -> Result<(), AllocError>
-    ensures { OnOk result (found.new.items ≡ found.old.items ++ map (λ i. i.binds) (map item_of items.now)) }
+    ensures { OnOk result (found.new.items ≡ found.old.items ++ map
+        (λ i. i.binds) (map item_of items.now)) }
 {
     for item in items {
         found.push(item.binds.share()?)?;
@@ -70,7 +71,8 @@ pub(crate) fn form_names(alloc: Global, form: &Form) -> Result<Vec<Text>, AllocE
 
 /// Adds the names of parameters.
 pub(crate) fn add_params(found: &mut Vec<Text>, params: &[Param]) -> Result<(), AllocError>
-    ensures { OnOk result (found.new.items ≡ found.old.items ++ map param_name (map param_of params.now)) }
+    ensures { OnOk result (found.new.items ≡ found.old.items ++ map param_name
+        (map param_of params.now)) }
 {
     for param in params {
         match param {
@@ -90,14 +92,17 @@ fn keeps_names(form: &Form) -> bool
 /// The lines of the block of a line.
 pub(crate) fn block_of(line: &Line) -> &[Line]
     ensures block { result.now ≡ (out-Line line.now).block.items }
-    ensures seen { (rest : Lines) → line_of line.now rest ≡ a_line (out-Line line.now).number (form_of (out-Line line.now).form) (view.lines result.now) rest }
+    ensures seen { (rest : Lines) → line_of line.now rest
+        ≡ a_line (out-Line line.now).number (form_of (out-Line line.now).form)
+        (view.lines result.now) rest }
 {
     line.block.as_slice()
 }
 
 /// Adds the names that a line binds, if it is a `load`.
 pub(crate) fn add_loaded(found: &mut Vec<Text>, line: &Line) -> Result<(), AllocError>
-    ensures { OnOk result ((rest : Lines) → found.new.items ++ loads_bind rest ≡ found.old.items ++ loads_bind (line_of line.now rest)) }
+    ensures { OnOk result ((rest : Lines) → found.new.items ++ loads_bind rest
+        ≡ found.old.items ++ loads_bind (line_of line.now rest)) }
 {
     match &line.form {
         Form::Load(_, items) => add_items(found, items.as_slice()),
@@ -122,7 +127,8 @@ pub(crate) fn add_lines(found: &mut Vec<Text>, lines: &[Line]) -> Result<(), All
 
 /// Adds the names that a clause binds.
 fn add_clause(found: &mut Vec<Text>, clause: &Clause) -> Result<(), AllocError>
-    ensures { OnOk result ((r : Rest) → found.new.items ++ names.clause_names r ≡ found.old.items ++ names.clause_names (clause_of clause.now r)) }
+    ensures { OnOk result ((r : Rest) → found.new.items ++ names.clause_names r
+        ≡ found.old.items ++ names.clause_names (clause_of clause.now r)) }
 {
     match clause {
         Clause::For(first, others, _) => add_targets(found, first, others.as_slice()),

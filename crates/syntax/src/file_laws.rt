@@ -12,39 +12,49 @@ use lexer::{FileKind, SyntaxFault};
 
 /// The five passes give a tree exactly where it is that of the text.
 pub fn trees_are_those_of_the_text()
-    ensures { (text : List ℕ) (kind : FileKind) (tree : Block) → (syntax text kind ≡ Ok tree) ↔ IsFile text kind tree }
+    ensures { (text : List ℕ) (kind : FileKind) (tree : Block)
+        → (syntax text kind ≡ Ok tree) ↔ IsFile text kind tree }
 {}
 
 /// A text has at most one tree of a kind.
 pub fn texts_have_one_tree()
-    ensures { (text : List ℕ) (kind : FileKind) (t u : Block) → IsFile text kind t → IsFile text kind u → t ≡ u }
+    ensures { (text : List ℕ) (kind : FileKind) (t u : Block) → IsFile text kind t
+        → IsFile text kind u → t ≡ u }
 {}
 
 /// A text has a fault exactly where it has no tree.
 pub fn faults_stand_where_no_tree_is()
-    ensures refused { (text : List ℕ) (kind : FileKind) (f : SyntaxFault) (tree : Block) → syntax text kind ≡ Err f → ¬ IsFile text kind tree }
-    ensures found { (text : List ℕ) (kind : FileKind) → ((tree : Block) → ¬ IsFile text kind tree) → (f : SyntaxFault) × (syntax text kind ≡ Err f) }
+    ensures refused { (text : List ℕ) (kind : FileKind) (f : SyntaxFault) (tree : Block)
+        → syntax text kind ≡ Err f → ¬ IsFile text kind tree }
+    ensures found { (text : List ℕ) (kind : FileKind) → ((tree : Block) → ¬ IsFile text kind tree)
+        → (f : SyntaxFault) × (syntax text kind ≡ Err f) }
 {}
 
 /// A fault that the five passes give is the first fault of the text: that of the first pass that finds one, at the first
 /// line where it does. A text has no other fault.
 pub fn faults_are_the_first()
-    ensures { (text : List ℕ) (kind : FileKind) (f : SyntaxFault) → (syntax text kind ≡ Err f) ↔ IsFault text kind f }
+    ensures { (text : List ℕ) (kind : FileKind) (f : SyntaxFault)
+        → (syntax text kind ≡ Err f) ↔ IsFault text kind f }
 {}
 
 /// In a file no expression is more than 200 deep.
 pub fn trees_are_shallow()
-    ensures { (text : List ℕ) (kind : FileKind) (tree : Block) → IsFile text kind tree → lines_depth (bare_lines tree) ≤ 200 }
+    ensures { (text : List ℕ) (kind : FileKind) (tree : Block) → IsFile text kind tree
+        → lines_depth (bare_lines tree) ≤ 200 }
 {}
 
 /// Two names of one scope stand for two places: no slot and no number is that of two names.
 pub fn names_have_places_of_their_own()
-    ensures slots { (s : Scope) (x y : Name) (k : ℕ) → slot_of x s.levels ≡ Some k → slot_of y s.levels ≡ Some k → x ≡ y }
-    ensures globals { (s : Scope) (x y : Name) (k : ℕ) → position (bytes_eq x) s.globals ≡ Some k → position (bytes_eq y) s.globals ≡ Some k → x ≡ y }
+    ensures slots { (s : Scope) (x y : Name) (k : ℕ) → slot_of x s.levels ≡ Some k
+        → slot_of y s.levels ≡ Some k → x ≡ y }
+    ensures globals { (s : Scope) (x y : Name) (k : ℕ) → position (bytes_eq x) s.globals ≡ Some k
+        → position (bytes_eq y) s.globals ≡ Some k → x ≡ y }
 {}
 
 /// In a function whose parameters are distinct, as many slots come before that of a parameter as there are parameters
 /// before it.
 pub fn parameters_have_the_first_slots()
-    ensures { (s : Scope) (ps : List Param) (inner : Lines) (front behind : List Name) (x : Name) → distinct (map param_name ps) ≡ true → map param_name ps ≡ front ++ x ∷ behind → stands_for (function_scope s ps inner) x ≡ Some (slot (length front)) }
+    ensures { (s : Scope) (ps : List Param) (inner : Lines) (front behind : List Name) (x : Name)
+        → distinct (map param_name ps) ≡ true → map param_name ps ≡ front ++ x ∷ behind
+        → stands_for (function_scope s ps inner) x ≡ Some (slot (length front)) }
 {}

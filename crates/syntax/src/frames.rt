@@ -92,7 +92,8 @@ fn rounds_slots(rounds: &[Round]) -> usize
 
 /// The same of three expressions.
 fn three_slots(base: &Term, at: &Term, value: &Term) -> usize
-    ensures { result ≡ resolved.statement_slots (resolved.assign_item (view.term base.now) (view.term at.now) (view.term value.now)) }
+    ensures { result ≡ resolved.statement_slots
+        (resolved.assign_item (view.term base.now) (view.term at.now) (view.term value.now)) }
 {
     term_slots(base).max(term_slots(at).max(term_slots(value)))
 }

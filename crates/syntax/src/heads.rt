@@ -103,7 +103,10 @@ fn add_default(
     param: &Param,
 ) -> Result<(), Unresolved>
     ensures kept { Keeps (λ s. param_scoped s (param_of param.now)) scope.old result scope.new }
-    ensures found { IfOk result (λ _. (r : Terms) → terms_onto (map view.term found.new.items) r ≡ terms_onto (map view.term found.old.items) (with_default scope.old (param_of param.now) r)) }
+    ensures found { IfOk result (λ _. (r : Terms)
+        → terms_onto (map view.term found.new.items) r
+        ≡ terms_onto (map view.term found.old.items)
+        (with_default scope.old (param_of param.now) r)) }
 {
     match param {
         Param::Required(_) => Ok(()),
@@ -117,7 +120,9 @@ fn add_default(
 
 /// The defaults of the last parameters.
 fn defaults(alloc: Global, scope: &mut Scope, params: &[Param]) -> Result<Vec<Term>, Unresolved>
-    ensures { Gives (λ v. view.terms v.items) (λ s. list_all (param_scoped s) (map param_of params.now)) (λ s. defaults s (map param_of params.now)) scope.old result scope.new }
+    ensures { Gives (λ v. view.terms v.items) (λ s. list_all (param_scoped s)
+        (map param_of params.now)) (λ s. defaults s (map param_of params.now)) scope.old result
+        scope.new }
 {
     let mut found = Vec::new(alloc);
     for param in params {
@@ -128,7 +133,8 @@ fn defaults(alloc: Global, scope: &mut Scope, params: &[Param]) -> Result<Vec<Te
 
 /// What a `load` binds.
 fn loaded(alloc: Global, scope: &Scope, items: &[Item]) -> Result<Vec<Loaded>, AllocError>
-    ensures { IfOk result (λ v. v.items ≡ map (λ i. record { asked = i.asked; binds = global_of scope.now i.binds }) (map item_of items.now)) }
+    ensures { IfOk result (λ v. v.items ≡ map (λ i. record
+        { asked = i.asked; binds = global_of scope.now i.binds }) (map item_of items.now)) }
 {
     let mut found = Vec::new(alloc);
     for item in items {
@@ -142,7 +148,9 @@ fn loaded(alloc: Global, scope: &Scope, items: &[Item]) -> Result<Vec<Loaded>, A
 
 /// A `load`.
 fn load(alloc: Global, scope: &Scope, path: &Text, items: &[Item]) -> Result<Statement, AllocError>
-    ensures { IfOk result (λ l. view.statement l ≡ resolved.load path.now (map (λ i. record { asked = i.asked; binds = global_of scope.now i.binds }) (map item_of items.now))) }
+    ensures { IfOk result (λ l. view.statement l
+        ≡ resolved.load path.now (map (λ i. record
+        { asked = i.asked; binds = global_of scope.now i.binds }) (map item_of items.now))) }
 {
     let items = loaded(alloc, scope, items)?;
     let path = path.share()?;
@@ -160,7 +168,8 @@ fn param_names(alloc: Global, params: &[Param]) -> Result<Vec<Text>, AllocError>
 
 /// The head of a function.
 fn def(alloc: Global, scope: &mut Scope, name: &Text, params: &[Param]) -> Result<Head, Unresolved>
-    ensures { GivesHead form_scoped (defines name.now (map param_of params.now)) scope.old result scope.new }
+    ensures { GivesHead form_scoped (defines name.now (map param_of params.now)) scope.old result
+        scope.new }
 {
     let names = param_names(alloc, params)?;
     if !are_distinct(alloc, names.as_slice())? {
@@ -184,7 +193,15 @@ fn three(
     at: &Expr,
     value: &Expr,
 ) -> Result<(Box<Term>, Box<Term>, Term), Unresolved>
-    ensures { Gives {B = resolved.Term × resolved.Term × resolved.Term} (λ t. (view.term t.0.value, view.term t.1.value, view.term t.2)) (λ s. scoped s (tree_of base.now) && (scoped s (tree_of at.now) && scoped s (tree_of value.now))) (λ s. (resolved.term s (tree_of base.now), resolved.term s (tree_of at.now), resolved.term s (tree_of value.now))) scope.old result scope.new }
+    ensures { Gives {B = resolved.Term × resolved.Term × resolved.Term}
+        (λ t. (view.term t.0.value, view.term t.1.value, view.term t.2))
+        (λ s. scoped s (tree_of base.now) && (scoped s (tree_of at.now) && scoped s
+        (tree_of value.now))) (λ s. (
+          resolved.term s (tree_of base.now),
+          resolved.term s
+              (tree_of at.now),
+          resolved.term s (tree_of value.now),
+        )) scope.old result scope.new }
 {
     let base = term(alloc, scope, base)?;
     let at = term(alloc, scope, at)?;

@@ -51,8 +51,10 @@ fn finished(scope: Scope, loaded: usize, mut steps: Vec<Step>) -> Parsed
 
 /// The same as [`parse`].
 fn read(alloc: Global, text: &str, kind: FileKind) -> Result<Parsed, ParseStop>
-    ensures tree { IfOk result (λ p. (tree : Block) × (syntax text.now kind ≡ Ok tree) × (program_of p ≡ resolved (bare_lines tree))) }
-    ensures fault { (f : SyntaxFault) → result ≡ Err (ParseStop.Fault f) → syntax text.now kind ≡ Err f }
+    ensures tree { IfOk result (λ p. (tree : Block) × (syntax text.now kind ≡ Ok tree)
+        × (program_of p ≡ resolved (bare_lines tree))) }
+    ensures fault { (f : SyntaxFault) → result ≡ Err (ParseStop.Fault f)
+        → syntax text.now kind ≡ Err f }
 {
     let read = match logical_lines(alloc, text) {
         Ok(read) => read,
@@ -87,10 +89,12 @@ fn read(alloc: Global, text: &str, kind: FileKind) -> Result<Parsed, ParseStop>
 /// [`ParseStop::Fault`] where the text has no tree of this kind: the first fault of the first of the five passes that
 /// finds one, with its line. [`ParseStop::NoMemory`] may come in place of any answer, where memory was refused.
 pub fn parse(alloc: Global, text: &str, kind: FileKind) -> Result<Parsed, ParseStop>
-    ensures tree { IfOk result (λ p. (tree : Block) × (syntax text.now kind ≡ Ok tree) × (program_of p ≡ resolved (bare_lines tree))) }
+    ensures tree { IfOk result (λ p. (tree : Block) × (syntax text.now kind ≡ Ok tree)
+        × (program_of p ≡ resolved (bare_lines tree))) }
     ensures shallow { IfOk result (λ p. IsShallow (program_of p)) }
     ensures fits { IfOk result (λ p. IsProgram (program_of p)) }
-    ensures fault { (f : SyntaxFault) → result ≡ Err (ParseStop.Fault f) → syntax text.now kind ≡ Err f }
+    ensures fault { (f : SyntaxFault) → result ≡ Err (ParseStop.Fault f)
+        → syntax text.now kind ≡ Err f }
 {
     read(alloc, text, kind)
 }

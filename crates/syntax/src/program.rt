@@ -155,7 +155,8 @@ pub struct Step {
 }
 
 pub(crate) fn binary(operator: Operator, left: Box<Term>, right: Box<Term>) -> Term
-    ensures { view.term result ≡ resolved.operates (operator_seen operator) (view.term left.value) (view.term right.value) }
+    ensures { view.term result ≡ resolved.operates (operator_seen operator) (view.term left.value)
+        (view.term right.value) }
 {
     Term::Binary(operator, left, right)
 }
@@ -167,7 +168,8 @@ pub(crate) fn unary(sign: Sign, operand: Box<Term>) -> Term
 }
 
 pub(crate) fn choice(then: Box<Term>, test: Box<Term>, other: Box<Term>) -> Term
-    ensures { view.term result ≡ resolved.choice (view.term then.value) (view.term test.value) (view.term other.value) }
+    ensures { view.term result ≡ resolved.choice (view.term then.value) (view.term test.value)
+        (view.term other.value) }
 {
     Term::Choice(then, test, other)
 }
@@ -185,13 +187,15 @@ pub(crate) fn index(of: Box<Term>, at: Box<Term>) -> Term
 }
 
 pub(crate) fn call(callee: Box<Term>, items: Vec<Term>, named: Vec<Argument>) -> Term
-    ensures { view.term result ≡ resolved.invokes (view.term callee.value) (view.terms items.items) (view.keywords named.items) }
+    ensures { view.term result ≡ resolved.invokes (view.term callee.value) (view.terms items.items)
+        (view.keywords named.items) }
 {
     Term::Call(callee, items, named)
 }
 
 pub(crate) fn list_each(own: OwnSlots, element: Box<Term>, clauses: Vec<Round>) -> Term
-    ensures { view.term result ≡ resolved.each own (view.term element.value) (view.rounds clauses.items) }
+    ensures { view.term result ≡ resolved.each own (view.term element.value)
+        (view.rounds clauses.items) }
 {
     Term::ListEach(own, element, clauses)
 }
@@ -202,7 +206,8 @@ pub(crate) fn dict_each(
     value: Box<Term>,
     clauses: Vec<Round>,
 ) -> Term
-    ensures { view.term result ≡ resolved.each_pair own (view.term key.value) (view.term value.value) (view.rounds clauses.items) }
+    ensures { view.term result ≡ resolved.each_pair own (view.term key.value)
+        (view.term value.value) (view.rounds clauses.items) }
 {
     Term::DictEach(own, key, value, clauses)
 }

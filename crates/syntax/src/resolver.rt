@@ -86,8 +86,11 @@ fn split(clauses: &[Clause]) -> Option<(&Clause, &[Clause])>
 
 /// The expression of a clause.
 fn operand(clause: &Clause) -> &Expr
-    ensures scoped { (s t : Around) (r : Rest) → rest_scoped s t (clause_of clause.now r) ≡ (scoped s (tree_of result.now) && rest_scoped t t r) }
-    ensures others { (t : Around) (r : Rest) → others_scoped t (clause_of clause.now r) ≡ rest_scoped t t r }
+    ensures scoped { (s t : Around) (r : Rest)
+        → rest_scoped s t (clause_of clause.now r)
+        ≡ (scoped s (tree_of result.now) && rest_scoped t t r) }
+    ensures others { (t : Around) (r : Rest) → others_scoped t (clause_of clause.now r)
+        ≡ rest_scoped t t r }
     ensures first { (r : Rest) → first_tree (clause_of clause.now r) ≡ Some (tree_of result.now) }
 {
     match clause {
@@ -99,7 +102,10 @@ fn operand(clause: &Clause) -> &Expr
 /// A clause of the comprehension whose scope this is, with its expression, which was resolved before.
 #[inline(never)]
 fn round(alloc: Global, scope: &Scope, clause: &Clause, operand: Term) -> Result<Round, AllocError>
-    ensures { IfOk result (λ k. (s : Around) (r : Rest) → option_map (resolved.term s) (first_tree (clause_of clause.now r)) ≡ Some (view.term operand) → view.round k (resolved.rounds scope.now scope.now r) ≡ resolved.rounds s scope.now (clause_of clause.now r)) }
+    ensures { IfOk result (λ k. (s : Around) (r : Rest)
+        → option_map (resolved.term s) (first_tree (clause_of clause.now r))
+        ≡ Some (view.term operand) → view.round k (resolved.rounds scope.now scope.now r)
+        ≡ resolved.rounds s scope.now (clause_of clause.now r)) }
 {
     match clause {
         Clause::For(first, others, _) => {
@@ -189,7 +195,8 @@ impl<F: Fn(Global, &mut Scope, &Expr, usize) -> Result<Term, Unresolved>> Resolv
     #[inline(never)]
     fn all(&self, scope: &mut Scope, exprs: &[Expr]) -> Result<Vec<Term>, Unresolved>
         requires { ResolvesInside self.now.turns (F.pre self.now.inside) (F.post self.now.inside) }
-        ensures { Gives (λ v. view.terms v.items) (λ s. trees_scoped s (trees exprs.now)) (λ s. resolved.terms s (trees exprs.now)) scope.old result scope.new }
+        ensures { Gives (λ v. view.terms v.items) (λ s. trees_scoped s (trees exprs.now))
+            (λ s. resolved.terms s (trees exprs.now)) scope.old result scope.new }
     {
         let mut found = Vec::with_capacity(self.alloc, exprs.len())?;
         for expr in exprs {
@@ -202,7 +209,8 @@ impl<F: Fn(Global, &mut Scope, &Expr, usize) -> Result<Term, Unresolved>> Resolv
     #[inline(never)]
     fn pairs(&self, scope: &mut Scope, written: &[Entry]) -> Result<Vec<Pair>, Unresolved>
         requires { ResolvesInside self.now.turns (F.pre self.now.inside) (F.post self.now.inside) }
-        ensures { Gives (λ v. view.pairs v.items) (λ s. entries_scoped s (entries written.now)) (λ s. resolved.pairs s (entries written.now)) scope.old result scope.new }
+        ensures { Gives (λ v. view.pairs v.items) (λ s. entries_scoped s (entries written.now))
+            (λ s. resolved.pairs s (entries written.now)) scope.old result scope.new }
     {
         let mut found = Vec::with_capacity(self.alloc, written.len())?;
         for pair in written {
@@ -218,7 +226,8 @@ impl<F: Fn(Global, &mut Scope, &Expr, usize) -> Result<Term, Unresolved>> Resolv
     #[inline(never)]
     fn arguments(&self, scope: &mut Scope, named: &[Keyword]) -> Result<Vec<Argument>, Unresolved>
         requires { ResolvesInside self.now.turns (F.pre self.now.inside) (F.post self.now.inside) }
-        ensures { Gives (λ v. view.keywords v.items) (λ s. keywords_scoped s (keywords named.now)) (λ s. resolved.keywords s (keywords named.now)) scope.old result scope.new }
+        ensures { Gives (λ v. view.keywords v.items) (λ s. keywords_scoped s (keywords named.now))
+            (λ s. resolved.keywords s (keywords named.now)) scope.old result scope.new }
     {
         let mut found = Vec::with_capacity(self.alloc, named.len())?;
         for argument in named {
@@ -264,7 +273,8 @@ impl<F: Fn(Global, &mut Scope, &Expr, usize) -> Result<Term, Unresolved>> Resolv
         right: &Expr,
     ) -> Result<Term, Unresolved>
         requires { ResolvesInside self.now.turns (F.pre self.now.inside) (F.post self.now.inside) }
-        ensures { GivesTerm (operates (operator_seen operator) (tree_of left.now) (tree_of right.now)) scope.old result scope.new }
+        ensures { GivesTerm (operates (operator_seen operator) (tree_of left.now)
+            (tree_of right.now)) scope.old result scope.new }
     {
         let left = self.boxed(scope, left)?;
         let right = self.boxed(scope, right)?;
@@ -280,7 +290,8 @@ impl<F: Fn(Global, &mut Scope, &Expr, usize) -> Result<Term, Unresolved>> Resolv
         other: &Expr,
     ) -> Result<Term, Unresolved>
         requires { ResolvesInside self.now.turns (F.pre self.now.inside) (F.post self.now.inside) }
-        ensures { GivesTerm (choice_tree (tree_of then.now) (tree_of test.now) (tree_of other.now)) scope.old result scope.new }
+        ensures { GivesTerm (choice_tree (tree_of then.now) (tree_of test.now) (tree_of other.now))
+            scope.old result scope.new }
     {
         let then = self.boxed(scope, then)?;
         let test = self.boxed(scope, test)?;
@@ -291,7 +302,8 @@ impl<F: Fn(Global, &mut Scope, &Expr, usize) -> Result<Term, Unresolved>> Resolv
     #[inline(never)]
     fn unary(&self, scope: &mut Scope, sign: Sign, operand: &Expr) -> Result<Term, Unresolved>
         requires { ResolvesInside self.now.turns (F.pre self.now.inside) (F.post self.now.inside) }
-        ensures { GivesTerm (turned (sign_seen sign) (tree_of operand.now)) scope.old result scope.new }
+        ensures { GivesTerm (turned (sign_seen sign) (tree_of operand.now)) scope.old result
+            scope.new }
     {
         let operand = self.boxed(scope, operand)?;
         Ok(unary(sign, operand))
@@ -309,7 +321,8 @@ impl<F: Fn(Global, &mut Scope, &Expr, usize) -> Result<Term, Unresolved>> Resolv
     #[inline(never)]
     fn index(&self, scope: &mut Scope, base: &Expr, at: &Expr) -> Result<Term, Unresolved>
         requires { ResolvesInside self.now.turns (F.pre self.now.inside) (F.post self.now.inside) }
-        ensures { GivesTerm (subscript (tree_of base.now) (tree_of at.now)) scope.old result scope.new }
+        ensures { GivesTerm (subscript (tree_of base.now) (tree_of at.now)) scope.old result
+            scope.new }
     {
         let base = self.boxed(scope, base)?;
         let at = self.boxed(scope, at)?;
@@ -325,7 +338,8 @@ impl<F: Fn(Global, &mut Scope, &Expr, usize) -> Result<Term, Unresolved>> Resolv
         named: &[Keyword],
     ) -> Result<Term, Unresolved>
         requires { ResolvesInside self.now.turns (F.pre self.now.inside) (F.post self.now.inside) }
-        ensures { GivesTerm (invokes (tree_of callee.now) (trees items.now) (keywords named.now)) scope.old result scope.new }
+        ensures { GivesTerm (invokes (tree_of callee.now) (trees items.now) (keywords named.now))
+            scope.old result scope.new }
     {
         let callee = self.boxed(scope, callee)?;
         let items = self.all(scope, items)?;
@@ -343,7 +357,9 @@ impl<F: Fn(Global, &mut Scope, &Expr, usize) -> Result<Term, Unresolved>> Resolv
         clauses: &[Clause],
     ) -> Result<Option<Box<Term>>, Unresolved>
         requires { ResolvesInside self.now.turns (F.pre self.now.inside) (F.post self.now.inside) }
-        ensures { Gives (option_map boxed_term) (λ s. first_scoped s (rests clauses.now)) (λ s. option_map (resolved.term s) (first_tree (rests clauses.now))) scope.old result scope.new }
+        ensures { Gives (option_map boxed_term) (λ s. first_scoped s (rests clauses.now))
+            (λ s. option_map (resolved.term s) (first_tree (rests clauses.now))) scope.old result
+            scope.new }
     {
         match split(clauses) {
             Some((first, _)) => Ok(Some(self.boxed(scope, operand(first))?)),
@@ -360,7 +376,10 @@ impl<F: Fn(Global, &mut Scope, &Expr, usize) -> Result<Term, Unresolved>> Resolv
         clauses: &[Clause],
     ) -> Result<(), Unresolved>
         requires { ResolvesInside self.now.turns (F.pre self.now.inside) (F.post self.now.inside) }
-        ensures { Gives (λ _. view.rounds found.new.items) (λ s. rest_scoped s s (rests clauses.now)) (λ s. rounds_onto (map view.round found.old.items) (resolved.rounds s s (rests clauses.now))) scope.old result scope.new }
+        ensures { Gives (λ _. view.rounds found.new.items)
+            (λ s. rest_scoped s s (rests clauses.now))
+            (λ s. rounds_onto (map view.round found.old.items)
+            (resolved.rounds s s (rests clauses.now))) scope.old result scope.new }
     {
         for clause in clauses {
             let value = self.one(scope, operand(clause))?;
@@ -379,7 +398,10 @@ impl<F: Fn(Global, &mut Scope, &Expr, usize) -> Result<Term, Unresolved>> Resolv
         clauses: &[Clause],
     ) -> Result<Vec<Round>, Unresolved>
         requires { ResolvesInside self.now.turns (F.pre self.now.inside) (F.post self.now.inside) }
-        ensures { (s : Around) → option_map boxed_term first ≡ option_map (resolved.term s) (first_tree (rests clauses.now)) → Gives (λ v. view.rounds v.items) (λ t. others_scoped t (rests clauses.now)) (λ t. resolved.rounds s t (rests clauses.now)) scope.old result scope.new }
+        ensures { (s : Around) → option_map boxed_term first
+            ≡ option_map (resolved.term s) (first_tree (rests clauses.now))
+            → Gives (λ v. view.rounds v.items) (λ t. others_scoped t (rests clauses.now))
+            (λ t. resolved.rounds s t (rests clauses.now)) scope.old result scope.new }
     {
         let mut found = Vec::new(self.alloc);
         if let Some(value) = first {
@@ -401,7 +423,13 @@ impl<F: Fn(Global, &mut Scope, &Expr, usize) -> Result<Term, Unresolved>> Resolv
         clauses: &[Clause],
     ) -> Result<(Box<Term>, Vec<Round>), Unresolved>
         requires { ResolvesInside self.now.turns (F.pre self.now.inside) (F.post self.now.inside) }
-        ensures { (s : Around) → option_map boxed_term first ≡ option_map (resolved.term s) (first_tree (rests clauses.now)) → Gives {B = resolved.Term × resolved.Rounds} (λ p. (boxed_term p.0, view.rounds p.1.items)) (λ t. scoped t (tree_of element.now) && others_scoped t (rests clauses.now)) (λ t. (resolved.term t (tree_of element.now), resolved.rounds s t (rests clauses.now))) scope.old result scope.new }
+        ensures { (s : Around) → option_map boxed_term first
+            ≡ option_map (resolved.term s) (first_tree (rests clauses.now))
+            → Gives {B = resolved.Term × resolved.Rounds}
+            (λ p. (boxed_term p.0, view.rounds p.1.items))
+            (λ t. scoped t (tree_of element.now) && others_scoped t (rests clauses.now))
+            (λ t. (resolved.term t (tree_of element.now), resolved.rounds s t (rests clauses.now)))
+            scope.old result scope.new }
     {
         let element = self.boxed(scope, element)?;
         let rounds = self.rounds(scope, first, clauses)?;
@@ -418,7 +446,17 @@ impl<F: Fn(Global, &mut Scope, &Expr, usize) -> Result<Term, Unresolved>> Resolv
         clauses: &[Clause],
     ) -> Result<(Box<Term>, Box<Term>, Vec<Round>), Unresolved>
         requires { ResolvesInside self.now.turns (F.pre self.now.inside) (F.post self.now.inside) }
-        ensures { (s : Around) → option_map boxed_term first ≡ option_map (resolved.term s) (first_tree (rests clauses.now)) → Gives {B = resolved.Term × resolved.Term × resolved.Rounds} (λ p. (boxed_term p.0, boxed_term p.1, view.rounds p.2.items)) (λ t. scoped t (tree_of key.now) && (scoped t (tree_of value.now) && others_scoped t (rests clauses.now))) (λ t. (resolved.term t (tree_of key.now), resolved.term t (tree_of value.now), resolved.rounds s t (rests clauses.now))) scope.old result scope.new }
+        ensures { (s : Around) → option_map boxed_term first
+            ≡ option_map (resolved.term s) (first_tree (rests clauses.now))
+            → Gives {B = resolved.Term × resolved.Term × resolved.Rounds}
+            (λ p. (boxed_term p.0, boxed_term p.1, view.rounds p.2.items))
+            (λ t. scoped t (tree_of key.now) &&
+            (scoped t (tree_of value.now) && others_scoped t (rests clauses.now)))
+            (λ t. (
+              resolved.term t (tree_of key.now),
+              resolved.term t (tree_of value.now),
+              resolved.rounds s t (rests clauses.now),
+            )) scope.old result scope.new }
     {
         let key = self.boxed(scope, key)?;
         let value = self.boxed(scope, value)?;
@@ -453,7 +491,8 @@ impl<F: Fn(Global, &mut Scope, &Expr, usize) -> Result<Term, Unresolved>> Resolv
         clauses: &[Clause],
     ) -> Result<Term, Unresolved>
         requires { ResolvesInside self.now.turns (F.pre self.now.inside) (F.post self.now.inside) }
-        ensures { GivesTerm (each (tree_of element.now) (rests clauses.now)) scope.old result scope.new }
+        ensures { GivesTerm (each (tree_of element.now) (rests clauses.now)) scope.old result
+            scope.new }
     {
         let (own, first) = self.enter(scope, clauses)?;
         let inside = self.in_list(scope, element, first, clauses);
@@ -471,7 +510,8 @@ impl<F: Fn(Global, &mut Scope, &Expr, usize) -> Result<Term, Unresolved>> Resolv
         clauses: &[Clause],
     ) -> Result<Term, Unresolved>
         requires { ResolvesInside self.now.turns (F.pre self.now.inside) (F.post self.now.inside) }
-        ensures { GivesTerm (each_entry (tree_of key.now) (tree_of value.now) (rests clauses.now)) scope.old result scope.new }
+        ensures { GivesTerm (each_entry (tree_of key.now) (tree_of value.now) (rests clauses.now))
+            scope.old result scope.new }
     {
         let (own, first) = self.enter(scope, clauses)?;
         let inside = self.in_dict(scope, key, value, first, clauses);

@@ -58,7 +58,8 @@ fn once(alloc: Global, names: &[Text]) -> Result<IndexSet<Text>, AllocError>
 /// Binds names beside those that were bound before, and tells whether none was and none comes twice.
 pub(crate) fn bind_anew(before: &mut IndexSet<Text>, names: &[Text]) -> Result<bool, AllocError>
     ensures new { IfOk result (λ b. b ≡ (distinct names.now && apart names.now before.old.keys)) }
-    ensures bound { IfOk result (λ b. b ≡ true → (x : List ℕ) → among x before.new.keys ≡ among x (names.now ++ before.old.keys)) }
+    ensures bound { IfOk result (λ b. b ≡ true → (x : List ℕ)
+        → among x before.new.keys ≡ among x (names.now ++ before.old.keys)) }
 {
     for name in names {
         if before.contains(name) {
@@ -144,7 +145,8 @@ impl Scope {
     /// Goes into a comprehension that binds these names, and gives the slots that they have.
     pub(crate) fn enter(&mut self, alloc: Global, names: &[Text]) -> Result<OwnSlots, AllocError>
         ensures entered { OnOk result (self.new ≡ entered names.now self.old) }
-        ensures own { IfOk result (λ own. own ≡ record { first = width self.old.levels; end = width self.new.levels }) }
+        ensures own { IfOk result (λ own. own ≡ record
+            { first = width self.old.levels; end = width self.new.levels }) }
     {
         let level = once(alloc, names)?;
         let first = self.slots();

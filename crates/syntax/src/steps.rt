@@ -89,7 +89,9 @@ impl Behind {
 
     /// With a statement before the others, which ends what an `if` before it can have.
     fn with_step(alloc: Global, step: Step, mut steps: Vec<Step>) -> Result<Behind, AllocError>
-        ensures steps { IfOk result (λ b. view.steps (reverse b.steps.items) ≡ resolved.step (view.line_and_statement step).0 (view.line_and_statement step).1 (view.steps (reverse steps.items))) }
+        ensures steps { IfOk result (λ b. view.steps (reverse b.steps.items)
+            ≡ resolved.step (view.line_and_statement step).0 (view.line_and_statement step).1
+            (view.steps (reverse steps.items))) }
         ensures other { IfOk result (λ b. view.steps b.other.items ≡ no_steps) }
         ensures branches { IfOk result (λ b. b.branches.items ≡ []) }
     {
@@ -116,7 +118,8 @@ fn begin(
     statement: Statement,
     steps: Vec<Step>,
 ) -> Result<Behind, AllocError>
-    ensures { IfOk result (λ b. behind_seen b ≡ begun (resolved.step line (view.statement statement) (view.steps (reverse steps.items)))) }
+    ensures { IfOk result (λ b. behind_seen b ≡ begun
+        (resolved.step line (view.statement statement) (view.steps (reverse steps.items)))) }
 {
     let step = numbered(line, statement);
     let behind = Behind::with_step(alloc, step, steps)?;
@@ -124,19 +127,22 @@ fn begin(
 }
 
 fn branch(line: usize, test: Term, steps: Vec<Step>) -> Branch
-    ensures { (r : Branches) → view.branch result r ≡ resolved.a_branch line (view.term test) (view.steps steps.items) r }
+    ensures { (r : Branches) → view.branch result r
+        ≡ resolved.a_branch line (view.term test) (view.steps steps.items) r }
 {
     Branch { line, test, steps }
 }
 
 fn condition(branches: Vec<Branch>, other: Vec<Step>) -> Statement
-    ensures { view.statement result ≡ resolved.branch (view.branches branches.items) (view.steps other.items) }
+    ensures { view.statement result ≡ resolved.branch (view.branches branches.items)
+        (view.steps other.items) }
 {
     Statement::If(branches, other)
 }
 
 fn repetition(names: Vec<Binding>, operand: Term, steps: Vec<Step>) -> Statement
-    ensures { view.statement result ≡ resolved.loop names.items (view.term operand) (view.steps steps.items) }
+    ensures { view.statement result ≡ resolved.loop names.items (view.term operand)
+        (view.steps steps.items) }
 {
     Statement::For(names, operand, steps)
 }
@@ -144,7 +150,8 @@ fn repetition(names: Vec<Binding>, operand: Term, steps: Vec<Step>) -> Statement
 /// A function, which gets its number later.
 fn definition(binds: usize, params: Vec<Text>, defaults: Vec<Term>, inner: Inner) -> Statement
     ensures { let body = view.steps inner.steps.items in
-        view.statement result ≡ resolved.define 0 binds params.items (view.terms defaults.items) (max inner.slots (resolved.steps_slots body)) body }
+        view.statement result ≡ resolved.define 0 binds params.items (view.terms defaults.items)
+        (max inner.slots (resolved.steps_slots body)) body }
 {
     Statement::Define(Function {
         number: 0,
@@ -158,7 +165,8 @@ fn definition(binds: usize, params: Vec<Text>, defaults: Vec<Term>, inner: Inner
 
 /// The branches of a condition, of which those behind the first are known, the last one first.
 fn all_branches(first: Branch, mut others: Vec<Branch>) -> Result<Vec<Branch>, AllocError>
-    ensures { IfOk result (λ bs. view.branches bs.items ≡ view.branch first (view.branches (reverse others.items))) }
+    ensures { IfOk result (λ bs. view.branches bs.items
+        ≡ view.branch first (view.branches (reverse others.items))) }
 {
     others.push(first)?;
     others.reverse();
@@ -167,7 +175,8 @@ fn all_branches(first: Branch, mut others: Vec<Branch>) -> Result<Vec<Branch>, A
 
 /// With a branch before the others.
 fn with_branch(branch: Branch, behind: Behind) -> Result<Behind, AllocError>
-    ensures { IfOk result (λ b. behind_seen b ≡ record (behind_seen behind) { branches = view.branch branch (behind_seen behind).branches }) }
+    ensures { IfOk result (λ b. behind_seen b ≡ record (behind_seen behind)
+        { branches = view.branch branch (behind_seen behind).branches }) }
 {
     let mut branches = behind.branches;
     branches.push(branch)?;
@@ -191,7 +200,10 @@ pub(crate) struct Later {
 /// resolved, so that blocks inside of one another take little of the stack.
 #[inline(never)]
 fn head_of(alloc: Global, scope: &mut Scope, line: &Line) -> Result<Box<Head>, Stopped>
-    ensures { Places (λ s. unless (out-Line line.now).number (line_scoped s (form_of (out-Line line.now).form))) (λ h s. head_seen h.value ≡ head s (form_of (out-Line line.now).form)) scope.old result scope.new }
+    ensures { Places (λ s. unless (out-Line line.now).number
+        (line_scoped s (form_of (out-Line line.now).form)))
+        (λ h s. head_seen h.value ≡ head s (form_of (out-Line line.now).form)) scope.old result
+        scope.new }
 {
     match line_head(alloc, scope, &line.form) {
         Ok(head) => Ok(Box::new(alloc, head)?),
@@ -208,7 +220,8 @@ fn enter_block(
     form: &Form,
     block: &[Line],
 ) -> Result<Option<Levels>, AllocError>
-    ensures entered { OnOk result (scope.new ≡ scope_of scope.old (form_of form.now) (seen.lines block.now)) }
+    ensures entered { OnOk result (scope.new ≡ scope_of scope.old (form_of form.now)
+        (seen.lines block.now)) }
     ensures back { IfOk result (λ around. back around scope.new ≡ scope.old) }
 {
     match form {
@@ -241,7 +254,8 @@ fn line_and_block(
     scope: &mut Scope,
     line: &Line,
 ) -> Result<(Box<Head>, Inner), Stopped>
-    ensures { Places (λ s. own_fault s line.now) (λ m s. IsOwn s line.now m.0.value m.1) scope.old result scope.new }
+    ensures { Places (λ s. own_fault s line.now)
+        (λ m s. IsOwn s line.now m.0.value m.1) scope.old result scope.new }
 {
     let block = block_of(line);
     let head = head_of(alloc, scope, line)?;
@@ -260,7 +274,8 @@ fn with_line(
     own: (Head, Inner),
     behind: Behind,
 ) -> Result<Behind, AllocError>
-    ensures { IfOk result (λ b. behind_seen b ≡ with_line (head_seen own.0) line own.1.slots (view.steps own.1.steps.items) (behind_seen behind)) }
+    ensures { IfOk result (λ b. behind_seen b ≡ with_line (head_seen own.0) line own.1.slots
+        (view.steps own.1.steps.items) (behind_seen behind)) }
 {
     let (head, inner) = own;
     match head {
@@ -294,7 +309,8 @@ fn follows(
     own: (Box<Head>, Inner),
     behind: Behind,
 ) -> Result<Behind, AllocError>
-    ensures { IfOk result (λ b. (s : Around) → IsOwn s line.now own.0.value own.1 → FollowsOn s line.now behind b) }
+    ensures { IfOk result (λ b. (s : Around) → IsOwn s line.now own.0.value own.1
+        → FollowsOn s line.now behind b) }
 {
     let (head, inner) = own;
     with_line(alloc, line.number, (Box::into_inner(head), inner), behind)
@@ -309,7 +325,9 @@ fn before(
     later: Later,
 ) -> Result<Later, AllocError>
     ensures seen { (rest : Lines) → line_of line.now rest ≡ before_lines line.now rest }
-    ensures made { IfOk result (λ l. (s t : Around) (rest : Lines) → Places (λ s. own_fault s line.now) (λ m s. IsOwn s line.now m.0.value m.1) s own t → IsLater s rest later → IsLater s (before_lines line.now rest) l × (t ≡ s)) }
+    ensures made { IfOk result (λ l. (s t : Around) (rest : Lines)
+        → Places (λ s. own_fault s line.now) (λ m s. IsOwn s line.now m.0.value m.1) s own t
+        → IsLater s rest later → IsLater s (before_lines line.now rest) l × (t ≡ s)) }
 {
     match own {
         Ok(own) => Ok(Later {
@@ -327,7 +345,8 @@ fn before(
 /// The statements of lines that were gone through, or the first that breaks a rule.
 #[inline(never)]
 fn ended(later: Later) -> Result<Vec<Step>, Stopped>
-    ensures { (s : Around) (rest : Lines) → IsLater s rest later → PlacesSteps (λ s. lines_fault s rest) (λ s. steps_of s rest) s result s }
+    ensures { (s : Around) (rest : Lines) → IsLater s rest later
+        → PlacesSteps (λ s. lines_fault s rest) (λ s. steps_of s rest) s result s }
 {
     if let Some(number) = later.fault {
         return Err(Stopped::At(number));
@@ -346,7 +365,8 @@ fn ended(later: Later) -> Result<Vec<Step>, Stopped>
 #[cycle(blocks)]
 #[inline(never)]
 fn resolve_lines(alloc: Global, scope: &mut Scope, lines: &[Line]) -> Result<Vec<Step>, Stopped>
-    ensures { PlacesSteps (λ s. lines_fault s (seen.lines lines.now)) (λ s. steps_of s (seen.lines lines.now)) scope.old result scope.new }
+    ensures { PlacesSteps (λ s. lines_fault s (seen.lines lines.now))
+        (λ s. steps_of s (seen.lines lines.now)) scope.old result scope.new }
 {
     let mut later = Later {
         fault: None,
@@ -364,7 +384,8 @@ fn resolve_lines(alloc: Global, scope: &mut Scope, lines: &[Line]) -> Result<Vec
 
 /// The same of lines that are given back one by one.
 fn resolve_owned(alloc: Global, scope: &mut Scope, lines: Vec<Line>) -> Result<Vec<Step>, Stopped>
-    ensures { PlacesSteps (λ s. lines_fault s (seen.lines lines.items)) (λ s. steps_of s (seen.lines lines.items)) scope.old result scope.new }
+    ensures { PlacesSteps (λ s. lines_fault s (seen.lines lines.items))
+        (λ s. steps_of s (seen.lines lines.items)) scope.old result scope.new }
 {
     let mut later = Later {
         fault: None,
@@ -389,7 +410,8 @@ pub(crate) fn resolve_file(
     scope: &mut Scope,
     lines: Vec<Line>,
 ) -> Result<Vec<Step>, Stopped>
-    ensures { PlacesSteps (λ s. top_fault s [] (seen.lines lines.items)) (λ s. steps_of s (seen.lines lines.items)) scope.old result scope.new }
+    ensures { PlacesSteps (λ s. top_fault s [] (seen.lines lines.items))
+        (λ s. steps_of s (seen.lines lines.items)) scope.old result scope.new }
 {
     let (kept, number) = until_rebound(alloc, lines.as_slice())?;
     let mut lines = lines;
@@ -405,7 +427,8 @@ pub(crate) fn resolve_file(
 fn give_number(step: &mut Step, number: usize) -> usize
     requires { number < 2 ^ 63 }
     ensures numbered { let was = view.line_and_statement step.old in
-        (view.line_and_statement step.new ≡ (was.0, with_number number was.1)) × (result ≡ next_number number was.1) }
+        (view.line_and_statement step.new ≡ (was.0, with_number number was.1))
+        × (result ≡ next_number number was.1) }
     ensures next { result ≤ number + 1 }
 {
     match &mut step.statement {

@@ -53,7 +53,8 @@ fn adds_to_name(form: &Form) -> bool
 /// Binds what a line of the top level binds beside the names that were bound before, and tells whether it may.
 fn binds_anew(alloc: Global, before: &mut IndexSet<Text>, form: &Form) -> Result<bool, AllocError>
     ensures told { IfOk result (λ b. b ≡ binds_anew before.old.keys (form_of form.now)) }
-    ensures bound { IfOk result (λ b. b ≡ true → (x : List ℕ) → among x before.new.keys ≡ among x (form_binds (form_of form.now) ++ before.old.keys)) }
+    ensures bound { IfOk result (λ b. b ≡ true → (x : List ℕ)
+        → among x before.new.keys ≡ among x (form_binds (form_of form.now) ++ before.old.keys)) }
 {
     let names = form_names(alloc, form)?;
     if !bind_anew(before, names.as_slice())? {
@@ -66,7 +67,9 @@ fn binds_anew(alloc: Global, before: &mut IndexSet<Text>, form: &Form) -> Result
 fn line_at(lines: &[Line], place: usize) -> &Line
     requires { place < length lines.now }
     ensures at { drop place lines.now ≡ result.now ∷ drop (place + 1) lines.now }
-    ensures seen { (rest : Lines) → line_of result.now rest ≡ a_line (out-Line result.now).number (form_of (out-Line result.now).form) (view.lines (out-Line result.now).block.items) rest }
+    ensures seen { (rest : Lines) → line_of result.now rest
+        ≡ a_line (out-Line result.now).number (form_of (out-Line result.now).form)
+        (view.lines (out-Line result.now).block.items) rest }
 {
     &lines[place]
 }
@@ -76,7 +79,9 @@ pub(crate) fn until_rebound(
     alloc: Global,
     lines: &[Line],
 ) -> Result<(usize, Option<usize>), AllocError>
-    ensures found { IfOk result (λ r. (s : Around) → top_fault s [] (view.lines lines.now) ≡ or_else (lines_fault s (view.lines (take r.0 lines.now))) r.1) }
+    ensures found { IfOk result (λ r. (s : Around)
+        → top_fault s [] (view.lines lines.now)
+        ≡ or_else (lines_fault s (view.lines (take r.0 lines.now))) r.1) }
     ensures whole { IfOk result (λ r. r.1 ≡ None → take r.0 lines.now ≡ lines.now) }
 {
     let mut before = IndexSet::new(alloc);
