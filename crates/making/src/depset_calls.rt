@@ -84,7 +84,8 @@ fn order_in(heap: &Heap, order: Option<&Value>) -> Result<Order, Broken>
 
 /// The elements of an argument, none where there is none.
 fn elements_in(alloc: Global, heap: &Heap, direct: Option<&Value>) -> Result<Vec<Element>, Broken>
-    ensures { MatchResult result (λ v. parts_in element_in heap.now (option_copied direct.entry) ≡ Ok v.items) (λ e. FaultOr (parts_in element_in heap.now (option_copied direct.entry)) e) }
+    ensures { MatchResult result (λ v. parts_in element_in heap.now (option_copied direct.entry)
+        ≡ Ok v.items) (λ e. FaultOr (parts_in element_in heap.now (option_copied direct.entry)) e) }
 {
     let Some(direct) = direct else {
         return Ok(Vec::new(alloc));
@@ -102,7 +103,9 @@ fn children_in(
     heap: &Heap,
     transitive: Option<&Value>,
 ) -> Result<Vec<Depset>, Broken>
-    ensures { MatchResult result (λ v. parts_in depset_in heap.now (option_copied transitive.entry) ≡ Ok v.items) (λ e. FaultOr (parts_in depset_in heap.now (option_copied transitive.entry)) e) }
+    ensures { MatchResult result (λ v. parts_in depset_in heap.now (option_copied transitive.entry)
+        ≡ Ok v.items) (λ e. FaultOr (parts_in depset_in heap.now (option_copied transitive.entry))
+        e) }
 {
     let Some(transitive) = transitive else {
         return Ok(Vec::new(alloc));
@@ -130,7 +133,11 @@ fn read_parts(
     order: Option<&Value>,
     transitive: Option<&Value>,
 ) -> Result<Parts, Broken>
-    ensures { MatchResult result (λ p. parts_of heap.now (option_copied direct.entry) (option_copied order.entry) (option_copied transitive.entry) ≡ Ok (record { direct = p.direct.items; order = p.order; transitive = p.transitive.items })) (λ e. FaultOr (parts_of heap.now (option_copied direct.entry) (option_copied order.entry) (option_copied transitive.entry)) e) }
+    ensures { MatchResult result (λ p. parts_of heap.now (option_copied direct.entry)
+        (option_copied order.entry) (option_copied transitive.entry)
+        ≡ Ok (record { direct = p.direct.items; order = p.order; transitive = p.transitive.items }))
+        (λ e. FaultOr (parts_of heap.now (option_copied direct.entry) (option_copied order.entry)
+        (option_copied transitive.entry)) e) }
 {
     let direct = match elements_in(alloc, heap, direct) {
         Ok(direct) => direct,
@@ -163,7 +170,8 @@ pub fn depset(
     order: Option<&Value>,
     transitive: Option<&Value>,
 ) -> Result<Value, Broken>
-    ensures { Does (depset_of (option_copied direct.entry) (option_copied order.entry) (option_copied transitive.entry)) state.old result state.new }
+    ensures { Does (depset_of (option_copied direct.entry) (option_copied order.entry)
+        (option_copied transitive.entry)) state.old result state.new }
 {
     match read_parts(alloc, &state.heap, direct, order, transitive) {
         Ok(made) => new_depset(alloc, state, made.order, made.direct, made.transitive),

@@ -150,7 +150,8 @@ fn name_at(names: &[Text], place: usize) -> &Text
 
 /// The value of an instance's field, if it was given.
 pub fn field<'a>(provider: &Provider, slots: Slots<'a>, name: &Text) -> Option<Item<'a>>
-    ensures { option_value result ≡ field_in name.now provider.now.fields (slot_values slots.entry) }
+    ensures { option_value result ≡ field_in name.now provider.now.fields
+        (slot_values slots.entry) }
 {
     match place_named(name, provider.fields.as_slice()) {
         Some(place) => slot_at(slots, place),

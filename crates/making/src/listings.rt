@@ -13,7 +13,8 @@ use values::{Broken, Depset, Element, Items, Key, Leaf, Value};
 
 /// A new list of the listing, or `large`. Of a depset that isn't coherent it is the listing of the walk that visits no id twice.
 pub fn to_list(alloc: Global, state: &mut State, depset: &Depset) -> Result<Value, Broken>
-    ensures walk { Does (new_list (map element_value (walked depset.now))) state.old result state.new }
+    ensures walk { Does (new_list (map element_value (walked depset.now))) state.old result
+        state.new }
     ensures plain { IsCoherent depset.now → Does (to_list depset.now) state.old result state.new }
 {
     let items = listing(alloc, depset)?;
@@ -26,7 +27,8 @@ pub fn to_list(alloc: Global, state: &mut State, depset: &Depset) -> Result<Valu
 /// The elements of the listing as values.
 fn listing(alloc: Global, depset: &Depset) -> Result<Items, AllocError>
     ensures walk { IfOk result (λ items. items ≡ map element_value (walked depset.now)) }
-    ensures plain { IfOk result (λ items. IsCoherent depset.now → items ≡ map element_value (flat depset.now)) }
+    ensures plain { IfOk result (λ items. IsCoherent depset.now
+        → items ≡ map element_value (flat depset.now)) }
 {
     let listing = depset.list_whole(alloc)?;
     element_values(alloc, &listing.items)

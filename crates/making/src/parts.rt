@@ -10,7 +10,8 @@ use values::{Broken, Depset, Element, Group, Heap, Key, Kind, Leaf, Seen};
 
 /// The elements that items are, or `type`.
 pub(crate) fn elements(alloc: Global, items: Group<'_>, heap: &Heap) -> Result<Vec<Element>, Broken>
-    ensures { MatchResult result (λ v. all_in element_in heap.now (group_items items.entry) ≡ Ok v.items) (λ e. FaultOr (all_in element_in heap.now (group_items items.entry)) e) }
+    ensures { MatchResult result (λ v. all_in element_in heap.now (group_items items.entry)
+        ≡ Ok v.items) (λ e. FaultOr (all_in element_in heap.now (group_items items.entry)) e) }
 {
     let mut elements = Vec::new(alloc);
     for place in 0..items.len() {
@@ -23,7 +24,9 @@ pub(crate) fn elements(alloc: Global, items: Group<'_>, heap: &Heap) -> Result<V
 
 /// Puts the element that a value is last, or `type`.
 fn put_element(value: &Seen<'_>, elements: &mut Vec<Element>) -> Result<(), Broken>
-    ensures { MatchResult result (λ _. put_last elements.old.items (element_in (seen value.now)) ≡ Ok elements.new.items) (λ e. FaultOr (put_last elements.old.items (element_in (seen value.now))) e) }
+    ensures { MatchResult result (λ _. put_last elements.old.items (element_in (seen value.now))
+        ≡ Ok elements.new.items) (λ e. FaultOr
+        (put_last elements.old.items (element_in (seen value.now))) e) }
 {
     match element_of(value)? {
         Some(element) => {
@@ -52,7 +55,8 @@ fn element_of(value: &Seen<'_>) -> Result<Option<Element>, AllocError>
 
 /// The depsets that items are, or `type`.
 pub(crate) fn children(alloc: Global, items: Group<'_>, heap: &Heap) -> Result<Vec<Depset>, Broken>
-    ensures { MatchResult result (λ v. all_in depset_in heap.now (group_items items.entry) ≡ Ok v.items) (λ e. FaultOr (all_in depset_in heap.now (group_items items.entry)) e) }
+    ensures { MatchResult result (λ v. all_in depset_in heap.now (group_items items.entry)
+        ≡ Ok v.items) (λ e. FaultOr (all_in depset_in heap.now (group_items items.entry)) e) }
 {
     let mut depsets = Vec::new(alloc);
     for place in 0..items.len() {
@@ -65,7 +69,9 @@ pub(crate) fn children(alloc: Global, items: Group<'_>, heap: &Heap) -> Result<V
 
 /// Puts the depset that a value is last, or `type`.
 fn put_depset(value: &Seen<'_>, depsets: &mut Vec<Depset>) -> Result<(), Broken>
-    ensures { MatchResult result (λ _. put_last depsets.old.items (depset_in (seen value.now)) ≡ Ok depsets.new.items) (λ e. FaultOr (put_last depsets.old.items (depset_in (seen value.now))) e) }
+    ensures { MatchResult result (λ _. put_last depsets.old.items (depset_in (seen value.now))
+        ≡ Ok depsets.new.items) (λ e. FaultOr (put_last depsets.old.items
+        (depset_in (seen value.now))) e) }
 {
     match value {
         Seen::Leaf(Leaf::Depset(depset)) => {

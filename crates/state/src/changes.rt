@@ -76,7 +76,8 @@ pub fn set_item(state: &mut State, base: &Value, index: &Value, value: Value) ->
 
 /// `list[index] = value`.
 fn set_index(state: &mut State, list: &Value, index: &Value, value: Value) -> Result<(), Broken>
-    ensures { Does (λ s. changed tt s (of_type (number_in (shape s.heap index.now)) (λ n. list_changed (indexed n value) s.heap list.now))) state.old result state.new }
+    ensures { Does (λ s. changed tt s (of_type (number_in (shape s.heap index.now))
+        (λ n. list_changed (indexed n value) s.heap list.now))) state.old result state.new }
 {
     match number_of(&state.heap.see(index)) {
         Some(number) => match state.heap.set_index(list, number, value) {
@@ -94,7 +95,8 @@ pub(crate) fn set_key(
     key: &Value,
     value: Value,
 ) -> Result<(), Broken>
-    ensures { Does (λ s. changed tt s (of_type (key_in (shape s.heap key.now)) (λ k. dict_changed (keyed k value) s.heap dict.now))) state.old result state.new }
+    ensures { Does (λ s. changed tt s (of_type (key_in (shape s.heap key.now))
+        (λ k. dict_changed (keyed k value) s.heap dict.now))) state.old result state.new }
 {
     let Some(key) = key_of(&state.heap.see(key)) else {
         return Err(Broken::Kind(Kind::Wrong));

@@ -31,7 +31,8 @@ pub fn is_among(
     x: Item<'_>,
     items: Group<'_>,
 ) -> Result<bool, Broken>
-    ensures { Says (among (equal_at VISITED_LEVELS heap.now) (item_value x.entry) (group_items items.entry) ticks.old) result ticks.new }
+    ensures { Says (among (equal_at VISITED_LEVELS heap.now) (item_value x.entry)
+        (group_items items.entry) ticks.old) result ticks.new }
 {
     for place in 0..items.len() {
         match equal(items.item(place), x, heap, ticks) {

@@ -19,7 +19,8 @@ use values::{Broken, Group, Item, Key, Kind, Seen, Table, Value, place_of};
 ///
 /// `type`, where the base has no items or the index isn't one of it; then `index`, or of a dict `key`.
 pub fn item(alloc: Global, state: &State, base: Item<'_>, index: Item<'_>) -> Result<Value, Broken>
-    ensures { Does (item (item_value base.entry) (item_value index.entry)) state.now result state.now }
+    ensures { Does (item (item_value base.entry) (item_value index.entry)) state.now result
+        state.now }
 {
     let base = state.heap.see_item(base);
     let index = state.heap.see_item(index);
@@ -106,7 +107,8 @@ fn item_at(items: Group<'_>, index: i64) -> Result<Value, Broken>
 
 /// The value of a key, or `type` where there is no key.
 fn keyed(entries: Table<'_>, key: Option<&Key>) -> Result<Value, Broken>
-    ensures { Gives (of_type (option_copied key.entry) (value_at (table_entries entries.entry))) result }
+    ensures { Gives (of_type (option_copied key.entry) (value_at (table_entries entries.entry)))
+        result }
 {
     match key {
         Some(key) => value_at(entries, key),
@@ -129,7 +131,8 @@ fn value_at(entries: Table<'_>, key: &Key) -> Result<Value, Broken>
 
 /// `dict.get(key, default)`: `type` where the key can't be one.
 pub fn get(entries: Table<'_>, default: Item<'_>, key: &Seen<'_>) -> Result<Value, Broken>
-    ensures { Gives (got (table_entries entries.entry) (item_value default.entry) (seen key.now)) result }
+    ensures { Gives (got (table_entries entries.entry) (item_value default.entry) (seen key.now))
+        result }
 {
     let Some(key) = key_of(key) else {
         return Err(Broken::Kind(Kind::Wrong));

@@ -158,7 +158,8 @@ pub fn calculate(
     a: Item<'_>,
     b: Item<'_>,
 ) -> Result<Value, Broken>
-    ensures { Does (calculate operator (item_value a.entry) (item_value b.entry)) state.now result state.now }
+    ensures { Does (calculate operator (item_value a.entry) (item_value b.entry)) state.now result
+        state.now }
 {
     let Some(x) = number_of(&state.heap.see_item(a)) else {
         return Err(Broken::Kind(Kind::Wrong));
@@ -217,7 +218,8 @@ pub fn compare(
     a: Item<'_>,
     b: Item<'_>,
 ) -> Result<bool, Broken>
-    ensures { Does (compare operator (item_value a.entry) (item_value b.entry)) state.now result state.now }
+    ensures { Does (compare operator (item_value a.entry) (item_value b.entry)) state.now result
+        state.now }
 {
     match order_of(&state.heap.see_item(a), &state.heap.see_item(b)) {
         Ok(order) => Ok(operator.holds(order)),

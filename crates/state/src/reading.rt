@@ -27,7 +27,8 @@ pub(crate) fn key_of<'a>(value: &Seen<'a>) -> Option<&'a Key>
 
 /// The items of a list or a tuple.
 pub(crate) fn sequence_of<'a>(value: &Seen<'a>) -> Option<Group<'a>>
-    ensures { MatchOption result (sequence_in (seen value.now) ≡ None) (λ g. sequence_in (seen value.now) ≡ Some (group_items g)) }
+    ensures { MatchOption result (sequence_in (seen value.now) ≡ None)
+        (λ g. sequence_in (seen value.now) ≡ Some (group_items g)) }
 {
     match value {
         Seen::List(items) => Some(*items),

@@ -23,7 +23,9 @@ pub fn tick(state: &mut State) -> Result<(), Broken>
 ///
 /// `type`, where the value is no list, tuple or dict.
 pub fn begin(state: &mut State, walked: &Value) -> Result<(), Broken>
-    ensures { MatchResult result (λ _. begin walked.now state.old ≡ Ok (walked_items (shape state.old.heap walked.now), state.new)) (λ e. Stays state.old state.new × FaultOr (begin walked.now state.old) e) }
+    ensures { MatchResult result (λ _. begin walked.now state.old
+        ≡ Ok (walked_items (shape state.old.heap walked.now), state.new))
+        (λ e. Stays state.old state.new × FaultOr (begin walked.now state.old) e) }
 {
     match state.heap.begin_walk(walked) {
         Ok(_) => Ok(()),
@@ -33,7 +35,8 @@ pub fn begin(state: &mut State, walked: &Value) -> Result<(), Broken>
 
 /// The item of a walked value at a place, None behind the last.
 pub fn walked_at<'a>(state: &'a State, walked: &'a Value, place: usize) -> Option<Item<'a>>
-    ensures { option_value result ≡ slice_get (walked_items (shape state.now.heap walked.now)) place }
+    ensures { option_value result ≡ slice_get (walked_items (shape state.now.heap walked.now))
+        place }
 {
     match state.heap.see(walked) {
         Seen::List(items) => group_at(items, place),
@@ -54,7 +57,8 @@ fn group_at<'a>(items: Group<'a>, place: usize) -> Option<Item<'a>>
 }
 
 fn key_at<'a>(entries: Table<'a>, place: usize) -> Option<Item<'a>>
-    ensures { option_value result ≡ slice_get (map Value.Key (keys_of (table_entries entries.entry))) place }
+    ensures { option_value result ≡ slice_get (map Value.Key
+        (keys_of (table_entries entries.entry))) place }
 {
     match entries.at(place) {
         Some((key, _)) => Some(Item::Key(key)),

@@ -1,0 +1,10 @@
+//! Tests of the crates `state` and `making`: that their calls answer with ample memory, and give worked values.
+#![tactic(auto)]
+
+#[cfg(test)]
+mod depsets;
+#[cfg(test)]
+mod lists;
+#[cfg(test)]
+mod operators;
+pub mod states;
