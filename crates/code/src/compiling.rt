@@ -9,7 +9,7 @@ ghost use Rattle.syntax.specs.ProgramView as view;
 use crate::code::{Code, FunctionCode};
 use crate::emitter::Emitter;
 use crate::instruction::Instruction;
-use crate::statements::emit_steps;
+use crate::steps::emit_steps;
 use indexmap::IndexSet;
 use plain::Text;
 use std::alloc::{AllocError, Global};

@@ -3,7 +3,7 @@
 //! What a file means, which instructions do it, and that they do, is said by crate `meaning`: this crate makes exactly those
 //! instructions ([`compile`]). It writes the instructions of a function from the last one to the first ([`emitter`]), so a jump
 //! is written when what it passes stands already, and none is changed afterwards. Expressions with the clauses of
-//! comprehensions ([`terms`]) and statements ([`statements`]) put their instructions before those behind them.
+//! comprehensions ([`terms`]) and statements ([`steps`]) put their instructions before those behind them.
 #![tactic(auto)]
 
 mod code;
@@ -13,7 +13,7 @@ mod instruction;
 mod jumps;
 mod names;
 mod operands;
-mod statements;
+mod steps;
 mod terms;
 
 pub use code::{Code, FunctionCode};

@@ -2,9 +2,9 @@
 #![tactic(auto)]
 
 #[cfg(test)]
-mod depsets;
-#[cfg(test)]
 mod lists;
 #[cfg(test)]
 mod operators;
+#[cfg(test)]
+mod serials;
 pub mod states;
