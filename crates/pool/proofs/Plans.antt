@@ -1,5 +1,5 @@
 -- The plan of a board: the rows of the nodes that are not cyclic, by what a graph's rows have.
-use Rattle.std.proofs.Common.{◌≡◌, ◌∙◌, ℕ, zero, suc, ◌<◌, ◌≤◌, true, false, refl, eq-eqb, List, [], ◌∷◌, length, take, get_or, sym, subst, arith, get_or-take, length-take, true≢false}
+use Rattle.std.proofs.Common.{◌≡◌, ◌∙◌, ℕ, suc, ◌<◌, ◌≤◌, true, false, refl, eq-eqb, List, [], ◌∷◌, length, take, get_or, sym, subst, arith, get_or-take, length-take}
 use Rattle.std.specs.Prelude.{nat_eq}
 use Rattle.std.specs.List.{IsDistinct, range_with_len}
 use Rattle.std.proofs.lemmas.Map.Keys.{IsDistinct-tail, apart_from_distinct}

@@ -82,15 +82,15 @@ fn wait_for<'b, V, R: Wait>(
     unreachable!()
 }
 
-/// The values of the nodes on which `n` depends, in their order.
+/// The values of the nodes on which `n` depends, in their order, in place of what `values` had.
 fn read_all<'b, V, R: Wait>(
     rt: &R,
-    alloc: Global,
     board: &'b Board<V>,
     pass: &mut Pass<V>,
     list: &[NodeId],
     n: usize,
-) -> Result<Vec<&'b V>, Stop>
+    values: &mut Vec<&'b V>,
+) -> Result<(), Stop>
     requires pass { IsPassOf board.now pass.old }
     requires node { n < length board.now.plan }
     requires before { (d : ℕ) → has list.now d ≡ true → d < n }
@@ -98,10 +98,12 @@ fn read_all<'b, V, R: Wait>(
     ensures keeps { Keeps (knows pass.old) (knows pass.new) }
     ensures fresh { knows pass.new n ≡ knows pass.old n }
     ensures stays { OnlyLooked pass.old.journal pass.new.journal }
-    ensures ok { IfOk result (λ vs. Knows (knows pass.new) list.now (map (λ r. r.now) vs.items)) }
+    ensures ok { OnOk result
+        (Knows (knows pass.new) list.now (map (λ r. r.now) values.new.items)) }
     ensures err { IfErr result (λ e. StopSays e pass.new.journal) }
 {
-    let Ok(mut values) = Vec::with_capacity(alloc, list.len()) else {
+    values.clear();
+    let Ok(()) = values.try_reserve(list.len()) else {
         return Err(Stop::NoMemory);
     };
     for d in list {
@@ -110,13 +112,14 @@ fn read_all<'b, V, R: Wait>(
         };
         values.push_reserved(value);
     }
-    Ok(values)
+    Ok(())
 }
 
 /// The outcome of a node that this pass has started, from those of its dependencies.
-fn outcome_of<V, A: Analyse<V>, G: Gate, R: Wait>(
-    site: &Site<V, A, G, R>,
+fn outcome_of<'s, V, A: Analyse<V>, G: Gate, R: Wait>(
+    site: &Site<'s, V, A, G, R>,
     pass: &mut Pass<V>,
+    values: &mut Vec<&'s V>,
     n: usize,
 ) -> Result<V, Stop>
     requires node { n < length site.now.board.now.plan }
@@ -132,7 +135,7 @@ fn outcome_of<V, A: Analyse<V>, G: Gate, R: Wait>(
 {
     let node = NodeId::of(n);
     let list = site.graph.deps(node);
-    let values = read_all(site.rt, site.alloc, site.board, pass, list, n)?;
+    read_all(site.rt, site.board, pass, list, n, values)?;
     site.gate.enter(node);
     match site
         .analyse
@@ -264,10 +267,11 @@ fn complete<V: Drop, A: Analyse<V>, S: Shelf, G: Gate, R: Wait>(
 }
 
 /// The whole work on a node that this pass has started.
-fn work<V: Drop, A: Analyse<V>, S: Shelf, G: Gate, R: Wait>(
-    site: &Site<V, A, G, R>,
+fn work<'s, V: Drop, A: Analyse<V>, S: Shelf, G: Gate, R: Wait>(
+    site: &Site<'s, V, A, G, R>,
     shelf: &mut S,
     pass: &mut Pass<V>,
+    values: &mut Vec<&'s V>,
     n: usize,
 ) -> Result<(), Stop>
     requires shelf { S.nodes shelf.old ≡ length site.now.graph.now.deps }
@@ -281,7 +285,7 @@ fn work<V: Drop, A: Analyse<V>, S: Shelf, G: Gate, R: Wait>(
     ensures set { pass.new.journal.set ≡ pass.old.journal.set }
     ensures err { IfErr result (λ e. StopSays e pass.new.journal) }
 {
-    let value = outcome_of(site, pass, n)?;
+    let value = outcome_of(site, pass, values, n)?;
     match complete(site, shelf, pass, n, value) {
         Ok(()) => Ok(()),
         Err(_) => Err(Stop::NoMemory),
@@ -328,6 +332,7 @@ pub fn run_worker<V: Drop, A: Analyse<V>, S: Shelf, G: Gate, R: Wait>(
     ensures ending { EndingSays result.1 result.0.journal }
 {
     let mut rest = Rest::new(site.idle);
+    let mut values = Vec::new(site.alloc);
     for _ in site.rt.forever() {
         if site.board.left(&mut pass) == 0 {
             site.idle.wake_all();
@@ -346,7 +351,7 @@ pub fn run_worker<V: Drop, A: Analyse<V>, S: Shelf, G: Gate, R: Wait>(
             continue;
         }
         rest.end();
-        match work(site, &mut shelf, &mut pass, n) {
+        match work(site, &mut shelf, &mut pass, &mut values, n) {
             Ok(()) => {}
             Err(Stop::Halted) => return (pass, Ending::Halted),
             Err(Stop::NoMemory) => {

@@ -1,4 +1,4 @@
-use Rattle.std.proofs.Common.{◌≡◌, ℕ, ◌<◌, ◌∙◌, List, length, take, ap, sym, subst, arith}
+use Rattle.std.proofs.Common.{◌≡◌, ℕ, ◌<◌, ◌∙◌, List, length, take, ap, subst, arith}
 use Rattle.std.specs.Prelude.{unwrap_or}
 use Rattle.board.specs.Views.{told}
 use Rattle.pool.specs.Gathered.{GatheredView, outcome_in}

@@ -1,4 +1,4 @@
-use Rattle.std.proofs.Common.{arith, ℕ, ◌+◌, ◌≡◌, ◌<◌, List, map, ap, sym, refl, subst, ◌∙◌, get_or, length-append}
+use Rattle.std.proofs.Common.{arith, ℕ, ◌+◌, ◌≡◌, List, map, ap, subst, ◌∙◌, get_or, length-append}
 use Rattle.std.specs.Prelude.{Some}
 use Rattle.std.proofs.lemmas.List.{map-append, length-map, get_or_read}
 use Rattle.board.specs.declared.journal.Journal.{Journal}
