@@ -19,7 +19,6 @@ pub struct OwnSlots {
 
 /// An expression. It is at most 200 deep in a file that was read.
 #[cycle(terms)]
-#[derive(Drop)]
 pub enum Term {
     Name(Binding),
     Number(u64),
@@ -40,6 +39,29 @@ pub enum Term {
     ListEach(OwnSlots, Box<Term>, Vec<Round>),
     /// `{KEY: VALUE for ..}`.
     DictEach(OwnSlots, Box<Term>, Box<Term>, Vec<Round>),
+}
+
+// By hand, so that letting one go is a call and isn't written out wherever one may be let go.
+impl Drop for Term {
+    #[cycle(terms)]
+    fn drop(self) {
+        match self {
+            Term::Name(_) => {}
+            Term::Number(_) => {}
+            Term::Str(_) => {}
+            Term::Tuple(_) => {}
+            Term::ListOf(_) => {}
+            Term::DictOf(_) => {}
+            Term::Choice(_, _, _) => {}
+            Term::Binary(_, _, _) => {}
+            Term::Unary(_, _) => {}
+            Term::Attribute(_, _) => {}
+            Term::Index(_, _) => {}
+            Term::Call(_, _, _) => {}
+            Term::ListEach(_, _, _) => {}
+            Term::DictEach(_, _, _, _) => {}
+        }
+    }
 }
 
 /// An entry of a dict.
