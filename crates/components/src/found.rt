@@ -62,6 +62,14 @@ impl Components {
         &self.deps
     }
 
+    /// The numbers of all nodes' components.
+    pub fn numbers(&self) -> &[usize]
+        ensures number { result.now ≡ self.now.numbers }
+        ensures components { IsFound self.now }
+    {
+        &self.numbers
+    }
+
     /// The number of a node's component.
     pub fn number(&self, n: NodeId) -> usize
         requires node { n < length self.now.deps }

@@ -17,7 +17,7 @@ module _ {T M S K : Type 0} (w : Sources T M S K) where
   below : (a b : ℕ) → nat_lt a b ≡ true → a < b
   below a b e = grind (arith, nat_tests, e)
 
-  lower_same : (n : ℕ) (f g : Path → R) → ((q : Path) → height_of w q < n → f q ≡ g q) → lower w n f ≡ lower w n g
+  pub lower_same : (n : ℕ) (f g : Path → R) → ((q : Path) → height_of w q < n → f q ≡ g q) → lower w n f ≡ lower w n g
   lower_same n f g k =
       λ i q. pick (is_module w q && nat_lt (height_of w q) n) (f q) (g q)
       (λ e. k q (below (height_of w q) n (both_and (is_module w q) (nat_lt (height_of w q) n) e).1)) i

@@ -50,7 +50,7 @@ module _ (loads : Path → List Path) (modules : List Path) (inside : (p q : Pat
   onward_within : (t d : Path) → Contains (onward t) d → list_any (bytes_eq t) modules ≡ true
   onward_within t d c = within t d (onward_is t d c).1
 
-  height_steps : (p : Path) → height loads modules p ≡ above_all (map (height loads modules) (onward p))
+  pub height_steps : (p : Path) → height loads modules p ≡ above_all (map (height loads modules) (onward p))
   height_steps p =
       (outcome_keeps onward bytes_eq bytes_eq-Decides modules (length modules) (omega arith) onward_within (λ _. 0) (λ _ hs. above_all hs)).stepped p (no_cycle p)
 

@@ -10,8 +10,11 @@ use Rattle.edges.proofs.Tests.{cases_of, both_and, Contains-later}
 use Rattle.coherence.specs.Coherent.{Depsets, AreCoherent, AreFresh, IsMade}
 use Rattle.coherence.specs.Together.{Graph, given, IsKept, EachKeeps, AllCoherent}
 use Rattle.coherence.proofs.Homes.{all_together}
-use Rattle.loading.specs.Loads.{Path, LoadFault, Read, load_cycle, loads_fault}
-use Rattle.loading.specs.Modules.{Sources, Ending, faulted, unnamed, is_module, file, is_on_cycle, cycle_line, height_of, value, ended, linked, loaded, is_lower, lower, module_of}
+use Rattle.loading.specs.Loads.{Path, LoadFault, Read, loads_fault}
+use Rattle.loading.specs.declared.faults.LoadFaultKind.TheVariants.{LoadCycle}
+use Rattle.loading.specs.declared.faults.Ending.{Ending}
+use Rattle.loading.specs.declared.faults.Ending.TheVariants.{Faulted, Unnamed}
+use Rattle.loading.specs.Modules.{Sources, is_module, file, is_on_cycle, cycle_line, height_of, value, ended, linked, loaded, is_lower, lower, module_of}
 use Rattle.loading.specs.Together.{Seen, in_known, IfMade, RunsWell, all_known, AreTogether}
 use Rattle.loading.proofs.ByLoads.{by_loads}
 
@@ -149,8 +152,8 @@ module _ {T M S K D I : Type 0} (w : Sources T M S K) (s : Seen M D I) (runs : R
 
   ended_by : (p : Path) (r : Result M (Ending K)) (m : M) → ended w p r ≡ Ok m → r ≡ Ok m
   ended_by p (Ok x) m e = ap Ok (ok_same x m e)
-  ended_by p (Err (faulted f)) m e = err_ok _ m e
-  ended_by p (Err unnamed) m e = err_ok _ m e
+  ended_by p (Err (Faulted f)) m e = err_ok _ m e
+  ended_by p (Err Unnamed) m e = err_ok _ m e
 
   linked_by : (p : Path) (t : T) (at : Path → Option (Result M F)) (f : Option F) (m : M) → linked w p t at f ≡ Ok m → w.run (λ q. value w (at q)) p t ≡ Ok m
   linked_by p t at (Some f) m e = err_ok f m e
@@ -160,7 +163,7 @@ module _ {T M S K D I : Type 0} (w : Sources T M S K) (s : Seen M D I) (runs : R
   loaded_by p (Err e) at m is = err_ok _ m is
   loaded_by p (Ok r) at m is = go (is_on_cycle w p) is
     where
-      go : (b : Bool) → ◌≡◌ {A = Result M F} (elim b [ true ↦ Err (record { kind = load_cycle; path = p; line = cycle_line w p r.loads }) | false ↦ linked w p r.tree at (loads_fault w.globals p at r.loads) ]) (Ok m) → (t : T) × (w.run (λ q. value w (at q)) p t ≡ Ok m)
+      go : (b : Bool) → ◌≡◌ {A = Result M F} (elim b [ true ↦ Err (record { kind = LoadCycle; path = p; line = cycle_line w p r.loads }) | false ↦ linked w p r.tree at (loads_fault w.globals p at r.loads) ]) (Ok m) → (t : T) × (w.run (λ q. value w (at q)) p t ≡ Ok m)
       go true e = err_ok _ m e
       go false e = (r.tree, linked_by p r.tree at (loads_fault w.globals p at r.loads) m e)
 

@@ -3,7 +3,7 @@ use Rattle.std.proofs.Common.{◌≡◌, ℕ, zero, suc, Bool, true, false, List
 use Rattle.std.specs.Prelude.{if◌then◌else◌, nat_lt}
 use Rattle.edges.specs.Walks.{OnCycle}
 use Rattle.edges.proofs.Tests.{and_both}
-use Rattle.loading.specs.Loads.{Path, LoadStatement, LoadFault, Read, module_path, of_module, of_modules}
+use Rattle.loading.specs.Loads.{Path, Load, LoadFault, Read, module_path, of_module, of_modules}
 use Rattle.loading.specs.Modules.{Sources, is_module, file, with_target, targets, targets_in, loads_of, is_on_cycle, height_of, is_lower, lower, module_of}
 use Rattle.loading.proofs.Trails.{cycle_from_test, test_from_cycle}
 use Rattle.loading.proofs.Heights.{load_is_lower}
@@ -21,7 +21,7 @@ module _ {T M S K : Type 0} (w : Sources T M S K) where
       go true e c = take e c
       go false e c = k c
 
-  of_targets : (ls : List LoadStatement) (q : Path) → Contains (targets w (map (of_module (is_module w)) ls)) q → is_module w q ≡ true
+  of_targets : (ls : List Load) (q : Path) → Contains (targets w (map (of_module (is_module w)) ls)) q → is_module w q ≡ true
   of_targets [] q c = absurd (omega (arith, c.1))
   of_targets (l ∷ ls) q c = of_one l.target (targets w (map (of_module (is_module w)) ls)) q c (of_targets ls q)
 

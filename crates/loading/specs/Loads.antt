@@ -2,6 +2,9 @@
 use Rattle.std.specs.Prelude.{ℕ, Bool, false, not, List, [], ◌∷◌, map, Option, Some, None, Result, Ok, Err, if◌then◌else◌, nat_eq}
 use Rattle.std.specs.List.{list_any}
 use Rattle.std.specs.Str.{bytes_eq}
+use Rattle.loading.specs.declared.faults.LoadFaultKind.{LoadFaultKind}
+use Rattle.loading.specs.declared.faults.LoadFaultKind.TheVariants.{MissingFile, LoadedModuleFailed, PrivateName, MissingName}
+use Rattle.loading.specs.declared.faults.Placed.{Placed}
 
 -- a file's path in the workspace, as `a/rules.bzl`
 abbrev pub Path : Type 0
@@ -11,34 +14,18 @@ Path = List ℕ
 abbrev pub Name : Type 0
 Name = List ℕ
 
--- One `load`: the line that it begins on, the path that its label spells, if it spells one, and the names that it asks of that module, in order.
-pub record LoadStatement : Type 0 where
+-- One `load` statement: the line that it begins on, the path that its label spells, if it spells one, and the names that it asks of that module, in order.
+pub record Load : Type 0 where
   pub line : ℕ
   pub target : Option Path
   pub asked : List Name
 
 -- A file without a syntax fault: its loads in order, and what of it is evaluated.
 pub record Read (T : Type 0) : Type 0 where
-  pub loads : List LoadStatement
+  pub loads : List Load
   pub tree : T
 
--- Why a file has no globals or targets. S are the kinds of syntax faults, K those of an evaluation's faults.
-pub data LoadFaultKind (S K : Type 0) : Type 0 where
-  syntax : S → LoadFaultKind S K
-  load_cycle : LoadFaultKind S K
-  missing_file : LoadFaultKind S K
-  loaded_module_failed : LoadFaultKind S K
-  private_name : LoadFaultKind S K
-  missing_name : LoadFaultKind S K
-  evaluation : K → LoadFaultKind S K
-  unexported : LoadFaultKind S K
-
--- a kind of fault, and the place where it stands
-pub record Placed (K : Type 0) : Type 0 where
-  pub kind : K
-  pub path : Path
-  pub line : ℕ
-
+-- Why a file has no globals or targets, and where. S are the kinds of syntax faults, K those of an evaluation's faults.
 abbrev pub LoadFault : Type 0 → Type 0 → Type 0
 LoadFault S K = Placed (LoadFaultKind S K)
 
@@ -53,7 +40,7 @@ module _ (is_module : Path → Bool) where
   module_path None = None
   module_path (Some q) = if is_module q then Some q else None
 
-  abbrev pub of_module : LoadStatement → LoadStatement
+  abbrev pub of_module : Load → Load
   of_module l = record { line = l.line; target = module_path l.target; asked = l.asked }
 
   -- What a file loads are modules: a label of anything else finds no file.
@@ -74,13 +61,13 @@ module _ {S K M : Type 0} (globals : M → List Name) (path : Path) where
   abbrev pub names_fault : ℕ → List Name → M → Option (LoadFault S K)
   names_fault n [] m = None
   names_fault n (a ∷ later) m =
-      if is_private a then Some (fault_at n private_name)
-      else (if not (list_any (bytes_eq a) (globals m)) then Some (fault_at n missing_name)
+      if is_private a then Some (fault_at n PrivateName)
+      else (if not (list_any (bytes_eq a) (globals m)) then Some (fault_at n MissingName)
       else names_fault n later m)
 
-  abbrev pub module_fault : LoadStatement → Option (Result M (LoadFault S K)) → Option (LoadFault S K)
-  module_fault l None = Some (fault_at l.line missing_file)
-  module_fault l (Some (Err f)) = Some (fault_at l.line loaded_module_failed)
+  abbrev pub module_fault : Load → Option (Result M (LoadFault S K)) → Option (LoadFault S K)
+  module_fault l None = Some (fault_at l.line MissingFile)
+  module_fault l (Some (Err f)) = Some (fault_at l.line LoadedModuleFailed)
   module_fault l (Some (Ok m)) = names_fault l.line l.asked m
 
   abbrev pub found : (Path → Option (Result M (LoadFault S K))) → Option Path → Option (Result M (LoadFault S K))
@@ -88,6 +75,6 @@ module _ {S K M : Type 0} (globals : M → List Name) (path : Path) where
   found module_at (Some q) = module_at q
 
   -- The fault of the first statement that has one.
-  abbrev pub loads_fault : (Path → Option (Result M (LoadFault S K))) → List LoadStatement → Option (LoadFault S K)
+  abbrev pub loads_fault : (Path → Option (Result M (LoadFault S K))) → List Load → Option (LoadFault S K)
   loads_fault module_at [] = None
   loads_fault module_at (l ∷ ls) = first_of (module_fault l (found module_at l.target)) (loads_fault module_at ls)

@@ -3,12 +3,11 @@ use Rattle.std.specs.Prelude.{ℕ, zero, suc, Bool, true, false, ◌||◌, ◌&&
 use Rattle.std.specs.List.{list_any}
 use Rattle.std.specs.Str.{bytes_eq}
 use Rattle.edges.specs.Outcomes.{outcome}
-use Rattle.loading.specs.Loads.{Path, Name, LoadStatement, LoadFault, Placed, syntax, load_cycle, evaluation, unexported, Read, of_modules, loads_fault}
-
--- How the evaluation of a module, with its freezing and naming, ends without a value: by a fault at a place, or with a provider or rule that no global names.
-pub data Ending (K : Type 0) : Type 0 where
-  faulted : Placed K → Ending K
-  unnamed : Ending K
+use Rattle.loading.specs.Loads.{Path, Name, Load, LoadFault, Read, of_modules, loads_fault}
+use Rattle.loading.specs.declared.faults.LoadFaultKind.TheVariants.{Syntax, LoadCycle, Evaluation, Unexported}
+use Rattle.loading.specs.declared.faults.Placed.{Placed}
+use Rattle.loading.specs.declared.faults.Ending.{Ending}
+use Rattle.loading.specs.declared.faults.Ending.TheVariants.{Faulted, Unnamed}
 
 -- A workspace as loading sees it: the paths of its modules, what each file's text is read as (or its syntax fault, with the line), which names a module's value binds, and what a module's tree is evaluated to with the modules that are handed to it.
 pub record Sources (T M S K : Type 0) : Type 0 where
@@ -57,7 +56,7 @@ module _ {T M S K : Type 0} (w : Sources T M S K) where
   with_target None qs = qs
   with_target (Some q) qs = q ∷ qs
 
-  abbrev pub targets : List LoadStatement → List Path
+  abbrev pub targets : List Load → List Path
   targets [] = []
   targets (l ∷ ls) = with_target l.target (targets ls)
 
@@ -81,7 +80,7 @@ module _ {T M S K : Type 0} (w : Sources T M S K) where
   leads_to p (Some q) = reaches loads_of (length w.modules) q p
 
   -- the line of the first statement from which a walk leads back to the file
-  abbrev pub cycle_line : Path → List LoadStatement → ℕ
+  abbrev pub cycle_line : Path → List Load → ℕ
   cycle_line p [] = 0
   cycle_line p (l ∷ ls) = if leads_to p l.target then l.line else cycle_line p ls
 
@@ -92,8 +91,8 @@ module _ {T M S K : Type 0} (w : Sources T M S K) where
 
   abbrev pub ended : Path → Result M (Ending K) → Result M Fault
   ended p (Ok m) = Ok m
-  ended p (Err (faulted f)) = Err (record { kind = evaluation f.kind; path = f.path; line = f.line })
-  ended p (Err unnamed) = Err (record { kind = unexported; path = p; line = 0 })
+  ended p (Err (Faulted f)) = Err (record { kind = Evaluation f.kind; path = f.path; line = f.line })
+  ended p (Err Unnamed) = Err (record { kind = Unexported; path = p; line = 0 })
 
   -- evaluated, unless a load fails
   abbrev pub linked : Path → T → (Path → Option (Result M Fault)) → Option Fault → Result M Fault
@@ -102,9 +101,9 @@ module _ {T M S K : Type 0} (w : Sources T M S K) where
 
   -- A module, where `module_at` gives the modules that may be loaded. Its fault is the first that applies: syntax; a load cycle; the first load that fails; a fault of evaluation; what no global names.
   abbrev pub loaded : Path → Result (Read T) (S × ℕ) → (Path → Option (Result M Fault)) → Result M Fault
-  loaded p (Err e) module_at = Err (record { kind = syntax e.0; path = p; line = e.1 })
+  loaded p (Err e) module_at = Err (record { kind = Syntax e.0; path = p; line = e.1 })
   loaded p (Ok r) module_at = elim (is_on_cycle p) [
-    | true ↦ Err (record { kind = load_cycle; path = p; line = cycle_line p r.loads })
+    | true ↦ Err (record { kind = LoadCycle; path = p; line = cycle_line p r.loads })
     | false ↦ linked p r.tree module_at (loads_fault w.globals p module_at r.loads)
   ]
 
@@ -116,7 +115,7 @@ module _ {T M S K : Type 0} (w : Sources T M S K) where
   lower h f q = elim (is_lower h q) [ true ↦ Some (f q) | false ↦ None ]
 
   abbrev pub module_within : ℕ → Path → Result M Fault
-  module_within zero p = Err (record { kind = load_cycle; path = p; line = 0 })
+  module_within zero p = Err (record { kind = LoadCycle; path = p; line = 0 })
   module_within (suc n) p = loaded p (file p) (lower (height_of p) (module_within n))
 
   -- What the module at a path comes to, once all modules that are lower have.
@@ -131,14 +130,14 @@ module _ {T M S K : Type 0} (w : Sources T M S K) where
   module _ {B : Type 0} (run_build : (Path → Option M) → Path → T → Result B (Placed K)) where
     abbrev pub build_ended : Result B (Placed K) → Result B Fault
     build_ended (Ok b) = Ok b
-    build_ended (Err f) = Err (record { kind = evaluation f.kind; path = f.path; line = f.line })
+    build_ended (Err f) = Err (record { kind = Evaluation f.kind; path = f.path; line = f.line })
 
     abbrev pub build_linked : Path → T → Option Fault → Result B Fault
     build_linked p t (Some f) = Err f
     build_linked p t None = build_ended (run_build (λ q. value (any_module q)) p t)
 
     abbrev pub built : Path → Result (Read T) (S × ℕ) → Result B Fault
-    built p (Err e) = Err (record { kind = syntax e.0; path = p; line = e.1 })
+    built p (Err e) = Err (record { kind = Syntax e.0; path = p; line = e.1 })
     built p (Ok r) = build_linked p r.tree (loads_fault w.globals p any_module r.loads)
 
     -- What the BUILD file at a path comes to.

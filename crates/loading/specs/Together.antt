@@ -2,7 +2,8 @@
 use Rattle.std.specs.Prelude.{◌≡◌, ℕ, Bool, true, Option, Some, Result, Ok, Err}
 use Rattle.coherence.specs.Coherent.{Depsets, AreCoherent, AreFresh, IsMade}
 use Rattle.loading.specs.Loads.{Path}
-use Rattle.loading.specs.Modules.{Sources, Ending, is_module, value, any_module}
+use Rattle.loading.specs.Modules.{Sources, is_module, value, any_module}
+use Rattle.loading.specs.declared.faults.Ending.{Ending}
 
 -- which depsets a module's value has; the id of a depset, and the owner and the serial of an id
 pub record Seen (M D I : Type 0) : Type 0 where

@@ -4,4 +4,9 @@
 //! fails, and `Modules` what each file comes to. [`laws`] says what they mean.
 #![tactic(auto)]
 
+mod faults;
 pub mod laws;
+mod reads;
+
+pub use faults::{Ending, LoadFaultKind, Placed};
+pub use reads::{FileRead, LoadStatement};

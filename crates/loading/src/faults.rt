@@ -1,0 +1,33 @@
+//! Why a file has no value.
+
+use plain::Text;
+
+/// Why a file has no globals or targets. `S` are the kinds of syntax faults, `K` those of an evaluation's faults.
+#[derive(Drop)]
+pub enum LoadFaultKind<S, K> {
+    Syntax(S),
+    LoadCycle,
+    MissingFile,
+    LoadedModuleFailed,
+    PrivateName,
+    MissingName,
+    Evaluation(K),
+    Unexported,
+}
+
+/// A kind of fault, and the place where it stands: a file's path and a line, from 1, or 0 where no line has it.
+#[derive(Drop)]
+pub struct Placed<K> {
+    pub kind: K,
+    pub path: Text,
+    pub line: u64,
+}
+
+/// How the evaluation of a module, with its freezing and naming, ends without a value.
+#[derive(Drop)]
+pub enum Ending<K> {
+    /// By a fault at a place.
+    Faulted(Placed<K>),
+    /// With a provider or rule that no global names.
+    Unnamed,
+}
