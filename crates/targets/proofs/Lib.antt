@@ -1,0 +1,8 @@
+mod RuleRows
+mod StepRows
+pub mod Facts
+pub mod Dependencies
+pub mod Declared
+pub mod NamedTargets
+pub mod Refusals
+pub mod Whole

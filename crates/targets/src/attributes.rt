@@ -1,0 +1,90 @@
+//! Rules and their attributes.
+ghost use Rattle.std.specs.Prelude.{◌≡◌, IfOk};
+
+use crate::Sequence;
+use plain::{Shared, Text};
+use std::alloc::AllocError;
+use values::{AttributeKind, FunctionRef, Key, Names, Provider};
+use workspace::Label;
+
+/// What a target has for an attribute: what it was given, or the attribute's default. No depset stands in it.
+pub enum AttributeValue {
+    /// A string, a whole number or a bool.
+    Key(Key),
+    Strings(Shared<Names>),
+    Label(Option<Shared<Label>>),
+    Labels(Shared<Sequence<Shared<Label>>>),
+}
+
+/// Which source files an attribute takes.
+pub enum AllowFiles {
+    Any,
+    Nothing,
+    /// Those whose paths end with one of these.
+    Ending(Names),
+}
+
+/// The declaration of an attribute, as `attr.label_list(..)` makes it. Several rules, and several names of one rule, may have it.
+#[derive(Drop)]
+pub struct Attribute {
+    pub kind: AttributeKind,
+    /// None where no default was given: then that of the kind stands.
+    pub default: Option<AttributeValue>,
+    pub mandatory: bool,
+    /// The strings or whole numbers that it takes; all, where there are none.
+    pub values: Sequence<Key>,
+    /// A target that it takes offers all providers of one of these lists; any target does where there are none.
+    pub providers: Sequence<Sequence<Shared<Provider>>>,
+    pub allow_files: AllowFiles,
+}
+
+/// An attribute by its name in a rule.
+#[derive(Drop)]
+pub struct NamedAttribute {
+    pub name: Text,
+    pub attribute: Shared<Attribute>,
+}
+
+/// A rule: the function that implements it, and its attributes in the order of `attrs`; `name`, which every rule has, isn't
+/// among them.
+#[derive(Drop)]
+pub struct Rule {
+    pub implementation: Shared<FunctionRef>,
+    pub attributes: Sequence<NamedAttribute>,
+}
+
+impl AttributeValue {
+    /// Another name of the same value: at most a count more, and nothing is copied.
+    pub fn share(&self) -> Result<AttributeValue, AllocError>
+        ensures { IfOk result (λ v. v ≡ self.now) }
+    {
+        match self {
+            AttributeValue::Key(key) => Ok(AttributeValue::Key(key.share()?)),
+            AttributeValue::Strings(texts) => Ok(AttributeValue::Strings(texts.share()?)),
+            AttributeValue::Label(None) => Ok(AttributeValue::Label(None)),
+            AttributeValue::Label(Some(label)) => Ok(AttributeValue::Label(Some(label.share()?))),
+            AttributeValue::Labels(labels) => Ok(AttributeValue::Labels(labels.share()?)),
+        }
+    }
+}
+
+impl Drop for AttributeValue {
+    fn drop(self) {
+        match self {
+            AttributeValue::Key(_) => {}
+            AttributeValue::Strings(_) => {}
+            AttributeValue::Label(_) => {}
+            AttributeValue::Labels(_) => {}
+        }
+    }
+}
+
+impl Drop for AllowFiles {
+    fn drop(self) {
+        match self {
+            AllowFiles::Any => {}
+            AllowFiles::Nothing => {}
+            AllowFiles::Ending(_) => {}
+        }
+    }
+}

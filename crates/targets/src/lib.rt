@@ -1,0 +1,18 @@
+//! Rules, their attributes, the targets that `BUILD` files declare, and what becomes of a label.
+//!
+//! The definitions stand in `specs/`, one subject a file: `Attributes` says what an attribute is and what a target has for it,
+//! `RuleCalls` what the call of a rule declares or refuses, `Resolving` what a label names and what it depends on, `Checks`
+//! which dependencies an attribute takes, and `Steps` the outcome of a label from the outcomes of its dependencies, over any
+//! meaning of implementations. [`laws`] says what follows from them. The types here are what these definitions speak of.
+#![tactic(auto)]
+
+mod attributes;
+pub mod laws;
+mod outcome;
+mod sequence;
+mod target;
+
+pub use attributes::{AllowFiles, Attribute, AttributeValue, NamedAttribute, Rule};
+pub use outcome::{Actions, Outcome, Providers, TargetFault};
+pub use sequence::Sequence;
+pub use target::Target;
