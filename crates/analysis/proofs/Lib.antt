@@ -1,0 +1,5 @@
+pub mod Notes
+pub mod Finding
+pub mod Making
+pub mod Returning
+pub mod Lists

@@ -1,0 +1,53 @@
+-- Labels that are noted, in a list and in a set.
+use Rattle.std.proofs.Common.{◌≡◌, ◌∙◌, ℕ, Bool, true, false, ◌&&◌, ◌||◌, List, [], ◌∷◌, ◌++◌, ap, sym, refl, cond}
+use Rattle.std.proofs.lemmas.Cmp.{nat_list_eq_equiv}
+use Rattle.std.proofs.lemmas.List.Folds.{list_any-append}
+use Rattle.std.specs.BTreeMap.{is_at}
+use Rattle.std.specs.BTreeSet.{BTreeSet, Updates}
+use Rattle.std.specs.Cmp.Lexicographic.{slice_cmp, texts_ties}
+use Rattle.std.specs.List.{list_any}
+use Rattle.std.specs.Ordering.{nat_cmp, ordering_then}
+use Rattle.std.specs.Str.{bytes_eq}
+use Rattle.std.specs.declared.cmp.Ordering.{Ordering}
+use Rattle.std.specs.declared.cmp.Ordering.TheVariants.{Less, Equal, Greater}
+use Rattle.depsets.specs.Keys.{keep}
+use Rattle.workspace.specs.Labels.{LabelParts}
+use Rattle.targets.specs.RuleCalls.{same_label}
+use Rattle.analysis.specs.Noted.{Parts, parts_label, parts_cmp, IsNoted}
+
+-- a pair compares as equal where both parts do
+pub both_at : (a b : Ordering) → is_at (λ (u : ℕ). ordering_then a b) 0 ≡ (is_at (λ (u : ℕ). a) 0 && is_at (λ (u : ℕ). b) 0)
+both_at Less b = refl
+both_at Equal b = refl
+both_at Greater b = refl
+
+-- the order of package and name tells labels as their test does
+pub at_label : (k q : Parts) → is_at (parts_cmp k) q ≡ same_label (parts_label q) (parts_label k)
+at_label k q =
+    both_at (slice_cmp nat_cmp k.0.now q.0.now) (slice_cmp nat_cmp k.1.now q.1.now)
+    ∙ (λ i. at k.0.now q.0.now i && at k.1.now q.1.now i)
+  where
+    at : (x y : List ℕ) → is_at (slice_cmp nat_cmp x) y ≡ bytes_eq y x
+    at x y = sym (texts_ties x y) ∙ nat_list_eq_equiv.symm x y
+
+pub noted_none : (seen : BTreeSet Parts) → seen.keys ≡ [] → IsNoted [] seen
+noted_none seen none = λ q. ap (list_any (is_at (parts_cmp q))) none
+
+either : (a b : Bool) → cond a true b ≡ (b || (a || false))
+either true true = refl
+either true false = refl
+either false true = refl
+either false false = refl
+
+pub noted_last : (ls : List LabelParts) (olds news : BTreeSet Parts) (k : Parts) → IsNoted ls olds → Updates parts_cmp olds news k true → IsNoted (ls ++ parts_label k ∷ []) news
+noted_last ls olds news k h more = λ q.
+    more.0 q ∙ rw (at_label k q, h q) (either (same_label (parts_label q) (parts_label k)) (list_any (same_label (parts_label q)) ls))
+    ∙ sym (list_any-append (same_label (parts_label q)) ls (parts_label k ∷ []))
+
+-- package and name of a label are its parts
+pub parts_are : (k : Parts) (a b l : LabelParts) → k.0.now ≡ a.«package» → k.1.now ≡ b.name → a ≡ l → b ≡ l → parts_label k ≡ l
+parts_are k a b l p n x y = λ i. record { «package» = (p ∙ ap (λ (m : LabelParts). m.«package») x) i; name = (n ∙ ap (λ (m : LabelParts). m.name) y) i }
+
+-- a label that is there isn't put again
+pub kept_present : (ls : List LabelParts) (l : LabelParts) → list_any (same_label l) ls ≡ true → ls ≡ keep same_label ls l
+kept_present ls l h = sym (ap (λ b. cond b ls (ls ++ l ∷ [])) h)

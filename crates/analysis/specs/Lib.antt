@@ -1,0 +1,4 @@
+pub mod Noted
+pub mod Seen
+pub mod Made
+pub mod Returned

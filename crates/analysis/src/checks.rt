@@ -1,0 +1,226 @@
+//! The checks of dependencies.
+ghost use Rattle.std.specs.Prelude.{◌≡◌, IfOk, OnOk, option_map, nat_eq};
+ghost use Rattle.std.specs.List.{ends_with};
+ghost use Rattle.targets.specs.Checks.{takes_file, refusal, refused, dependency_of, first_in_value, first_refused};
+ghost use Rattle.targets.specs.Attributes.{labels_in};
+ghost use Rattle.analysis.specs.Seen.{dependency_seen, dependencies_seen, AreFound, HasMore};
+
+use crate::dependency::Dependency;
+use crate::instances::offers_enough;
+use plain::{Shared, Text};
+use std::alloc::{AllocError, Global};
+use std::collections::BTreeMap;
+use targets::{
+    AllowFiles, Attribute, AttributeValue, NamedAttribute, Outcome, Target, TargetFault,
+};
+use workspace::Label;
+
+/// Package and name of a label, by which it is found.
+type Parts<'a> = (&'a str, &'a str);
+
+/// Whether a path ends with a text.
+fn ends_with(path: &str, ending: &Text) -> bool
+    ensures { result ≡ ends_with nat_eq path.now ending.now }
+{
+    path.ends_with(ending.as_str())
+}
+
+/// Whether a path ends with one of these.
+fn ends_with_any(path: &str, endings: &[Text]) -> bool
+    ensures { result ≡ takes_file (AllowFiles.Ending endings.now) path.now }
+{
+    for ending in endings {
+        if ends_with(path, ending) {
+            return true;
+        }
+    }
+    false
+}
+
+/// Whether an attribute takes the source file at a path.
+fn takes_file(allowed: &AllowFiles, path: &str) -> bool
+    ensures { result ≡ takes_file allowed.now path.now }
+{
+    match allowed {
+        AllowFiles::Any => true,
+        AllowFiles::Nothing => false,
+        AllowFiles::Ending(endings) => ends_with_any(path, endings.as_slice()),
+    }
+}
+
+/// Why an attribute refuses a dependency, if it does.
+fn refusal(
+    named: &NamedAttribute,
+    dependency: &Dependency<'_>,
+) -> Result<Option<TargetFault>, AllocError>
+    ensures { IfOk result (λ f. f ≡ refusal named.now (dependency_seen dependency.now)) }
+{
+    let attribute = named.attribute.get();
+    match dependency.outcome {
+        Outcome::Source(file) => {
+            if takes_file(&attribute.allow_files, file.get().path.as_str()) {
+                return Ok(None);
+            }
+            let name = named.name.share()?;
+            Ok(Some(TargetFault::FileKind(name, dependency.label.share()?)))
+        }
+        Outcome::Done(providers, _) => {
+            if offers_enough(providers.as_slice(), attribute.providers.as_slice()) {
+                return Ok(None);
+            }
+            let name = named.name.share()?;
+            Ok(Some(TargetFault::ProvidersMissing(name, dependency.label.share()?)))
+        }
+        Outcome::Failed(_) => Ok(None),
+    }
+}
+
+/// Dependencies, found by their labels.
+#[derive(Drop)]
+struct Found<'a> {
+    dependencies: &'a [Dependency<'a>],
+    /// The first dependency of each label.
+    by_label: BTreeMap<Parts<'a>, Dependency<'a>>,
+}
+
+impl<'a> Found<'a> {
+    /// These dependencies.
+    fn new(alloc: Global, dependencies: &'a [Dependency<'a>]) -> Result<Found<'a>, AllocError>
+        ensures its { IfOk result (λ f. f.dependencies.now ≡ dependencies.now) }
+        ensures found { IfOk result (λ f. AreFound (dependencies_seen f.dependencies.now) f.by_label) }
+    {
+        let by_label = by_label(alloc, dependencies)?;
+        Ok(Found {
+            dependencies,
+            by_label,
+        })
+    }
+
+    /// The first dependency of a label.
+    fn get(&self, label: &'a Label) -> Option<&Dependency<'a>>
+        requires { AreFound (dependencies_seen self.now.dependencies.now) self.now.by_label }
+        ensures { option_map (λ d. dependency_seen d.now) result
+            ≡ dependency_of (dependencies_seen self.now.dependencies.now) label.now }
+    {
+        self.by_label.get(&(label.package(), label.name()))
+    }
+}
+
+/// The first dependency of each label.
+fn by_label<'a>(
+    alloc: Global,
+    dependencies: &[Dependency<'a>],
+) -> Result<BTreeMap<Parts<'a>, Dependency<'a>>, AllocError>
+    ensures { IfOk result (λ found. AreFound (dependencies_seen dependencies.now) found) }
+{
+    let mut found = BTreeMap::new(alloc);
+    for dependency in dependencies {
+        put(*dependency, &mut found)?;
+    }
+    Ok(found)
+}
+
+/// Puts a dependency, unless one of its label is there.
+fn put<'a>(
+    dependency: Dependency<'a>,
+    found: &mut BTreeMap<Parts<'a>, Dependency<'a>>,
+) -> Result<(), AllocError>
+    ensures { OnOk result (HasMore dependency.entry found.old found.new) }
+{
+    let label = dependency.label.get();
+    let parts = (label.package(), label.name());
+    if !found.contains_key(&parts) {
+        found.insert(parts, dependency)?;
+    }
+    Ok(())
+}
+
+/// Why an attribute refuses the dependency of a label, if it does.
+fn refused<'a>(
+    named: &NamedAttribute,
+    label: &'a Label,
+    found: &Found<'a>,
+) -> Result<Option<TargetFault>, AllocError>
+    requires { AreFound (dependencies_seen found.now.dependencies.now) found.now.by_label }
+    ensures { IfOk result (λ f. f ≡ refused named.now
+        (dependency_of (dependencies_seen found.now.dependencies.now) label.now)) }
+{
+    match found.get(label) {
+        Some(dependency) => refusal(named, dependency),
+        None => Ok(None),
+    }
+}
+
+/// The first refusal of labels.
+fn first_in_labels<'a>(
+    named: &NamedAttribute,
+    labels: &'a [Shared<Label>],
+    found: &Found<'a>,
+) -> Result<Option<TargetFault>, AllocError>
+    requires { AreFound (dependencies_seen found.now.dependencies.now) found.now.by_label }
+    ensures { IfOk result (λ f. f
+        ≡ first_in_value (dependencies_seen found.now.dependencies.now) named.now labels.now) }
+{
+    for label in labels {
+        let fault = refused(named, label.get(), found)?;
+        if fault.is_some() {
+            return Ok(fault);
+        }
+    }
+    Ok(None)
+}
+
+/// The first refusal of a value's labels.
+fn first_in_value<'a>(
+    named: &NamedAttribute,
+    value: &'a AttributeValue,
+    found: &Found<'a>,
+) -> Result<Option<TargetFault>, AllocError>
+    requires { AreFound (dependencies_seen found.now.dependencies.now) found.now.by_label }
+    ensures { IfOk result (λ f. f ≡ first_in_value
+        (dependencies_seen found.now.dependencies.now) named.now (labels_in value.now)) }
+{
+    match value {
+        AttributeValue::Key(_) => Ok(None),
+        AttributeValue::Strings(_) => Ok(None),
+        AttributeValue::Label(None) => Ok(None),
+        AttributeValue::Label(Some(label)) => refused(named, label.get(), found),
+        AttributeValue::Labels(labels) => first_in_labels(named, labels.get().as_slice(), found),
+    }
+}
+
+/// The first refusal of the labels of values, each of the attribute at its place.
+fn first_in_values<'a>(
+    attributes: &[NamedAttribute],
+    values: &'a [AttributeValue],
+    found: &Found<'a>,
+) -> Result<Option<TargetFault>, AllocError>
+    requires { AreFound (dependencies_seen found.now.dependencies.now) found.now.by_label }
+    ensures { IfOk result (λ f. f ≡ first_refused
+        (dependencies_seen found.now.dependencies.now) attributes.now values.now) }
+{
+    for (place, named) in attributes.iter().enumerate() {
+        let fault = match values.get(place) {
+            Some(value) => first_in_value(named, value, found)?,
+            None => return Ok(None),
+        };
+        if fault.is_some() {
+            return Ok(fault);
+        }
+    }
+    Ok(None)
+}
+
+/// Why a target's attributes refuse one of its dependencies: the first, by attribute and then by value.
+pub fn first_refused<'a>(
+    alloc: Global,
+    target: &'a Target,
+    dependencies: &'a [Dependency<'a>],
+) -> Result<Option<TargetFault>, AllocError>
+    ensures { IfOk result (λ f. f ≡ first_refused (dependencies_seen dependencies.now)
+        target.now.rule.attributes target.now.values) }
+{
+    let found = Found::new(alloc, dependencies)?;
+    let attributes = target.rule.get().attributes.as_slice();
+    first_in_values(attributes, target.values.as_slice(), &found)
+}

@@ -1,0 +1,19 @@
+//! What becomes of a target, as far as no evaluation is asked: its dependencies, the checks of what they offer, and its outcome
+//! from what its implementation gave.
+//!
+//! Each call does what a definition of `targets` says.
+#![tactic(auto)]
+
+mod checks;
+mod dependency;
+mod finishing;
+mod instances;
+mod noted;
+mod outputs;
+mod returned;
+
+pub use checks::first_refused;
+pub use dependency::{Dependency, failed_labels};
+pub use finishing::finish;
+pub use instances::offers;
+pub use noted::dependencies;

@@ -1,0 +1,53 @@
+//! What an implementation returns.
+ghost use Rattle.std.specs.Prelude.{◌≡◌, ◌++◌, ◌∷◌, [], List, true, false, Some, IfOk};
+ghost use Rattle.values.specs.View.{FrozenTree};
+ghost use Rattle.targets.specs.Steps.{are_instances};
+ghost use Rattle.analysis.specs.Returned.{numbers, made_numbers, AreReturned};
+
+use crate::instances::provider_of;
+use std::alloc::{AllocError, Global};
+use std::collections::BTreeSet;
+use values::{Frozen, MadeId, Provider};
+
+/// The numbers by which a provider is told from others.
+fn numbers(provider: &Provider) -> (u64, u64)
+    ensures { result ≡ numbers provider.now }
+{
+    match provider.id {
+        None => (0, 0),
+        Some(id) => made_numbers(id),
+    }
+}
+
+fn made_numbers(id: MadeId) -> (u64, u64)
+    ensures { result ≡ made_numbers (Some id) }
+{
+    (u64::from(id.module) + 1, u64::from(id.number))
+}
+
+/// Whether the values are instances of different providers.
+///
+/// Providers are found by order, so who returns many can't make this slow.
+pub(crate) fn are_instances(alloc: Global, values: &[Frozen]) -> Result<bool, AllocError>
+    ensures { IfOk result (λ b. b ≡ are_instances values.now) }
+{
+    let mut seen = BTreeSet::new(alloc);
+    for value in values {
+        if !is_new(value, &mut seen)? {
+            return Ok(false);
+        }
+    }
+    Ok(true)
+}
+
+/// Whether a value is an instance of a provider that wasn't seen; it is seen then.
+fn is_new(value: &Frozen, seen: &mut BTreeSet<(u64, u64)>) -> Result<bool, AllocError>
+    ensures { IfOk result (λ b. (ts : List FrozenTree) → AreReturned ts seen.old
+        → (b ≡ true → AreReturned (ts ++ value.now ∷ []) seen.new)
+        × (b ≡ false → (us : List FrozenTree) → are_instances (ts ++ value.now ∷ us) ≡ false)) }
+{
+    match provider_of(value) {
+        Some(provider) => Ok(seen.insert(numbers(provider))?),
+        None => Ok(false),
+    }
+}
