@@ -110,7 +110,7 @@ fn put_field(
 ) -> Result<(), AllocError>
     ensures { OnOk result (slots.new ≡ slots.old ++ given_for field.now names.now values.now ∷ []) }
 {
-    let value = match given_for(field, names, values) {
+    let value = match given_for(field.as_str(), names, values) {
         Some(value) => Some(value.share()?),
         None => None,
     };
@@ -119,7 +119,7 @@ fn put_field(
 }
 
 /// What was given under a name.
-pub fn given_for<'a>(name: &Text, names: &[Text], values: &'a [Value]) -> Option<&'a Value>
+pub fn given_for<'a>(name: &str, names: &[Text], values: &'a [Value]) -> Option<&'a Value>
     ensures { option_copied result ≡ given_for name.now names.now values.now }
 {
     match place_named(name, names) {
@@ -129,11 +129,11 @@ pub fn given_for<'a>(name: &Text, names: &[Text], values: &'a [Value]) -> Option
 }
 
 /// The first place of a name among names.
-fn place_named(name: &Text, names: &[Text]) -> Option<usize>
+fn place_named(name: &str, names: &[Text]) -> Option<usize>
     ensures { result ≡ place_named name.now names.now }
 {
     for place in 0..names.len() {
-        if *name == *name_at(names, place) {
+        if name == name_at(names, place).as_str() {
             return Some(place);
         }
     }
@@ -153,7 +153,7 @@ pub fn field<'a>(provider: &Provider, slots: Slots<'a>, name: &Text) -> Option<I
     ensures { option_value result ≡ field_in name.now provider.now.fields
         (slot_values slots.entry) }
 {
-    match place_named(name, provider.fields.as_slice()) {
+    match place_named(name.as_str(), provider.fields.as_slice()) {
         Some(place) => slot_at(slots, place),
         None => None,
     }

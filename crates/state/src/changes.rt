@@ -43,7 +43,7 @@ pub fn extend(
 }
 
 /// The items of a group.
-pub(crate) fn copied(alloc: Global, group: Group<'_>) -> Result<Items, AllocError>
+pub fn copied(alloc: Global, group: Group<'_>) -> Result<Items, AllocError>
     ensures { IfOk result (λ items. items ≡ group_items group.entry) }
 {
     let mut items = Items::with_capacity(alloc, group.len())?;

@@ -14,11 +14,12 @@ mod reading;
 mod truths;
 mod walks;
 
-pub use changes::{append, extend, set_item};
+pub use changes::{append, copied, extend, set_item};
 pub use comparing::{equals, is_among};
 pub use items::{get, item};
 pub use making::{collect, enter, keep, new_dict, new_list, new_tuple, place};
 pub use operations::{Arithmetic, Defaults, Made, Method, State};
 pub use operators::{add_in_place, calculate, compare, negate, plus};
+pub use reading::{key_of, number_of, sequence_of, text_of};
 pub use truths::truth;
 pub use walks::{begin, end, tick, walked_at};

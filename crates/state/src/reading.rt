@@ -1,12 +1,13 @@
 //! What a value is, where an operation asks for one type.
 ghost use Rattle.std.specs.Prelude.{◌≡◌, option_copied, Some, None, MatchOption};
 ghost use Rattle.values.specs.Seeing.{seen, group_items, table_entries};
-ghost use Rattle.operations.specs.Reading.{number_in, key_in, sequence_in};
+ghost use Rattle.operations.specs.Reading.{number_in, key_in, string_in, sequence_in};
 
+use plain::Text;
 use values::{Group, Key, Seen};
 
 /// The whole number that a value is, if it is one.
-pub(crate) fn number_of(value: &Seen<'_>) -> Option<i64>
+pub fn number_of(value: &Seen<'_>) -> Option<i64>
     ensures { result ≡ number_in (seen value.now) }
 {
     match value {
@@ -16,7 +17,7 @@ pub(crate) fn number_of(value: &Seen<'_>) -> Option<i64>
 }
 
 /// The key that a value is, if it may be one.
-pub(crate) fn key_of<'a>(value: &Seen<'a>) -> Option<&'a Key>
+pub fn key_of<'a>(value: &Seen<'a>) -> Option<&'a Key>
     ensures { option_copied result ≡ key_in (seen value.now) }
 {
     match value {
@@ -25,8 +26,18 @@ pub(crate) fn key_of<'a>(value: &Seen<'a>) -> Option<&'a Key>
     }
 }
 
+/// The string that a value is, if it is one.
+pub fn text_of<'a>(value: &Seen<'a>) -> Option<&'a Text>
+    ensures { option_copied result ≡ string_in (seen value.now) }
+{
+    match value {
+        Seen::Key(Key::Text(text)) => Some(text),
+        _ => None,
+    }
+}
+
 /// The items of a list or a tuple.
-pub(crate) fn sequence_of<'a>(value: &Seen<'a>) -> Option<Group<'a>>
+pub fn sequence_of<'a>(value: &Seen<'a>) -> Option<Group<'a>>
     ensures { MatchOption result (sequence_in (seen value.now) ≡ None)
         (λ g. sequence_in (seen value.now) ≡ Some (group_items g)) }
 {

@@ -15,4 +15,6 @@ mod text;
 
 pub use bytes::ByteTexts;
 pub use errors::{StringError, StringRefusal};
+pub use joining::join;
+pub use splitting::split;
 pub use text::{AsciiText, MOST_BYTES};

@@ -2,58 +2,45 @@
 ghost use Rattle.std.specs.Prelude.{◌≡◌, ◌<◌, ◌≤◌, ◌+◌, ◌∷◌, [], true, length, IfOk, MatchOption, Some, None, nat_lt, if◌then◌else◌};
 ghost use Rattle.strings.specs.Answers.{Answers};
 ghost use Rattle.strings.specs.Splitting.{parts, split_of, count_within};
-ghost use Rattle.strings.specs.Texts.{is_text};
 
 use crate::errors::{StringError, StringRefusal};
-use crate::text::AsciiText;
 use plain::Text;
 use std::alloc::{AllocError, Global};
 
 /// How many items a list has at most.
 const MOST_ITEMS: usize = 1_048_576;
 
-impl AsciiText {
-    /// The parts of the text between occurrences of a separator, which are found from the left without overlap. They are
-    /// counted before any is made.
-    ///
-    /// # Errors
-    ///
-    /// `EmptySeparator`, and then `Large` where there are more parts than a list may have.
-    pub fn split(
-        &self,
-        alloc: Global,
-        separator: &AsciiText,
-    ) -> Result<Vec<AsciiText>, StringRefusal>
-        ensures { Answers (λ ts. ts.items) (split_of separator.now self.now) result }
-    {
-        let (text, separator) = (self.as_str(), separator.as_str());
-        if separator.is_empty() {
-            return Err(StringRefusal::String(StringError::EmptySeparator));
-        }
-        match count(text, separator) {
-            Some(room) => Ok(cut_all(alloc, text, separator, room)?),
-            None => Err(StringRefusal::String(StringError::Large)),
-        }
+/// The parts of a text of any bytes between occurrences of a separator, which are found from the left without overlap. They
+/// are counted before any is made.
+///
+/// # Errors
+///
+/// `EmptySeparator`, and then `Large` where there are more parts than a list may have.
+pub fn split(alloc: Global, text: &str, separator: &str) -> Result<Vec<Text>, StringRefusal>
+    ensures { Answers (λ ts. ts.items) (split_of separator.now text.now) result }
+{
+    if separator.is_empty() {
+        return Err(StringRefusal::String(StringError::EmptySeparator));
+    }
+    match count(text, separator) {
+        Some(room) => Ok(cut_all(alloc, text, separator, room)?),
+        None => Err(StringRefusal::String(StringError::Large)),
     }
 }
 
 /// What stands before the first separator and what stands behind it.
 fn cut<'a>(text: &'a str, separator: &str) -> Option<(&'a str, &'a str)>
-    requires some { 0 < length separator.now }
-    requires ascii { is_text text.now ≡ true }
+    requires { 0 < length separator.now }
     ensures parts { MatchOption result (parts separator.now text.now ≡ text.now ∷ [])
         (λ x. parts separator.now text.now ≡ x.0.now ∷ parts separator.now x.1.now) }
-    ensures front { MatchOption result (Unit {0}) (λ x. is_text x.0.now ≡ true) }
-    ensures back { MatchOption result (Unit {0})
-        (λ x. (is_text x.1.now ≡ true) × (length x.1.now < length text.now)) }
+    ensures shorter { MatchOption result (Unit {0}) (λ x. length x.1.now < length text.now) }
 {
     text.split_once(separator)
 }
 
 /// How many parts there are; none where there are more than a list may have.
 fn count(text: &str, separator: &str) -> Option<usize>
-    requires some { 0 < length separator.now }
-    requires ascii { is_text text.now ≡ true }
+    requires { 0 < length separator.now }
     ensures { result ≡ count_within (parts separator.now text.now) }
 {
     let mut rest = text;
@@ -69,31 +56,16 @@ fn count(text: &str, separator: &str) -> Option<usize>
 }
 
 /// The parts, each a text of its own.
-fn cut_all(
-    alloc: Global,
-    text: &str,
-    separator: &str,
-    room: usize,
-) -> Result<Vec<AsciiText>, AllocError>
-    requires some { 0 < length separator.now }
-    requires ascii { is_text text.now ≡ true }
+fn cut_all(alloc: Global, text: &str, separator: &str, room: usize) -> Result<Vec<Text>, AllocError>
+    requires { 0 < length separator.now }
     ensures { IfOk result (λ ts. ts.items ≡ parts separator.now text.now) }
 {
     let mut parts = Vec::with_capacity(alloc, room)?;
     let mut rest = text;
     while let Some((part, behind)) = cut(rest, separator) {
-        parts.push(copy(alloc, part)?)?;
+        parts.push(Text::new(alloc, part)?)?;
         rest = behind;
     }
-    parts.push(copy(alloc, rest)?)?;
+    parts.push(Text::new(alloc, rest)?)?;
     Ok(parts)
-}
-
-/// A text of these bytes.
-fn copy(alloc: Global, part: &str) -> Result<AsciiText, AllocError>
-    requires { is_text part.now ≡ true }
-    ensures { IfOk result (λ t. t ≡ part.now) }
-{
-    let text = Text::new(alloc, part)?;
-    Ok(AsciiText::from_ascii(text))
 }

@@ -2,7 +2,7 @@
 use crate::worked::text;
 use plain::Text;
 use std::alloc::{AllocError, Global};
-use strings::{AsciiText, MOST_BYTES, StringError, StringRefusal};
+use strings::{AsciiText, MOST_BYTES, StringError, StringRefusal, join, split};
 
 const LARGE: StringRefusal = StringRefusal::String(StringError::Large);
 
@@ -23,7 +23,7 @@ fn comma_text(alloc: Global, bytes: usize) -> Result<AsciiText, StringRefusal> {
 /// How many parts the greatest text of commas has, cut at a text.
 fn parts(alloc: Global, separator: &AsciiText) -> Result<usize, StringRefusal> {
     let greatest = comma_text(alloc, MOST_BYTES)?;
-    let parts = greatest.split(alloc, separator)?;
+    let parts = split(alloc, greatest.as_str(), separator.as_str())?;
     Ok(parts.len())
 }
 
@@ -45,7 +45,7 @@ fn texts_and_lists_past_their_limits(rt: HostRuntime) {
 }
 
 /// So many names of one text as a list may have.
-fn many(alloc: Global, text: &AsciiText) -> Result<Vec<&AsciiText>, AllocError> {
+fn many(alloc: Global, text: &Text) -> Result<Vec<&Text>, AllocError> {
     let mut parts = Vec::with_capacity(alloc, MOST_BYTES)?;
     for _ in 0..MOST_BYTES {
         parts.push(text)?;
@@ -53,15 +53,15 @@ fn many(alloc: Global, text: &AsciiText) -> Result<Vec<&AsciiText>, AllocError> 
     Ok(parts)
 }
 
-fn joins_many(alloc: Global, greatest: &AsciiText) -> Result<usize, StringRefusal> {
+fn joins_many(alloc: Global, greatest: &Text) -> Result<usize, StringRefusal> {
     let parts = many(alloc, greatest)?;
-    let joined = greatest.join(alloc, &parts)?;
+    let joined = join(alloc, greatest.as_str(), &parts)?;
     Ok(joined.len())
 }
 
 fn joins(alloc: Global) -> Result<usize, StringRefusal> {
     let greatest = comma_text(alloc, MOST_BYTES)?;
-    joins_many(alloc, &greatest)
+    joins_many(alloc, greatest.as_text())
 }
 
 #[test]

@@ -1,7 +1,7 @@
 //! Worked values of the language's documents, each call at least once.
 use plain::Text;
 use std::alloc::{AllocError, Global};
-use strings::{AsciiText, ByteTexts, StringError, StringRefusal};
+use strings::{AsciiText, ByteTexts, StringError, StringRefusal, join, split};
 
 const NO_TEXT: StringRefusal = StringRefusal::NoMemory;
 
@@ -39,7 +39,7 @@ fn searches(rt: HostRuntime) {
     assert!(rt; found(alloc, "way", "f", None, (false, false)) == Ok(true));
 }
 
-fn lent(alloc: Global, parts: &[AsciiText]) -> Result<Vec<&AsciiText>, AllocError> {
+fn lent(alloc: Global, parts: &[Text]) -> Result<Vec<&Text>, AllocError> {
     let mut lent = Vec::new(alloc);
     for part in parts {
         lent.push(part)?;
@@ -48,24 +48,11 @@ fn lent(alloc: Global, parts: &[AsciiText]) -> Result<Vec<&AsciiText>, AllocErro
 }
 
 /// Whether a text, split and joined by a bar, is this.
-fn cut(
-    a: &AsciiText,
-    separator: &AsciiText,
-    bar: &AsciiText,
-    want: &str,
-    alloc: Global,
-) -> Result<bool, StringRefusal> {
-    let parts = a.split(alloc, separator)?;
-    let lent = lent(alloc, &parts)?;
-    let joined = bar.join(alloc, &lent)?;
-    Ok(joined.as_str() == want)
-}
-
 fn cut_is(alloc: Global, a: &str, separator: &str, want: &str) -> Result<bool, StringRefusal> {
-    let a = text(alloc, a)?;
-    let separator = text(alloc, separator)?;
-    let bar = text(alloc, "|")?;
-    cut(&a, &separator, &bar, want, alloc)
+    let parts = split(alloc, a, separator)?;
+    let lent = lent(alloc, &parts)?;
+    let joined = join(alloc, "|", &lent)?;
+    Ok(joined.as_str() == want)
 }
 
 #[test]

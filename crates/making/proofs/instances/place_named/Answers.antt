@@ -7,14 +7,14 @@ use Rattle.making.proofs.instances.place_named.Goals as goal
 pub returns-then-eq : goal.returns-then-eq
 returns-then-eq c =
     let x = c.args.name.now in let ns = c.args.names.now in let i = c.loop-place.place in let n = c.name_at.result.now in
-    let h : bytes_eq x n ≡ true = sym c.eq.ensures ∙ c.if-eq.true in
+    let h : bytes_eq x n ≡ true = ap (bytes_eq x) (sym c.as_str.ensures) ∙ sym c.eq.ensures ∙ c.if-eq.true in
     sym (sym c.loop-place.invariant ∙ place-next x ns i n c.name_at.ensures
     ∙ ap (λ b. if b then Some i else place_from x (i + 1) (drop (i + 1) ns)) h)
 
 pub loop-place-preserved : goal.loop-place-preserved
 loop-place-preserved c =
     let x = c.args.name.now in let ns = c.args.names.now in let i = c.loop-place.place in let n = c.name_at.result.now in
-    let h : bytes_eq x n ≡ false = sym c.eq.ensures ∙ c.if-eq.false in
+    let h : bytes_eq x n ≡ false = ap (bytes_eq x) (sym c.as_str.ensures) ∙ sym c.eq.ensures ∙ c.if-eq.false in
     sym (place-next x ns i n c.name_at.ensures
     ∙ ap (λ b. if b then Some i else place_from x (i + 1) (drop (i + 1) ns)) h)
     ∙ c.loop-place.invariant

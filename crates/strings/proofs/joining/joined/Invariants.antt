@@ -1,10 +1,8 @@
-use Rattle.std.proofs.Common.{◌≡◌, ◌++◌, map, drop, true, string_bytes}
+use Rattle.std.proofs.Common.{◌≡◌, ◌++◌, map, drop, string_bytes}
 use Rattle.strings.specs.Joining.{glued}
-use Rattle.strings.specs.Texts.{is_ascii}
 use Rattle.strings.proofs.Glued.{trailed}
 use Rattle.strings.proofs.joining.joined.Given as goal
 
 abbrev pub invariant-loop-part : goal.invariant-loop-part
 invariant-loop-part l =
-    (string_bytes l.text ++ trailed l.separator (map (λ p. p.now) (drop l.part-index l.others)) ≡ glued l.separator (map (λ p. p.now) l.parts))
-    × (is_ascii (string_bytes l.text) ≡ true)
+    string_bytes l.text ++ trailed l.separator (map (λ p. p.now) (drop l.part-index l.others)) ≡ glued l.separator (map (λ p. p.now) l.parts)

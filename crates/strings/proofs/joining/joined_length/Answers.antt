@@ -1,10 +1,10 @@
-use Rattle.std.proofs.Common.{ap, map}
+use Rattle.std.proofs.Common.{ap, map, arith}
 use Rattle.strings.proofs.Glued.{start_length}
 use Rattle.strings.proofs.joining.joined_length.Goals as goal
 
 pub loop-part-init : goal.loop-part-init
 loop-part-init c = (
-  c.len-length.ensures.limit,
+  omega arith,
   start_length c.args.separator.now c.in-Some.first.now.now (map (λ p. p.now) c.in-Some.others.now) (map (λ p. p.now) c.args.parts.now) c.len-length.result
-      (ap (map (λ p. p.now)) c.in-Some.ensures.cases.0) c.len-length.ensures.value,
+      (ap (map (λ p. p.now)) c.in-Some.ensures.cases.0) c.len-length.ensures,
 )

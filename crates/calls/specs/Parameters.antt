@@ -1,0 +1,40 @@
+-- Parameters as the definitions have them, and what each gets where the arguments fit: what stands at its place, or else what
+-- was given under its name. (Starlark's specification, "Function and method calls".)
+use Rattle.std.specs.Prelude.{◌≡◌, ℕ, ◌+◌, Bool, true, false, not, ◌&&◌, List, [], ◌∷◌, slice_get, Option, Some, None, is_some, Err}
+use Rattle.values.specs.declared.value.Value.{Value}
+use Rattle.operations.specs.Arguments.{Given, Parameter as Taken, Bound, given_for}
+use Rattle.values.specs.declared.ticks.Kind.TheVariants.{Arity}
+use Rattle.operations.specs.declared.state.State.{State}
+use Rattle.operations.specs.States.{Op}
+use Rattle.operations.specs.Methods.{with_one}
+use Rattle.calls.specs.declared.arguments.Parameter.{Parameter}
+
+abbrev pub taken : Parameter → Taken
+taken p = record { name = p.name.now; by_name = p.by_name; may_miss = p.may_miss }
+
+abbrev pub placed_or_named : Option Value → Option Value → Option Value
+placed_or_named (Some v) o = Some v
+placed_or_named None o = o
+
+-- what the parameter at a place gets
+abbrev pub got_at : ℕ → List ℕ → Given → Option Value
+got_at i x g = placed_or_named (slice_get g.items i) (given_for x g.names g.values)
+
+-- what each parameter gets, from a place on
+abbrev pub got_from : ℕ → List Taken → Given → Bound
+got_from i [] g = []
+got_from i (p ∷ ps) g = got_at i p.name g ∷ got_from (i + 1) ps g
+
+-- whether a parameter may get what stands at its place, and what was given under its name
+abbrev pub may_get : Taken → Option Value → Option Value → Bool
+may_get p (Some v) o = not p.by_name && not (is_some o)
+may_get p None (Some v) = true
+may_get p None None = p.may_miss
+
+abbrev pub may_get_all : ℕ → List Taken → Given → Bool
+may_get_all i [] g = true
+may_get_all i (p ∷ ps) g = may_get p (slice_get g.items i) (given_for p.name g.names g.values) && may_get_all (i + 1) ps g
+
+-- what takes one position doesn't take these
+abbrev pub IsNotOne : List Value → Type 0
+IsNotOne vs = (f : Value → Op Value) (s : State) → with_one f vs s ≡ Err Arity

@@ -1,0 +1,111 @@
+//! What parameters get of arguments.
+ghost use Rattle.std.specs.Prelude.{◌≡◌, ◌∷◌, [], Ok, Err, Some, None, MatchResult, MatchOption, option_copied, slice_get};
+ghost use Rattle.values.specs.Ticking.{FaultOr};
+ghost use Rattle.operations.specs.States.{then_give};
+ghost use Rattle.operations.specs.Arguments.{given, wanted, optional, named_only, bound, one, all_known, given_for, positions, unless_named};
+ghost use Rattle.operations.specs.BuiltIns.{argument};
+ghost use Rattle.calls.specs.Parameters.{taken, got_at, placed_or_named, IsNotOne};
+
+use making::given_for;
+use operations::Arguments;
+use plain::Text;
+use values::{Broken, Kind, Value};
+
+/// A parameter: whether it is given by name alone, and whether it may be missing.
+#[derive(Clone, Copy)]
+pub struct Parameter<'a> {
+    pub name: &'a str,
+    pub by_name: bool,
+    pub may_miss: bool,
+}
+
+impl<'a> Parameter<'a> {
+    /// One that may be missing.
+    pub fn optional(name: &'a str) -> Parameter<'a>
+        ensures { taken result ≡ optional name.now }
+    {
+        Parameter {
+            name,
+            by_name: false,
+            may_miss: true,
+        }
+    }
+
+    /// One that is given by name alone, if at all.
+    pub fn named_only(name: &'a str) -> Parameter<'a>
+        ensures { taken result ≡ named_only name.now }
+    {
+        Parameter {
+            name,
+            by_name: true,
+            may_miss: true,
+        }
+    }
+}
+
+/// What the one parameter of a call gets, by position or by name, or `arity`.
+pub fn argument<'a>(name: &str, arguments: &Arguments<'a>) -> Result<&'a Value, Broken>
+    ensures { MatchResult result (λ v. argument name.now (given arguments.now) ≡ Ok v.now)
+        (λ e. FaultOr (argument name.now (given arguments.now)) e) }
+{
+    if !are_all(name, arguments.names) {
+        return Err(Broken::Kind(Kind::Arity));
+    }
+    let named = given_for(name, arguments.names, arguments.values);
+    match arguments.items {
+        [] => match named {
+            Some(value) => Ok(value),
+            None => Err(Broken::Kind(Kind::Arity)),
+        },
+        [value] => match named {
+            Some(_) => Err(Broken::Kind(Kind::Arity)),
+            None => Ok(value),
+        },
+        [_, _, ..] => Err(Broken::Kind(Kind::Arity)),
+    }
+}
+
+/// Whether each name is this one.
+fn are_all(name: &str, names: &[Text]) -> bool
+    ensures { result ≡ all_known (wanted name.now ∷ []) names.now }
+{
+    for other in names {
+        if other.as_str() != name {
+            return false;
+        }
+    }
+    true
+}
+
+/// What the parameter of this name, at this place, gets of arguments that fit: what stands at its place, or else what was
+/// given under its name.
+pub fn got<'a>(arguments: &Arguments<'a>, place: usize, name: &str) -> Option<&'a Value>
+    ensures { option_copied result ≡ got_at place name.now (given arguments.now) }
+{
+    match arguments.items.get(place) {
+        Some(value) => Some(value),
+        None => given_for(name, arguments.names, arguments.values),
+    }
+}
+
+/// The positions of a call that takes nothing else: any name is `arity`.
+pub fn positions<'a>(arguments: &Arguments<'a>) -> Result<&'a [Value], Broken>
+    ensures { MatchResult result (λ vs. positions (given arguments.now) ≡ Ok vs.now)
+        (λ e. FaultOr (positions (given arguments.now)) e) }
+{
+    if !arguments.names.is_empty() {
+        return Err(Broken::Kind(Kind::Arity));
+    }
+    Ok(arguments.items)
+}
+
+/// The one value, if there is exactly one.
+pub fn only(values: &[Value]) -> Option<&Value>
+    ensures { MatchOption result (IsNotOne values.now) (λ v. values.now ≡ v.now ∷ []) }
+{
+    match values {
+        [] => None,
+        [value] => Some(value),
+        [_, _, ..] => None,
+    }
+}

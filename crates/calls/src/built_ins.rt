@@ -1,0 +1,112 @@
+//! `len`, `str`, `list` and `fail`.
+ghost use Rattle.std.specs.Prelude.{◌≡◌, ◌+◌, pos, Ok, Err, Some, None, MatchResult, IfOk};
+ghost use Rattle.values.specs.Ticking.{FaultOr};
+ghost use Rattle.values.specs.Seeing.{seen};
+ghost use Rattle.operations.specs.States.{Does, Stays, Gives};
+ghost use Rattle.operations.specs.Reading.{of_type};
+ghost use Rattle.operations.specs.Making.{number};
+ghost use Rattle.operations.specs.BuiltIns.{len, size_in, key_size, str, list, listed_in, fail};
+
+use crate::dicts::key_items;
+use operations::{Made, State};
+use plain::Text;
+use printing::repr;
+use state::{copied, place, text_of};
+use std::alloc::Global;
+use values::{Broken, Item, Key, Kind, Seen, Value};
+
+/// `len(value)`: the bytes of a string, the items of a list or a tuple, the entries of a dict.
+///
+/// # Errors
+///
+/// `type`, where it is another value.
+pub fn len(state: &State, value: &Value) -> Result<Value, Broken>
+    ensures { Does (len value.now) state.now result state.now }
+{
+    let Some(size) = size_of(&state.heap.see(value)) else {
+        return Err(Broken::Kind(Kind::Wrong));
+    };
+    size_value(size)
+}
+
+/// How many parts a value has.
+fn size_of(value: &Seen<'_>) -> Option<usize>
+    ensures { result ≡ size_in (seen value.now) }
+{
+    match value {
+        Seen::Key(Key::Text(text)) => Some(text.len()),
+        Seen::List(items) => Some(items.len()),
+        Seen::Tuple(items) => Some(items.len()),
+        Seen::Dict(entries) => Some(entries.len()),
+        _ => None,
+    }
+}
+
+/// A size as a value. No value has more parts than a number can say.
+fn size_value(size: usize) -> Result<Value, Broken>
+    ensures { Gives (Ok (number (pos size))) result }
+{
+    if size > i64::MAX as usize {
+        return Err(Broken::NoMemory);
+    }
+    Ok(Value::Key(Key::Number(size as i64)))
+}
+
+/// `str(value)`: a string itself, and the text of another value. Each value that is visited is a tick.
+///
+/// # Errors
+///
+/// Of each value `steps`, `deep`, and `type` where it has no text; at the end `large`.
+pub fn str(alloc: Global, state: &mut State, value: &Value) -> Result<Value, Broken>
+    ensures { Does (str value.now) state.old result state.new }
+{
+    match repr(alloc, Item::Value(value), &state.heap, &mut state.ticks) {
+        Ok(text) => {
+            let text = Text::from_string(text)?;
+            Ok(Value::Key(Key::Text(text)))
+        }
+        Err(broken) => Err(broken),
+    }
+}
+
+/// `list(value)`: a new list of the items of a list or a tuple, or of the keys of a dict.
+///
+/// # Errors
+///
+/// `type`, where it is another value.
+pub fn list(alloc: Global, state: &mut State, value: &Value) -> Result<Value, Broken>
+    ensures { Does (list value.now) state.old result state.new }
+{
+    let made = match listed(alloc, &state.heap.see(value)) {
+        Ok(made) => made,
+        Err(broken) => return Err(broken),
+    };
+    place(state, made)
+}
+
+/// The items of a list or a tuple, or the keys of a dict, as those of a new list.
+fn listed(alloc: Global, value: &Seen<'_>) -> Result<Made, Broken>
+    ensures { Gives (of_type (listed_in (seen value.now)) (λ xs. Ok (Made.List xs))) result }
+{
+    match value {
+        Seen::List(items) => Ok(Made::List(copied(alloc, *items)?)),
+        Seen::Tuple(items) => Ok(Made::List(copied(alloc, *items)?)),
+        Seen::Dict(entries) => Ok(Made::List(key_items(alloc, *entries)?)),
+        _ => Err(Broken::Kind(Kind::Wrong)),
+    }
+}
+
+/// `fail(text)`: the fault with this text.
+///
+/// # Errors
+///
+/// `type`, where it is no string; else `fail` itself.
+pub fn fail(state: &State, value: &Value) -> Result<Value, Broken>
+    ensures { Does (fail value.now) state.now result state.now }
+{
+    let Some(text) = text_of(&state.heap.see(value)) else {
+        return Err(Broken::Kind(Kind::Wrong));
+    };
+    let text = text.share()?;
+    Err(Broken::Kind(Kind::Fail(text)))
+}

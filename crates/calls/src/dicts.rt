@@ -1,0 +1,144 @@
+//! The methods of dicts.
+ghost use Rattle.std.specs.Prelude.{◌≡◌, ◌++◌, ◌∷◌, [], Ok, Err, Some, None, MatchResult, IfOk, OnOk, map};
+ghost use Rattle.values.specs.Ticking.{FaultOr};
+ghost use Rattle.values.specs.Visits.{keys_of};
+ghost use Rattle.values.specs.Shape.{shape};
+ghost use Rattle.values.specs.Seeing.{seen, item_value, table_entries};
+ghost use Rattle.operations.specs.States.{Does, Stays, Gives};
+ghost use Rattle.operations.specs.Making.{entries_in, none};
+ghost use Rattle.operations.specs.Items.{got};
+ghost use Rattle.operations.specs.Methods.{get, keys, values};
+
+use operations::State;
+use state::{key_of, new_list};
+use std::alloc::{AllocError, Global};
+use values::{Broken, Heap, Item, Items, Key, Kind, Leaf, Seen, Table, Value};
+
+/// `dict.get(key, default)`: the value of the key, or the default, which is None where it is missing.
+///
+/// # Errors
+///
+/// `arity`; `type`, where the key can't be one.
+pub fn get(state: &State, dict: &Value, arguments: &[Value]) -> Result<Value, Broken>
+    ensures { Does (get (entries_in (shape state.now.heap dict.now)) arguments.now) state.now result
+        state.now }
+{
+    match arguments {
+        [] => Err(Broken::Kind(Kind::Arity)),
+        [key] => got_or_none(&state.heap, dict, key),
+        [key, default] => got(&state.heap, dict, Item::Value(default), key),
+        [_, _, _, ..] => Err(Broken::Kind(Kind::Arity)),
+    }
+}
+
+/// The value of a key, or None.
+fn got_or_none(heap: &Heap, dict: &Value, key: &Value) -> Result<Value, Broken>
+    ensures { Gives (got (entries_in (shape heap.now dict.now)) none (shape heap.now key.now))
+        result }
+{
+    let none = Value::Leaf(Leaf::None);
+    got(heap, dict, Item::Value(&none), key)
+}
+
+/// The value of a key, or another.
+fn got(heap: &Heap, dict: &Value, default: Item<'_>, key: &Value) -> Result<Value, Broken>
+    ensures { Gives (got (entries_in (shape heap.now dict.now)) (item_value default.entry)
+        (shape heap.now key.now)) result }
+{
+    match heap.see(dict) {
+        Seen::Dict(entries) => state::get(entries, default, &heap.see(key)),
+        _ => without_entries(default, &heap.see(key)),
+    }
+}
+
+/// The default, where there are no entries.
+fn without_entries(default: Item<'_>, key: &Seen<'_>) -> Result<Value, Broken>
+    ensures { Gives (got [] (item_value default.entry) (seen key.now)) result }
+{
+    if key_of(key).is_none() {
+        return Err(Broken::Kind(Kind::Wrong));
+    }
+    let value = default.to_value()?;
+    Ok(value)
+}
+
+/// `dict.keys()`: a new list.
+pub fn keys(alloc: Global, state: &mut State, dict: &Value) -> Result<Value, Broken>
+    ensures { Does (keys (entries_in (shape state.old.heap dict.now))) state.old result state.new }
+{
+    let items = keys_in(alloc, &state.heap.see(dict))?;
+    new_list(state, items)
+}
+
+fn keys_in(alloc: Global, dict: &Seen<'_>) -> Result<Items, AllocError>
+    ensures { IfOk result (λ items. items ≡ map Value.Key (keys_of (entries_in (seen dict.now)))) }
+{
+    match dict {
+        Seen::Dict(entries) => key_items(alloc, *entries),
+        _ => Ok(Items::new(alloc)),
+    }
+}
+
+/// The keys of entries, as values.
+pub(crate) fn key_items(alloc: Global, entries: Table<'_>) -> Result<Items, AllocError>
+    ensures { IfOk result (λ items. items ≡ map Value.Key (keys_of (table_entries entries.entry))) }
+{
+    let mut items = Items::with_capacity(alloc, entries.len())?;
+    for place in 0..entries.len() {
+        let Some((key, _)) = entries.at(place) else {
+            return Ok(items);
+        };
+        put_key(key, &mut items)?;
+    }
+    Ok(items)
+}
+
+/// Puts a key last, as a value.
+fn put_key(key: &Key, items: &mut Items) -> Result<(), AllocError>
+    ensures { OnOk result (items.new ≡ items.old ++ Value.Key key.now ∷ []) }
+{
+    let key = key.share()?;
+    items.push(Value::Key(key))?;
+    Ok(())
+}
+
+/// `dict.values()`: a new list.
+pub fn values(alloc: Global, state: &mut State, dict: &Value) -> Result<Value, Broken>
+    ensures { Does (values (entries_in (shape state.old.heap dict.now))) state.old result
+        state.new }
+{
+    let items = values_in(alloc, &state.heap.see(dict))?;
+    new_list(state, items)
+}
+
+fn values_in(alloc: Global, dict: &Seen<'_>) -> Result<Items, AllocError>
+    ensures { IfOk result (λ items. items ≡ map (λ e. e.1) (entries_in (seen dict.now))) }
+{
+    match dict {
+        Seen::Dict(entries) => value_items(alloc, *entries),
+        _ => Ok(Items::new(alloc)),
+    }
+}
+
+/// The values of entries.
+fn value_items(alloc: Global, entries: Table<'_>) -> Result<Items, AllocError>
+    ensures { IfOk result (λ items. items ≡ map (λ e. e.1) (table_entries entries.entry)) }
+{
+    let mut items = Items::with_capacity(alloc, entries.len())?;
+    for place in 0..entries.len() {
+        let Some((_, value)) = entries.at(place) else {
+            return Ok(items);
+        };
+        put_value(value, &mut items)?;
+    }
+    Ok(items)
+}
+
+/// Puts a value last.
+fn put_value(value: Item<'_>, items: &mut Items) -> Result<(), AllocError>
+    ensures { OnOk result (items.new ≡ items.old ++ item_value value.entry ∷ []) }
+{
+    let value = value.to_value()?;
+    items.push(value)?;
+    Ok(())
+}

@@ -1,0 +1,20 @@
+//! Calls of the built-in functions and of the methods of values, with their arguments.
+//!
+//! Each call does what its definition in `operations` says, for every state, or answers that memory was refused; after a
+//! fault, and after such a refusal, the heap and the number of depsets are as they were. `provider`, `rule`, calls of rules
+//! and the methods of `attr` and of `ctx.actions` are those of one place, and aren't here.
+#![tactic(auto)]
+
+mod arguments;
+mod binding;
+mod built_ins;
+mod dicts;
+mod functions;
+mod ranges;
+
+pub use arguments::{Parameter, argument, got, only, positions};
+pub use binding::check_arguments;
+pub use built_ins::{fail, len, list, str};
+pub use dicts::{get, keys, values};
+pub use functions::{call_built_in, call_provider};
+pub use ranges::range;

@@ -1,0 +1,8 @@
+-- What a search for a name gives, as the definitions say it.
+use Rattle.operations.specs.Fields.{Found as Finding, plainly, with_method}
+use Rattle.finding.specs.declared.finds.Found.{Found}
+use Rattle.finding.specs.declared.finds.Found.TheVariants as found
+
+abbrev pub finding : Found → Finding
+finding (found.Value v) = plainly v
+finding (found.Method m) = with_method m
