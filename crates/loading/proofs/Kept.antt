@@ -93,13 +93,13 @@ module _ {T M S K D I : Type 0} (w : Sources T M S K) (s : Seen M D I) (runs : R
   -- ---- what the modules that are handed to an evaluation have is what its node is given
 
   abbrev handed : Path → Path → Option M
-  handed p q = value w (lower w (h p) (module_of w) q)
+  handed p q = value (lower w (h p) (module_of w) q)
 
-  known_is : (q : Path) → is_module w q ≡ true → known q ≡ value w (Some (module_of w q))
-  known_is q e = ap (λ b. value w (elim b [ true ↦ Some (module_of w q) | false ↦ None ])) e
+  known_is : (q : Path) → is_module w q ≡ true → known q ≡ value (Some (module_of w q))
+  known_is q e = ap (λ b. value (elim b [ true ↦ Some (module_of w q) | false ↦ None ])) e
 
-  handed_is : (p q : Path) → is_lower w (h p) q ≡ true → handed p q ≡ value w (Some (module_of w q))
-  handed_is p q e = ap (λ b. value w (elim b [ true ↦ Some (module_of w q) | false ↦ None ])) e
+  handed_is : (p q : Path) → is_lower w (h p) q ≡ true → handed p q ≡ value (Some (module_of w q))
+  handed_is p q e = ap (λ b. value (elim b [ true ↦ Some (module_of w q) | false ↦ None ])) e
 
   some_none : {P : Type 0} (m : M) → ◌≡◌ {A = Option M} None (Some m) → P
   some_none m e = absurd (true≢false (sym (ap is_some e)))
@@ -111,7 +111,7 @@ module _ {T M S K D I : Type 0} (w : Sources T M S K) (s : Seen M D I) (runs : R
   handed_lower : (p q : Path) (m : M) → handed p q ≡ Some m → is_lower w (h p) q ≡ true
   handed_lower p q m e = go (is_lower w (h p) q) e
     where
-      go : (b : Bool) → value w (elim b [ true ↦ Some (module_of w q) | false ↦ None ]) ≡ Some m → b ≡ true
+      go : (b : Bool) → value (elim b [ true ↦ Some (module_of w q) | false ↦ None ]) ≡ Some m → b ≡ true
       go true e = refl
       go false e = some_none m e
 
@@ -150,24 +150,24 @@ module _ {T M S K D I : Type 0} (w : Sources T M S K) (s : Seen M D I) (runs : R
       or_x (Ok y) = y
       or_x (Err f) = x
 
-  ended_by : (p : Path) (r : Result M (Ending K)) (m : M) → ended w p r ≡ Ok m → r ≡ Ok m
+  ended_by : (p : Path) (r : Result M (Ending K)) (m : M) → ended {S = S} p r ≡ Ok m → r ≡ Ok m
   ended_by p (Ok x) m e = ap Ok (ok_same x m e)
   ended_by p (Err (Faulted f)) m e = err_ok _ m e
   ended_by p (Err Unnamed) m e = err_ok _ m e
 
-  linked_by : (p : Path) (t : T) (at : Path → Option (Result M F)) (f : Option F) (m : M) → linked w p t at f ≡ Ok m → w.run (λ q. value w (at q)) p t ≡ Ok m
+  linked_by : (p : Path) (t : T) (at : Path → Option (Result M F)) (f : Option F) (m : M) → linked w p t at f ≡ Ok m → w.run (λ q. value (at q)) p t ≡ Ok m
   linked_by p t at (Some f) m e = err_ok f m e
-  linked_by p t at None m e = ended_by p (w.run (λ q. value w (at q)) p t) m e
+  linked_by p t at None m e = ended_by p (w.run (λ q. value (at q)) p t) m e
 
-  loaded_by : (p : Path) (r : Result (Read T) (S × ℕ)) (at : Path → Option (Result M F)) (m : M) → loaded w p r at ≡ Ok m → (t : T) × (w.run (λ q. value w (at q)) p t ≡ Ok m)
+  loaded_by : (p : Path) (r : Result (Read T) (S × ℕ)) (at : Path → Option (Result M F)) (m : M) → loaded w p r at ≡ Ok m → (t : T) × (w.run (λ q. value (at q)) p t ≡ Ok m)
   loaded_by p (Err e) at m is = err_ok _ m is
   loaded_by p (Ok r) at m is = go (is_on_cycle w p) is
     where
-      go : (b : Bool) → ◌≡◌ {A = Result M F} (elim b [ true ↦ Err (record { kind = LoadCycle; path = p; line = cycle_line w p r.loads }) | false ↦ linked w p r.tree at (loads_fault w.globals p at r.loads) ]) (Ok m) → (t : T) × (w.run (λ q. value w (at q)) p t ≡ Ok m)
+      go : (b : Bool) → ◌≡◌ {A = Result M F} (elim b [ true ↦ Err (record { kind = LoadCycle; path = p; line = cycle_line w p r.loads }) | false ↦ linked w p r.tree at (loads_fault w.globals p at r.loads) ]) (Ok m) → (t : T) × (w.run (λ q. value (at q)) p t ≡ Ok m)
       go true e = err_ok _ m e
       go false e = (r.tree, linked_by p r.tree at (loads_fault w.globals p at r.loads) m e)
 
-  value_ok : (r : Result M F) (m : M) → value w (Some r) ≡ Some m → r ≡ Ok m
+  value_ok : (r : Result M F) (m : M) → value (Some r) ≡ Some m → r ≡ Ok m
   value_ok (Ok x) m e = ap Ok (some_same x m e)
     where
       some_same : (x m : M) → ◌≡◌ {A = Option M} (Some x) (Some m) → x ≡ m
@@ -220,7 +220,7 @@ module _ {T M S K D I : Type 0} (w : Sources T M S K) (s : Seen M D I) (runs : R
 
   -- what is no module's path has no module
   bare : (p : Path) → is_module w p ≡ false → (d : D) → has (known p) d → ⊥
-  bare p e d i = subst (λ o. has o d) (ap (λ b. value w (elim b [ true ↦ Some (module_of w p) | false ↦ None ])) e) i
+  bare p e d i = subst (λ o. has o d) (ap (λ b. value (elim b [ true ↦ Some (module_of w p) | false ↦ None ])) e) i
 
   each : EachKeeps g
   each = record {

@@ -9,7 +9,7 @@ use Rattle.loading.proofs.Trails.{cycle_from_test, test_from_cycle}
 use Rattle.loading.proofs.Heights.{load_is_lower}
 
 module _ {T M S K : Type 0} (w : Sources T M S K) where
-  of_one : (t : Option Path) (qs : List Path) (q : Path) → Contains (with_target w (module_path (is_module w) t) qs) q → (Contains qs q → is_module w q ≡ true) → is_module w q ≡ true
+  of_one : (t : Option Path) (qs : List Path) (q : Path) → Contains (with_target (module_path (is_module w) t) qs) q → (Contains qs q → is_module w q ≡ true) → is_module w q ≡ true
   of_one None qs q c k = k c
   of_one (Some x) qs q c k = go (is_module w x) refl c
     where
@@ -17,29 +17,29 @@ module _ {T M S K : Type 0} (w : Sources T M S K) where
       take e (zero, low, is) = subst (λ y. is_module w y ≡ true) is e
       take e (suc j, low, is) = k (j, omega (arith, low), is)
 
-      go : (b : Bool) → is_module w x ≡ b → Contains (with_target w (if b then Some x else None) qs) q → is_module w q ≡ true
+      go : (b : Bool) → is_module w x ≡ b → Contains (with_target (if b then Some x else None) qs) q → is_module w q ≡ true
       go true e c = take e c
       go false e c = k c
 
-  of_targets : (ls : List Load) (q : Path) → Contains (targets w (map (of_module (is_module w)) ls)) q → is_module w q ≡ true
+  of_targets : (ls : List Load) (q : Path) → Contains (targets (map (of_module (is_module w)) ls)) q → is_module w q ≡ true
   of_targets [] q c = absurd (omega (arith, c.1))
-  of_targets (l ∷ ls) q c = of_one l.target (targets w (map (of_module (is_module w)) ls)) q c (of_targets ls q)
+  of_targets (l ∷ ls) q c = of_one l.target (targets (map (of_module (is_module w)) ls)) q c (of_targets ls q)
 
-  of_file : (r : Result (Read T) (S × ℕ)) (q : Path) → Contains (targets_in w (of_modules (is_module w) r)) q → is_module w q ≡ true
+  of_file : (r : Result (Read T) (S × ℕ)) (q : Path) → Contains (targets_in (of_modules (is_module w) r)) q → is_module w q ≡ true
   of_file (Ok r) q c = of_targets r.loads q c
   of_file (Err e) q c = absurd (omega (arith, c.1))
 
-  both_modules : (p q : Path) → Contains (loads_of w p) q → (is_module w p ≡ true) × (is_module w q ≡ true)
+  pub both_modules : (p q : Path) → Contains (loads_of w p) q → (is_module w p ≡ true) × (is_module w q ≡ true)
   both_modules p q c = go (is_module w p) refl c
     where
-      go : (b : Bool) → is_module w p ≡ b → Contains (if b then targets_in w (file w p) else []) q → (is_module w p ≡ true) × (is_module w q ≡ true)
+      go : (b : Bool) → is_module w p ≡ b → Contains (if b then targets_in (file w p) else []) q → (is_module w p ≡ true) × (is_module w q ≡ true)
       go true e c = (e, of_file (w.read p) q c)
       go false e c = absurd (omega (arith, c.1))
 
-  loaded_module : (p q : Path) → Contains (loads_of w p) q → is_module w q ≡ true
+  pub loaded_module : (p q : Path) → Contains (loads_of w p) q → is_module w q ≡ true
   loaded_module p q c = (both_modules p q c).1
 
-  loading_module : (p q : Path) → Contains (loads_of w p) q → is_module w p ≡ true
+  pub loading_module : (p q : Path) → Contains (loads_of w p) q → is_module w p ≡ true
   loading_module p q c = (both_modules p q c).0
 
   pub from_test : (p : Path) → is_on_cycle w p ≡ true → OnCycle (loads_of w) p

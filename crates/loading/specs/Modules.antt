@@ -21,6 +21,32 @@ abbrev pub above_all : List ℕ → ℕ
 above_all [] = 0
 above_all (h ∷ hs) = max (suc h) (above_all hs)
 
+-- the module that a result has, if it has one
+abbrev pub value : {M F : Type 0} → Option (Result M F) → Option M
+value None = None
+value (Some (Ok m)) = Some m
+value (Some (Err f)) = None
+
+-- What the evaluation of the module at a path comes to.
+abbrev pub ended : {M S K : Type 0} → Path → Result M (Ending K) → Result M (LoadFault S K)
+ended p (Ok m) = Ok m
+ended p (Err (Faulted f)) = Err (record { kind = Evaluation f.kind; path = f.path; line = f.line })
+ended p (Err Unnamed) = Err (record { kind = Unexported; path = p; line = 0 })
+
+-- ---- What the load statements of a file name, in their order.
+
+abbrev pub with_target : Option Path → List Path → List Path
+with_target None qs = qs
+with_target (Some q) qs = q ∷ qs
+
+abbrev pub targets : List Load → List Path
+targets [] = []
+targets (l ∷ ls) = with_target l.target (targets ls)
+
+abbrev pub targets_in : {T E : Type 0} → Result (Read T) E → List Path
+targets_in (Ok r) = targets r.loads
+targets_in (Err e) = []
+
 -- ---- Walks from file to file, where `loads` gives what a file loads.
 module _ (loads : Path → List Path) where
   -- whether a walk of at most n loads leads from one file to another
@@ -52,18 +78,6 @@ module _ {T M S K : Type 0} (w : Sources T M S K) where
   abbrev pub file : Path → Result (Read T) (S × ℕ)
   file p = of_modules is_module (w.read p)
 
-  abbrev pub with_target : Option Path → List Path → List Path
-  with_target None qs = qs
-  with_target (Some q) qs = q ∷ qs
-
-  abbrev pub targets : List Load → List Path
-  targets [] = []
-  targets (l ∷ ls) = with_target l.target (targets ls)
-
-  abbrev pub targets_in : Result (Read T) (S × ℕ) → List Path
-  targets_in (Ok r) = targets r.loads
-  targets_in (Err e) = []
-
   -- The modules that a module loads, in the order of its statements. One with a syntax fault loads nothing.
   abbrev pub loads_of : Path → List Path
   loads_of p = if is_module p then targets_in (file p) else []
@@ -83,16 +97,6 @@ module _ {T M S K : Type 0} (w : Sources T M S K) where
   abbrev pub cycle_line : Path → List Load → ℕ
   cycle_line p [] = 0
   cycle_line p (l ∷ ls) = if leads_to p l.target then l.line else cycle_line p ls
-
-  abbrev pub value : Option (Result M Fault) → Option M
-  value None = None
-  value (Some (Ok m)) = Some m
-  value (Some (Err f)) = None
-
-  abbrev pub ended : Path → Result M (Ending K) → Result M Fault
-  ended p (Ok m) = Ok m
-  ended p (Err (Faulted f)) = Err (record { kind = Evaluation f.kind; path = f.path; line = f.line })
-  ended p (Err Unnamed) = Err (record { kind = Unexported; path = p; line = 0 })
 
   -- evaluated, unless a load fails
   abbrev pub linked : Path → T → (Path → Option (Result M Fault)) → Option Fault → Result M Fault

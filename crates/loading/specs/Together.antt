@@ -27,7 +27,7 @@ module _ {T M S K D I : Type 0} (w : Sources T M S K) (s : Seen M D I) where
 
   -- every module without a fault
   abbrev pub all_known : Path → Option M
-  all_known q = value w (any_module w q)
+  all_known q = value (any_module w q)
 
   -- All modules together are coherent, and each of their depsets is owned by a module: so they are fresh for every label and for every BUILD file.
   pub record AreTogether : Type 0 where

@@ -1,4 +1,5 @@
 //! What loading sees of a file that was read.
+ghost use Rattle.std.specs.Prelude.{◌≡◌, None, Some, MatchOption};
 
 use plain::Text;
 use std::marker::Model;
@@ -22,6 +23,29 @@ impl Model for LoadStatement {
     ghost view = { λ l. record { line = l.line; target = l.target; asked = l.asked.items } };
 }
 
+impl LoadStatement {
+    /// The line that it begins on.
+    pub fn line(&self) -> u64
+        ensures { result ≡ self.now.line }
+    {
+        self.line
+    }
+
+    /// The path that its label spells, if it spells one.
+    pub fn target(&self) -> Option<&Text>
+        ensures { MatchOption result (self.now.target ≡ None) (λ t. self.now.target ≡ Some t.now) }
+    {
+        self.target.as_ref()
+    }
+
+    /// The names that it asks of that module, in order.
+    pub fn asked(&self) -> &[Text]
+        ensures { result.now ≡ self.now.asked }
+    {
+        &self.asked
+    }
+}
+
 /// A file without a syntax fault.
 #[derive(Drop)]
 pub struct FileRead<T> {
@@ -37,4 +61,20 @@ impl<T> Model for FileRead<T> {
     ghost Value = { Read T };
 
     ghost view = { λ r. record { loads = r.loads.items; tree = r.tree } };
+}
+
+impl<T> FileRead<T> {
+    /// Its loads, in order.
+    pub fn loads(&self) -> &[LoadStatement]
+        ensures { result.now ≡ self.now.loads }
+    {
+        &self.loads
+    }
+
+    /// What of it is evaluated.
+    pub fn tree(&self) -> &T
+        ensures { result.now ≡ self.now.tree }
+    {
+        &self.tree
+    }
 }

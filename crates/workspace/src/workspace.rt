@@ -1,6 +1,6 @@
 //! Workspaces: the files that are analysed.
 
-ghost use Rattle.std.specs.Prelude.{◌≡◌, ◌∷◌, ◌++◌, [], true, false, IfOk, OnOk, OnErr, Err};
+ghost use Rattle.std.specs.Prelude.{◌≡◌, ◌∷◌, ◌++◌, [], true, false, length, IfOk, OnOk, OnErr, Err};
 ghost use Rattle.std.specs.List.{IsDistinct};
 ghost use Rattle.std.specs.Str.{bytes_eq};
 ghost use Rattle.workspace.specs.Files.{file_pairs};
@@ -187,6 +187,14 @@ impl Workspace {
             }
         }
         files.finish(alloc)
+    }
+
+    /// How many files it has.
+    pub fn count(&self) -> usize
+        ensures count { result ≡ length self.now }
+        ensures legal { IsWorkspace self.now }
+    {
+        self.files.len()
     }
 
     /// Its files, in the order of the pairs that it was made of.

@@ -1,0 +1,39 @@
+//! The order in which modules are evaluated.
+ghost use Rattle.std.specs.Prelude.{IfOk};
+ghost use Rattle.components.specs.Components.{AreInside};
+ghost use Rattle.load_graph.specs.Plan.{IsPlan};
+
+use components::Components;
+use edges::Adjacency;
+use levels::{heights_of, order_by};
+use std::alloc::{AllocError, Global};
+
+/// Who loads whom, how high each module stands above those that it loads, and the modules in ascending order of their
+/// heights.
+#[derive(Drop)]
+pub struct Plan {
+    pub components: Components,
+    pub heights: Vec<usize>,
+    pub order: Vec<usize>,
+}
+
+impl Plan {
+    /// The plan for modules that load each other so.
+    ///
+    /// # Errors
+    ///
+    /// `AllocError` where memory was refused.
+    pub fn of(alloc: Global, deps: Adjacency) -> Result<Plan, AllocError>
+        requires inside { AreInside deps }
+        ensures { IfOk result (λ p. IsPlan deps p.components p.heights.items p.order.items) }
+    {
+        let components = Components::of(alloc, deps)?;
+        let heights = heights_of(alloc, &components)?;
+        let order = order_by(alloc, &heights)?;
+        Ok(Plan {
+            components,
+            heights,
+            order,
+        })
+    }
+}

@@ -1,0 +1,4 @@
+pub mod Lookups
+pub mod ByNumber
+pub mod Doing
+pub mod Outcomes

@@ -1,0 +1,131 @@
+-- What modules came to, sorted out and found by path.
+use Rattle.std.proofs.Common.{◌≡◌, ℕ, zero, suc, ◌+◌, ◌<◌, ◌≤◌, inl, inr, true, false, ◌||◌, List, [], ◌∷◌, ◌++◌, length, map, take, get_or, set, add-one, Option, Some, None, Result, sym, ap, ◌∙◌, subst, arith, refl, true≢false}
+use Rattle.std.specs.Prelude.{if◌then◌else◌, MatchOption}
+use Rattle.std.specs.Option.{option_copied}
+use Rattle.std.specs.Borrow.{Bor}
+use Rattle.std.specs.Str.{bytes_eq}
+use Rattle.std.specs.List.{list_any}
+use Rattle.std.proofs.lemmas.List.{append-nil, append_assoc, get_or_default, get_or-set_other, get_or_past, map_more}
+use Rattle.std.proofs.lemmas.Slice.Eq.{bytes_eq-Decides}
+use Rattle.edges.specs.Rows.{has}
+use Rattle.edges.proofs.Tests.{cases_of}
+use Rattle.edges.proofs.Lists.{below_or_past}
+use Rattle.components.specs.Components.{AreInside, Found}
+use Rattle.loading.specs.Loads.{Path, Read, LoadFault}
+use Rattle.loading.specs.Modules.{Sources, value, module_of}
+use Rattle.load_graph.specs.Paths.{ArePaths, IsAt, listed, entry}
+use Rattle.load_graph.proofs.Finding.{entry_at, no_entry}
+use Rattle.modules.specs.declared.sorting.FileFault.{FileFault}
+use Rattle.modules.specs.Tables.{joined}
+use Rattle.modules.specs.Modules.{ModulesView, module_in, value_in, fault_in, faults_in, faults_of, modules_of, AreFound}
+use Rattle.load_graph.specs.Plan.{IsPlan}
+use Rattle.modules.specs.Evaluation.{Evaluation}
+use Rattle.modules.specs.Loading.{AreLinks, IsReady}
+
+-- ---- sorting out
+
+faults_suc : {M S K : Type 0} (ps : List Path) (rs : List (Option (Result M (LoadFault S K)))) (i : ℕ) → i < length ps → i < length rs
+    → faults_in (take (suc i) ps) (take (suc i) rs) ≡ faults_in (take i ps) (take i rs) ++ fault_in (get_or ps i []) (get_or rs i None)
+faults_suc [] rs i low low' = absurd (omega (arith, low))
+faults_suc (p ∷ ps) [] i low low' = absurd (omega (arith, low'))
+faults_suc (p ∷ ps) (r ∷ rs) zero low low' = append-nil (fault_in p r)
+faults_suc (p ∷ ps) (r ∷ rs) (suc i) low low' =
+    ap (λ l. fault_in p r ++ l) (faults_suc ps rs i (omega (arith, low)) (omega (arith, low')))
+    ∙ sym (append_assoc (fault_in p r) (faults_in (take i ps) (take i rs)) (fault_in (get_or ps i []) (get_or rs i None)))
+
+-- ---- a turn over what is done
+
+module _ {M S K : Type 0} (ps : List Path) (initial done : List (Option (Result M (LoadFault S K)))) (n : ℕ) (low : n < length ps) (size : length initial ≡ length ps) (size' : length done ≡ length initial)
+    (rest : (m : ℕ) → n ≤ m → get_or done m None ≡ get_or initial m None) (o d : Option (Result M (LoadFault S K))) (taken : o ≡ d) (read : d ≡ get_or done n d) where
+  outcome_is : o ≡ get_or initial n None
+  outcome_is = taken ∙ read ∙ get_or_default done n d None (omega (arith, low, size, size')) ∙ rest n (omega arith)
+
+  pub rest_more : (m : ℕ) → n + 1 ≤ m → get_or (set done n None) m None ≡ get_or initial m None
+  rest_more m past = get_or-set_other done n m None None (omega (arith, past)) ∙ rest m (omega (arith, past))
+
+  pub values_more : (values new : List (Option M)) → values ≡ map value_in (take n initial) → new ≡ values ++ value_in o ∷ [] → new ≡ map value_in (take (n + 1) initial)
+  values_more values new was more =
+      more ∙ ap (λ l. l ++ value_in o ∷ []) was ∙ ap (λ x. map value_in (take n initial) ++ value_in x ∷ []) outcome_is ∙ sym (map_more value_in initial n None (omega (arith, low, size)))
+
+  pub faults_more : (p : Path) (faults new : List (FileFault S K)) → p ≡ get_or ps n p → faults ≡ faults_in (take n ps) (take n initial) → new ≡ faults ++ fault_in p o → new ≡ faults_in (take (n + 1) ps) (take (n + 1) initial)
+  faults_more p faults new at was more =
+      more ∙ ap (λ l. l ++ fault_in p o) was
+      ∙ ap (λ x. faults_in (take n ps) (take n initial) ++ fault_in x o) (at ∙ get_or_default ps n p [] low)
+      ∙ ap (λ x. faults_in (take n ps) (take n initial) ++ fault_in (get_or ps n []) x) outcome_is
+      ∙ sym (ap (λ k. faults_in (take k ps) (take k initial)) (add-one n) ∙ faults_suc ps initial n low (omega (arith, low, size)))
+
+module _ {M S K : Type 0} (f : Path → Result M (LoadFault S K)) where
+  pub faults_are : (ps : List Path) → faults_in ps (map (λ p. Some (f p)) ps) ≡ faults_of f ps
+  faults_are [] = refl
+  faults_are (p ∷ ps) = ap (λ l. fault_in p (Some (f p)) ++ l) (faults_are ps)
+
+  pub values_are : (ps : List Path) → ◌≡◌ {A = List (Option M)} (map value_in (map (λ p. Some (f p)) ps)) (map (λ p. value (Some (f p))) ps)
+  values_are [] = refl
+  values_are (p ∷ ps) = ap (λ l. value (Some (f p)) ∷ l) (values_are ps)
+
+-- what all modules come to
+pub all_modules : {T M S K : Type 0} (w : Sources T M S K) (values : List (Option M)) (faults : List (FileFault S K)) (done : List (Option (Result M (LoadFault S K))))
+    → done ≡ map (λ p. Some (module_of w p)) w.modules → values ≡ map value_in done → faults ≡ faults_in w.modules done
+    → ◌≡◌ {A = ModulesView M S K} (record { paths = w.modules; values = values; faults = faults }) (modules_of w)
+all_modules w values faults done is vs fs =
+    let a = vs ∙ ap (map value_in) is ∙ values_are (module_of w) w.modules in
+    let b = fs ∙ ap (faults_in w.modules) is ∙ faults_are (module_of w) w.modules in
+    λ i. record { paths = w.modules; values = a i; faults = b i }
+
+-- ---- found by path
+
+module _ {T M S K : Type 0} (w : Sources T M S K) where
+  at_listed : (ps : List Path) (q : Path) → joined (entry ps (map (λ p. value (Some (module_of w p))) ps) q) ≡ value (elim (list_any (bytes_eq q) ps) [ true ↦ Some (module_of w q) | false ↦ None ])
+  at_listed [] q = refl
+  at_listed (p ∷ ps) q = elim (cases_of (bytes_eq q p)) [
+    | inl here ↦
+        ap (λ b. joined (if b then Some (value (Some (module_of w p))) else entry ps (map (λ p. value (Some (module_of w p))) ps) q)) here
+        ∙ ap (λ x. value (Some (module_of w x))) (sym ((bytes_eq-Decides q p).0 here))
+        ∙ sym (ap (λ b. value (elim (b || list_any (bytes_eq q) ps) [ true ↦ Some (module_of w q) | false ↦ None ])) here)
+    | inr other ↦
+        ap (λ b. joined (if b then Some (value (Some (module_of w p))) else entry ps (map (λ p. value (Some (module_of w p))) ps) q)) other
+        ∙ at_listed ps q
+        ∙ sym (ap (λ b. value (elim (b || list_any (bytes_eq q) ps) [ true ↦ Some (module_of w q) | false ↦ None ])) other)
+  ]
+
+  pub are_found : AreFound w
+  are_found q = at_listed w.modules q
+
+-- ---- what is read of modules
+
+module _ {M S K : Type 0} (ps : List Path) (values : List (Option M)) (faults : List (FileFault S K)) (m : ModulesView M S K) (is : ◌≡◌ {A = ModulesView M S K} (record { paths = ps; values = values; faults = faults }) m) where
+  read_as : (r : Option (Bor M)) (o x : Option M) → option_copied r ≡ o → x ≡ o → MatchOption r (x ≡ None) (λ b. x ≡ Some b.now)
+  read_as None o x e f = f ∙ sym e
+  read_as (Some b) o x e f = f ∙ sym e
+
+  pub found_there : ArePaths ps → length values ≡ length ps → (q : Path) (n k : ℕ) → IsAt ps q n → k ≡ n → (d : Option M) (r : Option (Bor M)) → d ≡ get_or values k d → option_copied r ≡ d
+      → MatchOption r (module_in m q ≡ None) (λ b. module_in m q ≡ Some b.now)
+  found_there are size q n k at same d r read copied =
+      let low : n < length values = let a = at.0 in omega (arith, a, size) in
+      read_as r d (module_in m q) copied
+      (ap (λ x. module_in x q) (sym is) ∙ ap (λ x. joined (entry ps values x)) (sym at.1) ∙ ap joined (entry_at ps values n None are.distinct at.0 low)
+      ∙ ap (λ x. get_or values x None) (sym same) ∙ sym (read ∙ get_or_default values k d None (omega (arith, low, same))))
+
+  pub found_nowhere : (q : Path) → listed ps q ≡ false → module_in m q ≡ None
+  found_nowhere q none = ap (λ x. module_in x q) (sym is) ∙ ap joined (no_entry ps values q none)
+
+-- ---- who loads whom, before it is planned
+
+first_of : {X : Type 0} (xs : List X) (n : ℕ) → n < length xs → X
+first_of [] n low = absurd (omega (arith, low))
+first_of (x ∷ xs) n low = x
+
+pub inside_of : {T E : Type 0} (paths : List Path) (files : List (Result (Read T) E)) (deps : List (List ℕ)) → length files ≡ length paths → AreLinks paths files deps → AreInside deps
+inside_of paths files deps size links n d h = elim (below_or_past n (length files)) [
+  | inl low ↦ let inside = (links.rows n (get_or files n (first_of files n low)) low).inside d h in let s = links.size in omega (arith, inside, s, size)
+  | inr past ↦ let none = get_or_past deps n [] (let s = links.size in omega (arith, s, past)) in absurd (true≢false (sym h ∙ ap (λ ds. has ds d) none))
+]
+
+pub ready_of : {T M S K : Type 0} (e : Evaluation T M S K) (paths read : List Path) (files files' files'' : List (Result (Read T) (S × ℕ))) (deps : List (List ℕ)) (f : Found) (hs order : List ℕ) → read ≡ paths → ArePaths paths
+    → files ≡ map e.read read → files' ≡ files → files'' ≡ files → AreLinks paths files' deps → IsPlan deps f hs order → IsReady e paths files'' f hs order
+ready_of e paths read files files' files'' deps f hs order same are is is' is'' links plan = record {
+  paths_are = are;
+  files_are = is'' ∙ is ∙ ap (map e.read) same;
+  links = subst (AreLinks paths files'') (sym plan.same) (subst (λ fs. AreLinks paths fs deps) (is' ∙ sym is'') links);
+  plan = subst (λ g. IsPlan g f hs order) (sym plan.same) plan;
+}

@@ -1,0 +1,4 @@
+pub mod Tables
+pub mod Evaluation
+pub mod Loading
+pub mod Modules
