@@ -1,6 +1,6 @@
 //! Readiness words and result cells of a dependency graph, shared by threads.
 //!
-//! A [`Board`] is made from a plan, which gives each node's dependencies. It has one atomic word a
+//! A [`Board`] is made over a [`Plan`], which gives each node's dependencies. It has one atomic word a
 //! node, which counts the edges that are missing and becomes a mark once the node is started; one
 //! word that counts unfinished nodes; one word for the halt; and a result cell a node, which is set
 //! once. Each thread works with a [`Pass`] of its own. What every contract speaks of is the pass's
@@ -22,6 +22,7 @@ mod laws;
 mod memory;
 mod opening;
 mod pass;
+mod plan;
 mod plays;
 mod seats;
 mod steps;
@@ -33,3 +34,4 @@ pub use closed::Closed;
 pub use journal::Journal;
 pub use laws::{counts_are_differences, first_state_is_lawful};
 pub use pass::{Pass, Published};
+pub use plan::Plan;

@@ -11,6 +11,7 @@ use crate::answers::NoMemory;
 use crate::board::Board;
 use crate::memory::fresh;
 use crate::pass::Pass;
+use crate::plan::{Lists, Plan};
 use crate::plays::BoardSeat;
 use crate::seats::split_first;
 use crate::table::open_table;
@@ -48,6 +49,24 @@ impl<V: Drop> Board<V> {
             × All (IsNew t.0) t.1.items) }
         ensures of { IfOk result (λ t. All (IsPassOf t.0) t.1.items) }
     {
+        Board::over(alloc, &Lists { lists: plan }, passes)
+    }
+
+    /// The same for a plan in whatever form.
+    pub fn over<P: Plan>(
+        alloc: Global,
+        plan: &P,
+        passes: usize,
+    ) -> Result<(Board<V>, Vec<Pass<V>>), NoMemory>
+        requires distinct { (n d : ℕ) → times d (deps (P.lists plan.now) n) ≤ 1 }
+        requires inside { (n d : ℕ) → 0 < times d (deps (P.lists plan.now) n)
+            → d < length (P.lists plan.now) }
+        requires some { 0 < passes }
+        ensures board { IfOk result (λ t. (t.0.plan ≡ P.lists plan.now) × (t.0.passes ≡ passes)) }
+        ensures passes { IfOk result (λ t. (length t.1.items ≡ passes)
+            × All (IsNew t.0) t.1.items) }
+        ensures of { IfOk result (λ t. All (IsPassOf t.0) t.1.items) }
+    {
         let Ok((board, seat)) = Board::without_passes(alloc, plan, passes) else {
             return Err(NoMemory);
         };
@@ -58,20 +77,20 @@ impl<V: Drop> Board<V> {
     }
 
     /// A board, and a seat with all journals.
-    fn without_passes(
+    fn without_passes<P: Plan>(
         alloc: Global,
-        plan: &[Vec<usize>],
+        plan: &P,
         passes: usize,
     ) -> Result<(Board<V>, BoardSeat), AllocError>
-        requires distinct { (n d : ℕ) → times d (deps (plan_in plan.now) n) ≤ 1 }
-        requires inside { (n d : ℕ) → 0 < times d (deps (plan_in plan.now) n)
-            → d < length plan.now }
+        requires distinct { (n d : ℕ) → times d (deps (P.lists plan.now) n) ≤ 1 }
+        requires inside { (n d : ℕ) → 0 < times d (deps (P.lists plan.now) n)
+            → d < length (P.lists plan.now) }
         requires some { 0 < passes }
-        ensures board { IfOk result (λ t. (t.0.plan ≡ plan_in plan.now) × (t.0.passes ≡ passes)) }
+        ensures board { IfOk result (λ t. (t.0.plan ≡ P.lists plan.now) × (t.0.passes ≡ passes)) }
         ensures seat { IfOk result (λ t. HasJournals t.0.table (blanks t.0.plan passes) t.1) }
     {
         let (table, seat) = open_table(alloc, plan, passes)?;
-        let cells = cells_for(alloc, plan.len())?;
+        let cells = cells_for(alloc, plan.nodes())?;
         Ok((
             Board {
                 table,

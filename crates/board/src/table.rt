@@ -1,14 +1,16 @@
 //! The table of a board, from its plan to its last words.
 //!
 //! Word n is that of node n; after the nodes come the count and the halt.
-ghost use Rattle.std.specs.Prelude.{◌≡◌, ℕ, ◌+◌, ◌^◌, ◌<◌, ◌≤◌, List, [], ◌∷◌, length, slice_index};
+ghost use Rattle.std.specs.Prelude.{◌≡◌, ℕ, ◌+◌, ◌^◌, ◌<◌, ◌≤◌, List, [], ◌∷◌, length, map};
+ghost use Rattle.std.specs.Prelude.{slice_index};
 ghost use Rattle.std.specs.Prelude.{IfOk};
-ghost use Rattle.board.specs.Rule.{plan_in, blanks, first_words, IsBoardState};
+ghost use Rattle.board.specs.Rule.{blanks, first_words, IsBoardState};
 ghost use Rattle.board.specs.Journal.{times, deps};
 ghost use Rattle.board.specs.Seats.{HasJournals};
 
 use crate::journal::Law;
 use crate::key::{BoardKey, Describes};
+use crate::plan::Plan;
 use crate::plays::{BoardSeat, View};
 use atomic_table::Table;
 use std::alloc::{AllocError, Global};
@@ -17,49 +19,56 @@ pub type BoardTable = Table<(), View, BoardKey, Law, Global>;
 
 /// What a board is asked for: a plan, and how many passes.
 #[derive(Drop)]
-struct Asked<'a> {
-    plan: &'a [Vec<usize>],
+struct Asked<'a, P> {
+    plan: &'a P,
     passes: usize,
 }
 
-impl<'a> Describes<Asked<'a>> for Law {
-    ghost use Rattle.board.specs.Rule.{plan_in};
-
-    ghost plan = { λ a. plan_in a.plan.now };
+impl<'a, P: Plan> Describes<Asked<'a, P>> for Law {
+    ghost plan = { λ a. P.lists a.plan.now };
 
     ghost passes = { λ a. a.passes };
 }
 
-fn words_of(alloc: Global, plan: &[Vec<usize>]) -> Result<Vec<u64>, AllocError>
-    ensures { IfOk result (λ v. v.items ≡ first_words (plan_in plan.now)) }
+/// How many dependencies each node has.
+fn degrees<P: Plan>(alloc: Global, plan: &P) -> Result<Vec<u64>, AllocError>
+    ensures { IfOk result (λ v. v.items ≡ map length (P.lists plan.now)) }
 {
-    let mut words = Vec::new(alloc);
-    for d in plan {
-        words.push(d.len() as u64)?;
+    let nodes = plan.nodes();
+    let mut degrees = Vec::with_capacity(alloc, nodes.saturating_add(2))?;
+    for n in 0..nodes {
+        degrees.push(plan.dependencies(n) as u64)?;
     }
-    words.push(plan.len() as u64)?;
+    Ok(degrees)
+}
+
+fn words_of<P: Plan>(alloc: Global, plan: &P) -> Result<Vec<u64>, AllocError>
+    ensures { IfOk result (λ v. v.items ≡ first_words (P.lists plan.now)) }
+{
+    let mut words = degrees(alloc, plan)?;
+    words.push(plan.nodes() as u64)?;
     words.push(0)?;
     Ok(words)
 }
 
 /// A table with the first words of the plan, and a seat with a blank journal for each pass.
-pub fn open_table(
+pub fn open_table<P: Plan>(
     alloc: Global,
-    plan: &[Vec<usize>],
+    plan: &P,
     passes: usize,
 ) -> Result<(BoardTable, BoardSeat), AllocError>
-    requires distinct { (n d : ℕ) → times d (deps (plan_in plan.now) n) ≤ 1 }
-    requires inside { (n d : ℕ) → 0 < times d (deps (plan_in plan.now) n)
-        → d < length (plan_in plan.now) }
-    ensures size { IfOk result (λ t. (t.0.shared.table_id.words ≡ length plan.now + 2)
+    requires distinct { (n d : ℕ) → times d (deps (P.lists plan.now) n) ≤ 1 }
+    requires inside { (n d : ℕ) → 0 < times d (deps (P.lists plan.now) n)
+        → d < length (P.lists plan.now) }
+    ensures size { IfOk result (λ t. (t.0.shared.table_id.words ≡ length (P.lists plan.now) + 2)
         × (t.0.shared.table_id.slots ≡ 0)) }
-    ensures key { IfOk result (λ t. (t.0.shared.key.plan ≡ plan_in plan.now)
+    ensures key { IfOk result (λ t. (t.0.shared.key.plan ≡ P.lists plan.now)
         × (t.0.shared.key.passes ≡ passes)) }
     ensures seat { IfOk result (λ t. HasJournals t.0.shared.table_id
-        (blanks (plan_in plan.now) passes) t.1) }
+        (blanks (P.lists plan.now) passes) t.1) }
 {
     let words = words_of(alloc, plan)?;
-    let key = BoardKey::of::<Asked, Law>(&Asked { plan, passes });
+    let key = BoardKey::of::<Asked<P>, Law>(&Asked { plan, passes });
     Table::of_words(alloc, words.as_slice(), &key)
 }
 

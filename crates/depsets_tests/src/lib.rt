@@ -2,4 +2,6 @@
 #![tactic(auto)]
 
 #[cfg(test)]
+mod deep;
+#[cfg(test)]
 mod listings;

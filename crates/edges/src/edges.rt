@@ -154,30 +154,4 @@ impl Edges {
     {
         &self.ready
     }
-
-    /// The dependencies of the nodes that are not cyclic, a list a node.
-    ///
-    /// It fails where the allocator refuses memory.
-    pub fn plan(&self, alloc: Global) -> Result<Vec<Vec<usize>>, AllocError>
-        ensures value { IfOk result (λ v. lists v.items ≡ take self.now.acyclic self.now.deps) }
-        ensures order { IsOrdered self.now.deps self.now.acyclic }
-        ensures graph { IsGraph self.now.deps }
-    {
-        let mut plan = Vec::with_capacity(alloc, self.acyclic)?;
-        for n in 0..self.acyclic {
-            plan.push(numbers(alloc, self.deps.row(NodeId::of(n)))?)?;
-        }
-        Ok(plan)
-    }
-}
-
-/// The numbers of these nodes.
-fn numbers(alloc: Global, nodes: &[NodeId]) -> Result<Vec<usize>, AllocError>
-    ensures { IfOk result (λ v. v.items ≡ nodes.now) }
-{
-    let mut numbers = Vec::with_capacity(alloc, nodes.len())?;
-    for node in nodes {
-        numbers.push(node.number())?;
-    }
-    Ok(numbers)
 }

@@ -111,18 +111,3 @@ fn a_diamond_has_its_edges_both_ways(rt: HostRuntime) -> Result<(), Fail> {
     assert!(rt; edges.users(NodeId::of(3)).is_empty());
     Ok(())
 }
-
-#[test]
-fn the_plan_is_of_the_nodes_that_are_not_cyclic(rt: HostRuntime) -> Result<(), Fail> {
-    let alloc = rt.alloc();
-    let rows: [&[usize]; 4] = [&[0], &[2, 3], &[3], &[]];
-    let Some(graph) = small(alloc, &rows)? else {
-        panic!(rt; "no graph")
-    };
-    let plan = graph.edges.plan(alloc)?;
-    assert!(rt; plan.len() == 3);
-    assert!(rt; plan[0].is_empty());
-    assert!(rt; plan[1].as_slice() == [0].as_slice());
-    assert!(rt; plan[2].as_slice() == [1, 0].as_slice());
-    Ok(())
-}

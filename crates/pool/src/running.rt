@@ -9,6 +9,7 @@ use crate::analyse::Analyse;
 use crate::gate::Gate;
 use crate::gathered::Gathered;
 use crate::idle::Idle;
+use crate::opening::open_board;
 use crate::threads::in_threads;
 use crate::worker::Site;
 use board::{Board, NoMemory, Pass};
@@ -95,7 +96,7 @@ where
     let Ok(cycle) = analyse.cyclic(alloc) else {
         return Err(Refused::NoMemory);
     };
-    let Ok((board, passes)) = open(alloc, graph, ends.len() + 1) else {
+    let Ok((board, passes)) = open_board(alloc, graph, ends.len() + 1) else {
         return Err(Refused::NoMemory);
     };
     let passes = by_workers(rt, alloc, &board, graph, analyse, gate, ends, passes)?;
@@ -139,23 +140,6 @@ fn spread<S: Shelf>(graph: &Edges, ends: &mut Vec<S>) -> Result<(), NoMemory>
         next = if next + 1 < ends.len() { next + 1 } else { 0 };
     }
     Ok(())
-}
-
-/// A board for the nodes that are not cyclic, and so many passes of it.
-fn open<V: Drop>(
-    alloc: Global,
-    graph: &Edges,
-    passes: usize,
-) -> Result<(Board<V>, Vec<Pass<V>>), NoMemory>
-    requires some { 0 < passes }
-    ensures plan { IfOk result (λ t. t.0.plan ≡ take graph.now.acyclic graph.now.deps) }
-    ensures count { IfOk result (λ t. (t.0.passes ≡ passes) × (length t.1.items ≡ passes)) }
-    ensures new { IfOk result (λ t. All (IsNew t.0) t.1.items) }
-{
-    match graph.plan(alloc) {
-        Ok(plan) => Board::new(alloc, &plan, passes),
-        Err(_) => Err(NoMemory),
-    }
 }
 
 /// All passes of the board, after workers at these ends have ended. The last pass is run's own.

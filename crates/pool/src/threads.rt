@@ -12,10 +12,16 @@ use crate::gate::Gate;
 use crate::running::Refused;
 use crate::worker::{Ending, Site, run_worker};
 use board::{Board, Pass};
+use core::thread::Stack;
 use shelves::Shelf;
 use std::sync::Wait;
 use std::thread;
 use std::thread::{Promise, PromisedHandle, Scope, Threads};
+
+/// The stack of a worker's thread, in bytes. Nothing that a worker runs recurses by the length of an
+/// input: values are at most 64 levels deep and depsets at most 1,000, and such a depset is made,
+/// listed and let go on an eighth of this.
+const STACK: usize = 2 * 1024 * 1024;
 
 /// What a worker's thread promises: its pass is of the board, each node that it finished has the
 /// step of what the pass knows of the node's dependencies, and the pass says how the worker ended.
@@ -55,8 +61,10 @@ where
         board: site.board,
         analyse: site.analyse,
     };
-    scope
-        .spawn_with(
+    Stack::new()
+        .stack_size(STACK)
+        .spawn_scoped_with(
+            scope,
             duty,
             move || -> (Pass<V>, Ending)
                 requires shelf { S.nodes end ≡ length site.now.graph.now.deps }

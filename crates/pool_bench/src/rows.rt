@@ -2,10 +2,9 @@
 ghost use Rattle.std.specs.Prelude.{◌≡◌, length, IfSome};
 
 use crate::work::Busy;
-use board::Board;
 use edges::{Edges, Numbered};
 use fakes::graphs::layers;
-use pool::{Gathered, NoGate, NodeId, run};
+use pool::{Gathered, NoGate, NodeId, open_board, run};
 use std::alloc::{AllocError, Global};
 use std::io;
 use std::rt::Clock;
@@ -81,11 +80,9 @@ fn open_and_close<R: Clock>(
     workers: usize,
 ) -> io::Result<(u128, u128)> {
     let start = Instant::now(rt)?;
-    let plan = graph.plan(alloc)?;
-    let Ok((board, passes)) = Board::<u64>::new(alloc, &plan, workers.min(64) + 1) else {
+    let Ok((board, passes)) = open_board::<u64>(alloc, graph, workers.min(64) + 1) else {
         return Ok((0, 0));
     };
-    drop(plan);
     let opened = start.elapsed(rt)?.as_nanos();
     let start = Instant::now(rt)?;
     let closed = board.close(passes);
