@@ -1,5 +1,5 @@
 -- Lists of notes.
-use Rattle.std.proofs.Common.{◌-◌, ◌/◌, ◌%◌, ◌≤◌, inl, false, true≢false, get_or-set_other, ◌≢◌, ◌≡◌, ℕ, zero, suc, ◌+◌, ◌*◌, ◌<◌, true, List, [], ◌∷◌, length, map, set, get_or, sym, refl, ap, ◌∙◌, subst, arith}
+use Rattle.std.proofs.Common.{◌-◌, ◌/◌, ◌%◌, ◌≤◌, inl, false, true≢false, get_or-set_other, ◌≢◌, ◌≡◌, ℕ, zero, suc, ◌+◌, ◌*◌, ◌<◌, true, List, [], ◌∷◌, length, set, get_or, sym, refl, ap, ◌∙◌, subst, arith}
 use Rattle.std.specs.Prelude.{Option, None, Some}
 use Rattle.std.proofs.lemmas.List.{map-set, length-map, set-get_or}
 use Rattle.std.proofs.lemmas.Grind.{get_or-set_at}

@@ -169,9 +169,9 @@ pub fn fresh<V>(alloc: Global, cells: &[OnceBox<V>]) -> Result<Memory<V>, AllocE
     ensures { IfOk result (λ m. (m.cells ≡ map cell_name cells.now)
         × (m.known ≡ map (λ _. None) cells.now)) }
 {
-    let mut notes = Vec::new(alloc);
+    let mut notes = Vec::with_capacity(alloc, cells.len())?;
     for cell in cells {
-        notes.push(cell.note())?;
+        notes.push_reserved(cell.note());
     }
     let flags = Flags::new(alloc, cells.len())?;
     Ok(Memory { notes, flags })

@@ -21,9 +21,9 @@ use std::alloc::{AllocError, Global};
 fn cells_for<V: Drop>(alloc: Global, nodes: usize) -> Result<Vec<OnceBox<V>>, AllocError>
     ensures { IfOk result (λ v. length v.items ≡ nodes) }
 {
-    let mut cells = Vec::new(alloc);
+    let mut cells = Vec::with_capacity(alloc, nodes)?;
     for _ in 0..nodes {
-        cells.push(OnceBox::new(alloc))?;
+        cells.push_reserved(OnceBox::new(alloc));
     }
     Ok(cells)
 }
