@@ -87,7 +87,8 @@ impl<'a> Found<'a> {
     /// These dependencies.
     fn new(alloc: Global, dependencies: &'a [Dependency<'a>]) -> Result<Found<'a>, AllocError>
         ensures its { IfOk result (λ f. f.dependencies.now ≡ dependencies.now) }
-        ensures found { IfOk result (λ f. AreFound (dependencies_seen f.dependencies.now) f.by_label) }
+        ensures found { IfOk result
+            (λ f. AreFound (dependencies_seen f.dependencies.now) f.by_label) }
     {
         let by_label = by_label(alloc, dependencies)?;
         Ok(Found {

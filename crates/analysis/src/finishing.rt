@@ -12,8 +12,24 @@ use depsets::{Depset, FileRef, Id, Order};
 use plain::{Shared, Text};
 use std::alloc::{AllocError, Global};
 use targets::{Actions, Outcome, Providers, TargetFault};
-use values::{Branch, Frozen, Held, Leaf, Node, Provider};
+use values::{Branch, Frozen, Held, Leaf, Names, Node, Provider, ProviderRef};
 use workspace::Label;
+
+/// The provider `DefaultInfo`, which no module makes. It is made once and shared.
+pub fn default_info(alloc: Global) -> Result<Shared<Provider>, AllocError>
+    ensures { IfOk result (λ p. p ≡ default_info) }
+{
+    let mut fields = Names::new(alloc);
+    fields.push(Text::new(alloc, "files")?)?;
+    Shared::new(
+        alloc,
+        Provider {
+            id: None,
+            name: ProviderRef::DefaultInfo,
+            fields,
+        },
+    )
+}
 
 /// The outcome of a target whose implementation returned this, declared these files and registered these actions.
 ///
@@ -112,7 +128,8 @@ fn whole(
     actions: Actions,
 ) -> Result<Outcome, AllocError>
     requires { info.now ≡ default_info }
-    ensures { IfOk result (λ o. o ≡ Outcome.Done (with_default_info label.now instances.now) actions) }
+    ensures { IfOk result (λ o. o
+        ≡ Outcome.Done (with_default_info label.now instances.now) actions) }
 {
     let providers = with_default_info(alloc, label, info, instances)?;
     Ok(Outcome::Done(providers, actions))

@@ -14,6 +14,6 @@ mod returned;
 
 pub use checks::first_refused;
 pub use dependency::{Dependency, failed_labels};
-pub use finishing::finish;
+pub use finishing::{default_info, finish};
 pub use instances::offers;
 pub use noted::dependencies;

@@ -36,7 +36,8 @@ fn note_value<'a>(
     labels: &mut Sequence<Shared<Label>>,
 ) -> Result<(), AllocError>
     requires { IsNoted labels.old seen.old }
-    ensures labels { OnOk result (labels.new ≡ keep_all same_label labels.old (labels_in value.now)) }
+    ensures labels { OnOk result (labels.new
+        ≡ keep_all same_label labels.old (labels_in value.now)) }
     ensures noted { OnOk result (IsNoted labels.new seen.new) }
 {
     match value {

@@ -17,7 +17,8 @@ pub(crate) fn first_unmade<'a>(
     actions: &[Action],
     files: &'a [Shared<FileRef>],
 ) -> Result<Option<&'a Shared<FileRef>>, AllocError>
-    ensures { IfOk result (λ f. option_map (λ x. x.now.path) f ≡ first_unmade actions.now files.now) }
+    ensures { IfOk result (λ f. option_map (λ x. x.now.path) f
+        ≡ first_unmade actions.now files.now) }
 {
     let made = outputs(alloc, actions)?;
     for file in files {

@@ -1,0 +1,4 @@
+pub mod Finite
+pub mod Kept
+pub mod Owners
+pub mod Together
