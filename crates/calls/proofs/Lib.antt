@@ -1,2 +1,3 @@
 pub mod Binds
 pub mod Turns
+pub mod Tuples

@@ -70,7 +70,7 @@ pub fn keys(alloc: Global, state: &mut State, dict: &Value) -> Result<Value, Bro
     new_list(state, items)
 }
 
-fn keys_in(alloc: Global, dict: &Seen<'_>) -> Result<Items, AllocError>
+pub(crate) fn keys_in(alloc: Global, dict: &Seen<'_>) -> Result<Items, AllocError>
     ensures { IfOk result (λ items. items ≡ map Value.Key (keys_of (entries_in (seen dict.now)))) }
 {
     match dict {
@@ -111,7 +111,7 @@ pub fn values(alloc: Global, state: &mut State, dict: &Value) -> Result<Value, B
     new_list(state, items)
 }
 
-fn values_in(alloc: Global, dict: &Seen<'_>) -> Result<Items, AllocError>
+pub(crate) fn values_in(alloc: Global, dict: &Seen<'_>) -> Result<Items, AllocError>
     ensures { IfOk result (λ items. items ≡ map (λ e. e.1) (entries_in (seen dict.now))) }
 {
     match dict {

@@ -10,6 +10,8 @@ mod binding;
 mod built_ins;
 mod dicts;
 mod functions;
+mod methods;
+mod pairs;
 mod ranges;
 
 pub use arguments::{Parameter, argument, got, only, positions};
@@ -17,4 +19,6 @@ pub use binding::check_arguments;
 pub use built_ins::{fail, len, list, str};
 pub use dicts::{get, keys, values};
 pub use functions::{call_built_in, call_provider};
+pub use methods::call_method;
+pub use pairs::items;
 pub use ranges::range;

@@ -4,12 +4,12 @@
 //! fault, and after such a refusal, the heap is as it was.
 #![tactic(auto)]
 
+mod affixes;
 mod joins;
 mod members;
 mod splits;
-mod tests;
 
+pub use affixes::{ends_with, starts_with};
 pub use joins::join;
 pub use members::member;
 pub use splits::split;
-pub use tests::{ends_with, starts_with};

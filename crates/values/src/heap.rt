@@ -2,7 +2,7 @@
 //!
 //! A change is refused by the first of `type`, `frozen`, `iterating`, `index` and `large`, and a refused
 //! change leaves the heap as it was. Each change finds its cell, and has the one cell changed.
-ghost use Rattle.std.specs.Prelude.{◌≡◌, ◌+◌, ◌-◌, ◌++◌, ◌∷◌, [], ◌<◌, Ok, Some, None, length, slice_get, option_copied, IfOk, IfSome, OnErr, MatchResult};
+ghost use Rattle.std.specs.Prelude.{◌≡◌, ◌+◌, ◌-◌, ◌++◌, ◌∷◌, [], ◌<◌, Ok, Some, None, length, take, slice_get, option_copied, IfOk, IfSome, OnErr, MatchResult};
 ghost use Rattle.values.specs.Ticking.{FaultOr};
 ghost use Rattle.values.specs.Cells.{made, pushed_items, joined_items, indexed_items, keyed_entries, pushed, joined, indexed, keyed, walk_begun, walk_begun_at, walk_over, walk_ended, ended_at, place_of, list_changed, dict_changed, IsWalked};
 ghost use Rattle.values.specs.declared.cells.Cell.{Cell as Kept};
@@ -40,6 +40,20 @@ impl Heap {
         Heap {
             cells: Vec::new(alloc),
         }
+    }
+
+    /// How many cells there are.
+    pub fn len(&self) -> usize
+        ensures { result ≡ length self.now }
+    {
+        self.cells.len()
+    }
+
+    /// Lets go of the cells from this number on.
+    pub fn truncate(&mut self, cells: usize)
+        ensures { self.new ≡ take cells self.old }
+    {
+        self.cells.truncate(cells);
     }
 
     /// The cell of this number, if there is one.

@@ -1,0 +1,237 @@
+//! The methods of lists, dicts, strings and depsets.
+ghost use Rattle.std.specs.Prelude.{◌≡◌, ◌∷◌, [], Ok, Err, Some, None, MatchResult, MatchOption, List, option_copied};
+ghost use Rattle.depsets.specs.Listed.{IsCoherent};
+ghost use Rattle.values.specs.Ticking.{FaultOr};
+ghost use Rattle.values.specs.Shape.{shape};
+ghost use Rattle.values.specs.declared.cells.Cell.{Cell as Kept};
+ghost use Rattle.operations.specs.States.{Does, Stays};
+ghost use Rattle.operations.specs.Reading.{string_in, depset_in};
+ghost use Rattle.operations.specs.Making.{entries_in};
+ghost use Rattle.operations.specs.Changes.{append, extend};
+ghost use Rattle.operations.specs.Arguments.{given, positions};
+ghost use Rattle.operations.specs.Methods.{with_one, with_none, keys, values, pairs};
+ghost use Rattle.operations.specs.Depsets.{to_list};
+ghost use Rattle.operations.specs.Strings.{split, join, starts_with, ends_with};
+ghost use Rattle.operations.specs.Calls.{of_text, of_depset, method_of, method_with, method_call};
+ghost use Rattle.calls.specs.Answered.{Lists};
+
+use crate::arguments::{only, positions};
+use crate::dicts::{get, keys, values};
+use crate::pairs::items;
+use operations::{Arguments, Method, State};
+use plain::Text;
+use std::alloc::Global;
+use text_calls::{ends_with, join, split, starts_with};
+use values::{Broken, Depset, Key, Kind, Leaf, Value};
+
+/// The call of a method of a list, a dict, a string or a depset.
+///
+/// # Errors
+///
+/// `arity` before all else.
+pub fn call_method(
+    alloc: Global,
+    state: &mut State,
+    method: Method,
+    receiver: &Value,
+    arguments: &Arguments<'_>,
+) -> Result<Value, Broken>
+    ensures { Lists (shape state.old.heap receiver.now)
+        → Does (method_call method receiver.now (given arguments.now)) state.old result state.new }
+{
+    match positions(arguments) {
+        Ok(values) => method_of(alloc, state, method, receiver, values),
+        Err(broken) => Err(broken),
+    }
+}
+
+/// The same, of positions alone.
+fn method_of(
+    alloc: Global,
+    state: &mut State,
+    method: Method,
+    receiver: &Value,
+    items: &[Value],
+) -> Result<Value, Broken>
+    ensures { Lists (shape state.old.heap receiver.now)
+        → Does (method_of method receiver.now items.now) state.old result state.new }
+{
+    match method {
+        Method::Append => append_one(state, receiver, items),
+        Method::Extend => extend_one(alloc, state, receiver, items),
+        Method::Get => get(state, receiver, items),
+        Method::Keys => keys_of(alloc, state, receiver, items),
+        Method::Values => values_of(alloc, state, receiver, items),
+        Method::Items => pairs_of(alloc, state, receiver, items),
+        Method::Join => join_one(alloc, state, receiver, items),
+        Method::Split => split_one(alloc, state, receiver, items),
+        Method::StartsWith => starts_with_one(state, receiver, items),
+        Method::EndsWith => ends_with_one(state, receiver, items),
+        Method::ToList => list_of(alloc, state, receiver, items),
+    }
+}
+
+fn append_one(state: &mut State, list: &Value, items: &[Value]) -> Result<Value, Broken>
+    ensures { Does (with_one (append list.now) items.now) state.old result state.new }
+{
+    let Some(item) = only(items) else {
+        return Err(Broken::Kind(Kind::Arity));
+    };
+    let item = item.share()?;
+    state::append(state, list, item)
+}
+
+fn extend_one(
+    alloc: Global,
+    state: &mut State,
+    list: &Value,
+    items: &[Value],
+) -> Result<Value, Broken>
+    ensures { Does (with_one (extend list.now) items.now) state.old result state.new }
+{
+    match only(items) {
+        Some(sequence) => state::extend(alloc, state, list, sequence),
+        None => Err(Broken::Kind(Kind::Arity)),
+    }
+}
+
+fn keys_of(alloc: Global, state: &mut State, dict: &Value, items: &[Value]) -> Result<Value, Broken>
+    ensures { Does (with_none (keys (entries_in (shape state.old.heap dict.now))) items.now)
+        state.old result state.new }
+{
+    if !items.is_empty() {
+        return Err(Broken::Kind(Kind::Arity));
+    }
+    keys(alloc, state, dict)
+}
+
+fn values_of(
+    alloc: Global,
+    state: &mut State,
+    dict: &Value,
+    items: &[Value],
+) -> Result<Value, Broken>
+    ensures { Does (with_none (values (entries_in (shape state.old.heap dict.now))) items.now)
+        state.old result state.new }
+{
+    if !items.is_empty() {
+        return Err(Broken::Kind(Kind::Arity));
+    }
+    values(alloc, state, dict)
+}
+
+fn pairs_of(
+    alloc: Global,
+    state: &mut State,
+    dict: &Value,
+    arguments: &[Value],
+) -> Result<Value, Broken>
+    ensures { Does (with_none (pairs (entries_in (shape state.old.heap dict.now))) arguments.now)
+        state.old result state.new }
+{
+    if !arguments.is_empty() {
+        return Err(Broken::Kind(Kind::Arity));
+    }
+    items(alloc, state, dict)
+}
+
+/// The string that a value is, whatever the heap.
+fn string_of(value: &Value) -> Option<&Text>
+    ensures { (h : List Kept) → option_copied result ≡ string_in (shape h value.now) }
+{
+    match value {
+        Value::Key(Key::Text(text)) => Some(text),
+        _ => None,
+    }
+}
+
+/// The depset that a value is, whatever the heap.
+fn depset_of(value: &Value) -> Option<&Depset>
+    ensures { (h : List Kept) → option_copied result ≡ depset_in (shape h value.now) }
+{
+    match value {
+        Value::Leaf(Leaf::Depset(depset)) => Some(depset),
+        _ => None,
+    }
+}
+
+fn join_one(
+    alloc: Global,
+    state: &State,
+    receiver: &Value,
+    items: &[Value],
+) -> Result<Value, Broken>
+    ensures { Does (of_text join (string_in (shape state.now.heap receiver.now)) items.now) state.now
+        result state.now }
+{
+    let Some(text) = string_of(receiver) else {
+        return Err(Broken::Kind(Kind::Wrong));
+    };
+    match only(items) {
+        Some(sequence) => join(alloc, state, text, sequence),
+        None => Err(Broken::Kind(Kind::Arity)),
+    }
+}
+
+fn split_one(
+    alloc: Global,
+    state: &mut State,
+    receiver: &Value,
+    items: &[Value],
+) -> Result<Value, Broken>
+    ensures { Does (of_text split (string_in (shape state.old.heap receiver.now)) items.now)
+        state.old result state.new }
+{
+    let Some(text) = string_of(receiver) else {
+        return Err(Broken::Kind(Kind::Wrong));
+    };
+    match only(items) {
+        Some(separator) => split(alloc, state, text, separator),
+        None => Err(Broken::Kind(Kind::Arity)),
+    }
+}
+
+fn starts_with_one(state: &State, receiver: &Value, items: &[Value]) -> Result<Value, Broken>
+    ensures { Does (of_text starts_with (string_in (shape state.now.heap receiver.now)) items.now)
+        state.now result state.now }
+{
+    let Some(text) = string_of(receiver) else {
+        return Err(Broken::Kind(Kind::Wrong));
+    };
+    match only(items) {
+        Some(front) => starts_with(state, text, front),
+        None => Err(Broken::Kind(Kind::Arity)),
+    }
+}
+
+fn ends_with_one(state: &State, receiver: &Value, items: &[Value]) -> Result<Value, Broken>
+    ensures { Does (of_text ends_with (string_in (shape state.now.heap receiver.now)) items.now)
+        state.now result state.now }
+{
+    let Some(text) = string_of(receiver) else {
+        return Err(Broken::Kind(Kind::Wrong));
+    };
+    match only(items) {
+        Some(back) => ends_with(state, text, back),
+        None => Err(Broken::Kind(Kind::Arity)),
+    }
+}
+
+fn list_of(
+    alloc: Global,
+    state: &mut State,
+    receiver: &Value,
+    items: &[Value],
+) -> Result<Value, Broken>
+    ensures { Lists (shape state.old.heap receiver.now)
+        → Does (of_depset (depset_in (shape state.old.heap receiver.now)) items.now) state.old result
+        state.new }
+{
+    let Some(depset) = depset_of(receiver) else {
+        return Err(Broken::Kind(Kind::Wrong));
+    };
+    if !items.is_empty() {
+        return Err(Broken::Kind(Kind::Arity));
+    }
+    making::to_list(alloc, state, depset)
+}

@@ -1,0 +1,144 @@
+//! `dict.items()`.
+ghost use Rattle.std.specs.Prelude.{◌≡◌, ◌<◌, ◌++◌, ◌∷◌, [], Ok, Err, Some, MatchResult, IfOk, OnOk, length, slice_get};
+ghost use Rattle.values.specs.Ticking.{FaultOr};
+ghost use Rattle.values.specs.Shape.{shape};
+ghost use Rattle.operations.specs.States.{Does, Stays, then_do};
+ghost use Rattle.operations.specs.Making.{new_list, new_tuple, entries_in};
+ghost use Rattle.operations.specs.Methods.{pairs};
+ghost use Rattle.calls.specs.Pairs.{tuples_behind, tuple_behind, listed_tuples, Grown};
+
+use crate::dicts::{keys_in, values_in};
+use operations::State;
+use state::{new_list, new_tuple};
+use std::alloc::{AllocError, Global};
+use values::{Broken, Items, Value};
+
+/// `dict.items()`: a new list of tuples of two, which take the next cells in the order of the entries.
+pub fn items(alloc: Global, state: &mut State, dict: &Value) -> Result<Value, Broken>
+    ensures { Does (pairs (entries_in (shape state.old.heap dict.now))) state.old result state.new }
+{
+    let keys = keys_in(alloc, &state.heap.see(dict))?;
+    let values = values_in(alloc, &state.heap.see(dict))?;
+    list_or_undo(alloc, state, keys.as_slice(), values.as_slice())
+}
+
+/// A list of the tuples. Where there is none, the tuples are let go.
+fn list_or_undo(
+    alloc: Global,
+    state: &mut State,
+    keys: &[Value],
+    values: &[Value],
+) -> Result<Value, Broken>
+    requires { length keys.now ≡ length values.now }
+    ensures { Does (listed_tuples keys.now values.now) state.old result state.new }
+{
+    let cells = state.heap.len();
+    match list_tuples(alloc, state, keys, values) {
+        Ok(list) => Ok(list),
+        Err(broken) => {
+            state.heap.truncate(cells);
+            Err(broken)
+        }
+    }
+}
+
+/// A list of the tuples. Where there is none, the heap may have tuples more.
+fn list_tuples(
+    alloc: Global,
+    state: &mut State,
+    keys: &[Value],
+    values: &[Value],
+) -> Result<Value, Broken>
+    requires { length keys.now ≡ length values.now }
+    ensures grown { Grown state.old state.new }
+    ensures list { MatchResult result
+        (λ v. listed_tuples keys.now values.now state.old ≡ Ok (v, state.new))
+        (λ e. FaultOr (listed_tuples keys.now values.now state.old) e) }
+{
+    let mut tuples = Items::with_capacity(alloc, keys.len())?;
+    if let Err(broken) = put_tuples(alloc, state, keys, values, &mut tuples) {
+        return Err(broken);
+    }
+    new_list(state, tuples)
+}
+
+/// Makes a tuple of each key and its value.
+#[tactic(auto, using(crate::proofs::Tuples::all_behind))]
+fn put_tuples(
+    alloc: Global,
+    state: &mut State,
+    keys: &[Value],
+    values: &[Value],
+    tuples: &mut Items,
+) -> Result<(), Broken>
+    requires { length keys.now ≡ length values.now }
+    ensures grown { Grown state.old state.new }
+    ensures tuples { MatchResult result
+        (λ _. tuples_behind tuples.old keys.now values.now state.old ≡ Ok (tuples.new, state.new))
+        (λ e. FaultOr (tuples_behind tuples.old keys.now values.now state.old) e) }
+{
+    for place in 0..keys.len() {
+        let (key, value) = (value_at(keys, place), value_at(values, place));
+        if let Err(broken) = put_tuple(alloc, state, key, value, tuples) {
+            return Err(broken);
+        }
+    }
+    Ok(())
+}
+
+/// The value at a place.
+fn value_at(values: &[Value], place: usize) -> &Value
+    requires { place < length values.now }
+    ensures { slice_get values.now place ≡ Some result.now }
+{
+    &values[place]
+}
+
+/// Makes a tuple of a key and its value.
+fn put_tuple(
+    alloc: Global,
+    state: &mut State,
+    key: &Value,
+    value: &Value,
+    tuples: &mut Items,
+) -> Result<(), Broken>
+    ensures grown { Grown state.old state.new }
+    ensures tuples { MatchResult result
+        (λ _. tuple_behind tuples.old key.now value.now state.old ≡ Ok (tuples.new, state.new))
+        (λ e. FaultOr (tuple_behind tuples.old key.now value.now state.old) e) }
+{
+    let pair = pair(alloc, key, value)?;
+    match new_tuple(state, pair) {
+        Ok(tuple) => push(tuples, tuple),
+        Err(broken) => Err(broken),
+    }
+}
+
+/// Puts a tuple last.
+fn push(tuples: &mut Items, tuple: Value) -> Result<(), Broken>
+    ensures { MatchResult result (λ _. tuples.new ≡ tuples.old ++ tuple ∷ [])
+        (λ e. e ≡ Broken.NoMemory) }
+{
+    match tuples.push(tuple) {
+        Ok(()) => Ok(()),
+        Err(_) => Err(Broken::NoMemory),
+    }
+}
+
+/// The items of a tuple of two.
+fn pair(alloc: Global, key: &Value, value: &Value) -> Result<Items, AllocError>
+    ensures { IfOk result (λ items. items ≡ key.now ∷ value.now ∷ []) }
+{
+    let mut items = Items::with_capacity(alloc, 2)?;
+    put(key, &mut items)?;
+    put(value, &mut items)?;
+    Ok(items)
+}
+
+fn put(value: &Value, items: &mut Items) -> Result<(), AllocError>
+    ensures { OnOk result (items.new ≡ items.old ++ value.now ∷ []) }
+{
+    let value = value.share()?;
+    items.push(value)?;
+    Ok(())
+}
