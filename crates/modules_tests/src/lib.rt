@@ -1,0 +1,9 @@
+//! Tests of crate `modules`. They are a crate of their own, so that `modules` is proved once.
+#![tactic(auto)]
+
+#[cfg(test)]
+mod fake;
+#[cfg(test)]
+mod large;
+#[cfg(test)]
+mod rows;
