@@ -13,18 +13,10 @@ use std::alloc::Global;
 use values::{Broken, Item, Kind, Seen, Value};
 
 /// What `value.name` is where it is called: the value of a field, or a method.
+#[derive(Drop)]
 pub enum Found {
     Value(Value),
     Method(Method),
-}
-
-impl Drop for Found {
-    fn drop(self) {
-        match self {
-            Found::Value(_) => {}
-            Found::Method(_) => {}
-        }
-    }
 }
 
 /// What is called by `value.name(..)`: it is found before the arguments are evaluated.
