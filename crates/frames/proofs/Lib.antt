@@ -1,0 +1,3 @@
+pub mod Popping
+pub mod Putting
+pub mod Turning

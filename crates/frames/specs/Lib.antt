@@ -1,0 +1,4 @@
+pub mod Stopped
+pub mod Answers
+pub mod Popped
+pub mod Seen

@@ -1,0 +1,166 @@
+//! Displays and comprehensions.
+
+ghost use Rattle.std.specs.Prelude.{◌≡◌, ◌<◌, ◌^◌};
+ghost use Rattle.meaning.specs.Instructions as instr;
+ghost use Rattle.frames.specs.Seen.{Performs};
+
+use crate::frame::Frame;
+use crate::stack::Stack;
+use crate::stop::{Step, Stop, stop_at};
+use crate::taking::take;
+use crate::world::Operate;
+
+/// A list of so many values.
+#[tactic(auto, using(crate::proofs::Popping::pops_popped))]
+pub fn make_list<W: Operate>(
+    world: &W,
+    line: usize,
+    count: usize,
+    f: &mut Frame<W::Walk>,
+    state: &mut W::State,
+) -> Result<Step, Stop>
+    requires { f.old.place < 2 ^ 63 }
+    ensures { Performs W.rest (W.operations world.now) line (instr.make_list count) f.old
+        state.old result
+        f.new state.new }
+{
+    let mut items = Stack::new(world.alloc());
+    if !take(count, &mut f.values, &mut items)? {
+        return Ok(Step::Stuck);
+    }
+    let value = match world.new_list(state, items) {
+        Ok(value) => value,
+        Err(broken) => return Err(stop_at(broken, f.function.file, line)),
+    };
+    f.values.push(value)?;
+    f.place += 1;
+    Ok(Step::More)
+}
+
+/// A tuple of so many values.
+#[tactic(auto, using(crate::proofs::Popping::pops_popped))]
+pub fn make_tuple<W: Operate>(
+    world: &W,
+    line: usize,
+    count: usize,
+    f: &mut Frame<W::Walk>,
+    state: &mut W::State,
+) -> Result<Step, Stop>
+    requires { f.old.place < 2 ^ 63 }
+    ensures { Performs W.rest (W.operations world.now) line (instr.make_tuple count) f.old
+        state.old result
+        f.new state.new }
+{
+    let mut items = Stack::new(world.alloc());
+    if !take(count, &mut f.values, &mut items)? {
+        return Ok(Step::Stuck);
+    }
+    let value = match world.new_tuple(state, items) {
+        Ok(value) => value,
+        Err(broken) => return Err(stop_at(broken, f.function.file, line)),
+    };
+    f.values.push(value)?;
+    f.place += 1;
+    Ok(Step::More)
+}
+
+/// A dict without entries.
+pub fn new_dict<W: Operate>(
+    world: &W,
+    line: usize,
+    f: &mut Frame<W::Walk>,
+    state: &mut W::State,
+) -> Result<Step, Stop>
+    requires { f.old.place < 2 ^ 63 }
+    ensures { Performs W.rest (W.operations world.now) line instr.new_dict f.old state.old result
+        f.new state.new }
+{
+    let value = match world.new_dict(state) {
+        Ok(value) => value,
+        Err(broken) => return Err(stop_at(broken, f.function.file, line)),
+    };
+    f.values.push(value)?;
+    f.place += 1;
+    Ok(Step::More)
+}
+
+/// An item for the list below it, which stays.
+pub fn collect<W: Operate>(
+    world: &W,
+    line: usize,
+    f: &mut Frame<W::Walk>,
+    state: &mut W::State,
+) -> Result<Step, Stop>
+    requires { f.old.place < 2 ^ 63 }
+    ensures { Performs W.rest (W.operations world.now) line instr.collect f.old state.old result
+        f.new state.new }
+{
+    let Some(item) = f.values.pop() else {
+        return Ok(Step::Stuck);
+    };
+    let Some(list) = f.values.pop() else {
+        return Ok(Step::Stuck);
+    };
+    if let Err(broken) = world.collect(state, &list, item) {
+        return Err(stop_at(broken, f.function.file, line));
+    }
+    f.values.push(list)?;
+    f.place += 1;
+    Ok(Step::More)
+}
+
+/// An entry of a display for the dict below it, which stays.
+pub fn enter<W: Operate>(
+    world: &W,
+    line: usize,
+    f: &mut Frame<W::Walk>,
+    state: &mut W::State,
+) -> Result<Step, Stop>
+    requires { f.old.place < 2 ^ 63 }
+    ensures { Performs W.rest (W.operations world.now) line instr.enter f.old state.old result
+        f.new state.new }
+{
+    let Some(value) = f.values.pop() else {
+        return Ok(Step::Stuck);
+    };
+    let Some(key) = f.values.pop() else {
+        return Ok(Step::Stuck);
+    };
+    let Some(dict) = f.values.pop() else {
+        return Ok(Step::Stuck);
+    };
+    if let Err(broken) = world.enter(state, &dict, key, value) {
+        return Err(stop_at(broken, f.function.file, line));
+    }
+    f.values.push(dict)?;
+    f.place += 1;
+    Ok(Step::More)
+}
+
+/// An entry of a comprehension for the dict below it, which stays.
+pub fn keep<W: Operate>(
+    world: &W,
+    line: usize,
+    f: &mut Frame<W::Walk>,
+    state: &mut W::State,
+) -> Result<Step, Stop>
+    requires { f.old.place < 2 ^ 63 }
+    ensures { Performs W.rest (W.operations world.now) line instr.keep f.old state.old result
+        f.new state.new }
+{
+    let Some(value) = f.values.pop() else {
+        return Ok(Step::Stuck);
+    };
+    let Some(key) = f.values.pop() else {
+        return Ok(Step::Stuck);
+    };
+    let Some(dict) = f.values.pop() else {
+        return Ok(Step::Stuck);
+    };
+    if let Err(broken) = world.keep(state, &dict, key, value) {
+        return Err(stop_at(broken, f.function.file, line));
+    }
+    f.values.push(dict)?;
+    f.place += 1;
+    Ok(Step::More)
+}

@@ -1,0 +1,77 @@
+//! What a file writes out, and what each file finds bound, onto a frame's stack.
+
+ghost use Rattle.std.specs.Prelude.{◌≡◌, ◌<◌, ◌^◌};
+ghost use Rattle.meaning.specs.Instructions as instr;
+ghost use Rattle.frames.specs.Seen.{Performs};
+
+use crate::frame::Frame;
+use crate::stop::{Step, Stop};
+use crate::world::Operate;
+use plain::Text;
+use syntax::Predeclared;
+
+/// A number that the file writes out.
+pub fn push_number<W: Operate>(
+    world: &W,
+    line: usize,
+    number: u64,
+    f: &mut Frame<W::Walk>,
+) -> Result<Step, Stop>
+    requires { f.old.place < 2 ^ 63 }
+    ensures { (s : W.State) → Performs W.rest (W.operations world.now) line (instr.push_number
+        number) f.old s
+        result f.new s }
+{
+    let value = world.number(number);
+    f.values.push(value)?;
+    f.place += 1;
+    Ok(Step::More)
+}
+
+/// A string that the file writes out.
+pub fn push_text<W: Operate>(
+    world: &W,
+    line: usize,
+    text: &Text,
+    f: &mut Frame<W::Walk>,
+) -> Result<Step, Stop>
+    requires { f.old.place < 2 ^ 63 }
+    ensures { (s : W.State) → Performs W.rest (W.operations world.now) line (instr.push_text
+        text.now) f.old s
+        result f.new s }
+{
+    let value = world.string(text)?;
+    f.values.push(value)?;
+    f.place += 1;
+    Ok(Step::More)
+}
+
+/// `None`.
+pub fn push_none<W: Operate>(world: &W, line: usize, f: &mut Frame<W::Walk>) -> Result<Step, Stop>
+    requires { f.old.place < 2 ^ 63 }
+    ensures { (s : W.State) → Performs W.rest (W.operations world.now) line instr.push_none f.old s
+        result f.new s }
+{
+    let value = world.none();
+    f.values.push(value)?;
+    f.place += 1;
+    Ok(Step::More)
+}
+
+/// What each file finds bound.
+pub fn push_builtin<W: Operate>(
+    world: &W,
+    line: usize,
+    name: Predeclared,
+    f: &mut Frame<W::Walk>,
+) -> Result<Step, Stop>
+    requires { f.old.place < 2 ^ 63 }
+    ensures { (s : W.State) → Performs W.rest (W.operations world.now) line (instr.push_builtin
+        name) f.old s
+        result f.new s }
+{
+    let value = world.predeclared(name)?;
+    f.values.push(value)?;
+    f.place += 1;
+    Ok(Step::More)
+}

@@ -1,0 +1,102 @@
+//! The slots of a function.
+
+ghost use Rattle.std.specs.Prelude.{◌≡◌, ◌<◌, ◌-◌, [], ◌∷◌, ◌++◌, length, slice_get, slice_set, option_copied, IfOk, Option};
+ghost use Rattle.meaning.specs.Outcome.{put, cleared};
+ghost use Rattle.values.specs.declared.value.Value as held;
+
+use std::alloc::{AllocError, Global};
+use std::marker::Model;
+use values::Value;
+
+/// The slots of a function, in which its local names have their values once they are set.
+#[derive(Drop)]
+pub struct Slots {
+    items: Vec<Option<Value>>,
+}
+
+impl Model for Slots {
+    ghost use Rattle.std.specs.Prelude.{List, Option};
+    ghost use Rattle.values.specs.declared.value.Value.{Value as Held};
+    ghost use Rattle.values.specs.ValueCodes.{fields_code};
+
+    ghost Value = { List (Option Held) };
+
+    ghost coded = { fields_code };
+
+    ghost view = { λ s. s.items.items };
+}
+
+impl Slots {
+    /// No slots.
+    pub fn new(alloc: Global) -> Slots
+        ensures { result ≡ [] }
+    {
+        Slots {
+            items: Vec::new(alloc),
+        }
+    }
+
+    /// A slot, if it is there.
+    pub fn get(&self, slot: usize) -> Option<&Option<Value>>
+        ensures { option_copied result ≡ slice_get self.now slot }
+    {
+        self.items.get(slot)
+    }
+
+    /// How many slots there are.
+    pub fn len(&self) -> usize
+        ensures { result ≡ length self.now }
+    {
+        self.items.len()
+    }
+
+    /// One slot more.
+    pub fn push(&mut self, value: Option<Value>) -> Result<(), AllocError>
+        ensures { IfOk result (λ _. self.new ≡ self.old ++ value ∷ []) }
+    {
+        self.items.push(value)?;
+        Ok(())
+    }
+
+    /// A slot that is there gets a value, or is emptied.
+    fn set(&mut self, slot: usize, value: Option<Value>)
+        requires { slot < length self.old }
+        ensures { self.new ≡ slice_set self.old slot value }
+    {
+        self.items[slot] = value;
+    }
+
+    /// Makes slots up to this one, if they aren't there.
+    #[tactic(auto, using(crate::proofs::Putting::put_grown))]
+    fn reach(&mut self, slot: usize) -> Result<(), AllocError>
+        ensures there { IfOk result (λ _. slot < length self.new) }
+        ensures same { IfOk result (λ _. (v : Option held.Value)
+            → put slot v self.new ≡ put slot v self.old) }
+    {
+        while self.len() <= slot {
+            self.push(None)?;
+        }
+        Ok(())
+    }
+
+    /// A slot gets a value, or is emptied.
+    #[tactic(auto, using(crate::proofs::Putting::put_there))]
+    pub fn put(&mut self, slot: usize, value: Option<Value>) -> Result<(), AllocError>
+        ensures { IfOk result (λ _. self.new ≡ put slot value self.old) }
+    {
+        self.reach(slot)?;
+        self.set(slot, value);
+        Ok(())
+    }
+
+    /// Nothing is set in the slots from the first one up to the end.
+    #[tactic(auto, using(crate::proofs::Putting::cleared_next))]
+    pub fn clear(&mut self, first: usize, end: usize) -> Result<(), AllocError>
+        ensures { IfOk result (λ _. self.new ≡ cleared (end - first) first self.old) }
+    {
+        for slot in first..end {
+            self.put(slot, None)?;
+        }
+        Ok(())
+    }
+}

@@ -1,0 +1,27 @@
+//! Values off the top of a stack, in order.
+
+ghost use Rattle.std.specs.Prelude.{◌≡◌, IfOk, Some, None, if◌then◌else◌};
+ghost use Rattle.frames.specs.Popped.{popped};
+
+use crate::stack::Stack;
+use std::alloc::AllocError;
+use values::Value;
+
+/// So many values off the top of a stack, onto another: what was at the top is the lowest of them there. Whether they were
+/// there.
+pub fn take(
+    count: usize,
+    values: &mut Stack<Value>,
+    taken: &mut Stack<Value>,
+) -> Result<bool, AllocError>
+    ensures { IfOk result (λ there. popped count taken.old values.old
+        ≡ (if there then Some (taken.new, values.new) else None)) }
+{
+    for _ in 0..count {
+        match values.pop() {
+            Some(value) => taken.push(value)?,
+            None => return Ok(false),
+        }
+    }
+    Ok(true)
+}

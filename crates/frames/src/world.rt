@@ -1,0 +1,246 @@
+//! The operations on values, as the machine calls them.
+
+ghost use Rattle.std.specs.Prelude.{◌≡◌, List, [], ◌∷◌, IfOk, MatchOption, option_map};
+ghost use Rattle.grammar.specs.TreeView.{operator_seen, sign_seen};
+ghost use Rattle.meaning.specs.Operations.{Operations};
+ghost use Rattle.values.specs.declared.value.Value as held;
+ghost use Rattle.values.specs.declared.ticks.Kind as kinds;
+ghost use Rattle.frames.specs.Answers.{Says, SaysAs, refusal_seen, id_seen, callee_seen, given};
+
+use crate::frame::{Callee, FunctionId};
+use crate::stack::Stack;
+use grammar::{Operator, Sign};
+use plain::Text;
+use std::alloc::{AllocError, Global};
+use syntax::Predeclared;
+use values::{Broken, Kind, Value};
+
+/// The faults that evaluation finds itself, whatever the values are.
+#[derive(Clone, Copy, PartialEq, Eq, Debug)]
+pub enum Refusal {
+    /// A name isn't set yet.
+    Unset,
+    /// A value can't be called.
+    WrongType,
+    /// Arguments, or the items of a sequence, don't fit in number.
+    Arity,
+    /// A function is active already.
+    Recursion,
+    /// Too many functions are active.
+    Deep,
+}
+
+/// A world with what never changes while code runs: the linked files, and what only the place of an evaluation has. Its
+/// methods are the operations of a record on its states: each gives what the operation does, with the state after it, or the
+/// fault that the operation has. Where memory was refused nothing is said.
+pub trait Operate {
+    /// All that operations change.
+    type State;
+    /// The items that a walk has left.
+    type Walk: Drop;
+
+    ghost operations: { Self → Operations Self.State held.Value kinds.Kind };
+
+    ghost rest: { Self.Walk → List held.Value };
+
+    /// The kind of a fault that evaluation finds.
+    fn refusal(&self, refusal: Refusal) -> Kind
+        ensures { result ≡ (operations self.now).refusal (refusal_seen refusal) };
+
+    /// A number that a file writes out.
+    fn number(&self, number: u64) -> Value
+        ensures { result ≡ (operations self.now).number number };
+
+    /// A string that a file writes out.
+    fn string(&self, text: &Text) -> Result<Value, AllocError>
+        ensures { IfOk result (λ v. v ≡ (operations self.now).string text.now) };
+
+    /// `None`.
+    fn none(&self) -> Value
+        ensures { result ≡ (operations self.now).none };
+
+    /// What each file finds bound.
+    fn predeclared(&self, name: Predeclared) -> Result<Value, AllocError>
+        ensures { IfOk result (λ v. v ≡ (operations self.now).predeclared name) };
+
+    /// Whether a value counts as true.
+    fn truth(&self, state: &Self::State, value: &Value) -> bool
+        ensures { result ≡ (operations self.now).truth state.now value.now };
+
+    /// One tick.
+    fn tick(&self, state: &mut Self::State) -> Result<(), Broken>
+        ensures { Says ((operations self.now).tick state.old) result state.new };
+
+    /// An operator between two values, but `and` and `or`.
+    fn binary(
+        &self,
+        state: &mut Self::State,
+        operator: Operator,
+        left: &Value,
+        right: &Value,
+    ) -> Result<Value, Broken>
+        ensures { Says ((operations self.now).binary (operator_seen operator) left.now right.now
+            state.old) result state.new };
+
+    /// `not` or `-`.
+    fn sign(&self, state: &mut Self::State, sign: Sign, value: &Value) -> Result<Value, Broken>
+        ensures { Says ((operations self.now).sign (sign_seen sign) value.now state.old) result
+            state.new };
+
+    /// What `x += y` assigns to `x`.
+    fn increase(&self, state: &mut Self::State, old: &Value, more: &Value) -> Result<Value, Broken>
+        ensures { Says ((operations self.now).increase old.now more.now state.old) result
+            state.new };
+
+    /// `x.NAME`.
+    fn field(&self, state: &mut Self::State, value: &Value, name: &Text) -> Result<Value, Broken>
+        ensures { Says ((operations self.now).field value.now name.now state.old) result state.new };
+
+    /// `x[i]`, of x and i.
+    fn item(&self, state: &mut Self::State, base: &Value, index: &Value) -> Result<Value, Broken>
+        ensures { Says ((operations self.now).item base.now index.now state.old) result state.new };
+
+    /// `x[i] = v`, of x, i and v.
+    fn set_item(
+        &self,
+        state: &mut Self::State,
+        base: &Value,
+        index: &Value,
+        value: Value,
+    ) -> Result<(), Broken>
+        ensures { Says ((operations self.now).set_item base.now index.now value state.old)
+            result state.new };
+
+    /// A new list of these items, of which the first is at the top.
+    fn new_list(&self, state: &mut Self::State, items: Stack<Value>) -> Result<Value, Broken>
+        ensures { Says ((operations self.now).new_list items state.old) result state.new };
+
+    /// A new tuple of these items, of which the first is at the top.
+    fn new_tuple(&self, state: &mut Self::State, items: Stack<Value>) -> Result<Value, Broken>
+        ensures { Says ((operations self.now).new_tuple items state.old) result state.new };
+
+    /// An item more of a comprehension's list.
+    fn collect(&self, state: &mut Self::State, list: &Value, item: Value) -> Result<(), Broken>
+        ensures { Says ((operations self.now).collect list.now item state.old) result state.new };
+
+    /// A new dict, without entries.
+    fn new_dict(&self, state: &mut Self::State) -> Result<Value, Broken>
+        ensures { Says ((operations self.now).new_dict state.old) result state.new };
+
+    /// An entry more of a display's dict.
+    fn enter(
+        &self,
+        state: &mut Self::State,
+        dict: &Value,
+        key: Value,
+        value: Value,
+    ) -> Result<(), Broken>
+        ensures { Says ((operations self.now).enter dict.now key value state.old) result state.new };
+
+    /// An entry more of a comprehension's dict, where the later value of a key stays.
+    fn keep(
+        &self,
+        state: &mut Self::State,
+        dict: &Value,
+        key: Value,
+        value: Value,
+    ) -> Result<(), Broken>
+        ensures { Says ((operations self.now).keep dict.now key value state.old) result state.new };
+
+    /// A walk over a value begins, and gives the items that it goes over.
+    fn begin(&self, state: &mut Self::State, walked: &Value) -> Result<Self::Walk, Broken>
+        ensures { SaysAs rest ((operations self.now).begin walked.now state.old) result state.new };
+
+    /// The next item of a walk, None at its end.
+    fn next(&self, state: &Self::State, walk: &mut Self::Walk) -> Result<Option<Value>, AllocError>
+        ensures { IfOk result (λ item. MatchOption item
+            ((rest walk.old ≡ []) × (rest walk.new ≡ []))
+            (λ v. rest walk.old ≡ v ∷ rest walk.new)) };
+
+    /// A walk has ended.
+    fn end(&self, state: &mut Self::State, walked: &Value)
+        ensures { state.new ≡ (operations self.now).end walked.now state.old };
+
+    /// The items of a sequence that is unpacked.
+    fn parts(&self, state: &mut Self::State, sequence: &Value) -> Result<Vec<Value>, Broken>
+        ensures { SaysAs (λ v. v.items) ((operations self.now).parts sequence.now state.old) result
+            state.new };
+
+    /// The value of a name of the top level of a file.
+    fn global(&self, state: &mut Self::State, file: usize, number: usize) -> Result<Value, Broken>
+        ensures { Says ((operations self.now).global file number state.old) result state.new };
+
+    /// A global of a file gets a value.
+    fn set_global(
+        &self,
+        state: &mut Self::State,
+        file: usize,
+        number: usize,
+        value: Value,
+    ) -> Result<(), AllocError>
+        ensures { IfOk result (λ _. state.new ≡ (operations self.now).set_global file number value
+            state.old) };
+
+    /// A name that a load binds gets its value.
+    fn set_loaded(
+        &self,
+        state: &mut Self::State,
+        file: usize,
+        number: usize,
+        value: Value,
+    ) -> Result<(), AllocError>
+        ensures { IfOk result (λ _. state.new ≡ (operations self.now).set_loaded file number value
+            state.old) };
+
+    /// What a load of a file asks a module for.
+    fn loaded(
+        &self,
+        state: &mut Self::State,
+        file: usize,
+        from: &Text,
+        name: &Text,
+    ) -> Result<Value, Broken>
+        ensures { Says ((operations self.now).loaded file from.now name.now state.old)
+            result state.new };
+
+    /// The function that a `def` makes, with the values of its defaults, of which the first is at the top.
+    fn define(
+        &self,
+        state: &mut Self::State,
+        function: FunctionId,
+        name: &Text,
+        defaults: Stack<Value>,
+    ) -> Result<Value, Broken>
+        ensures { Says ((operations self.now).define (id_seen function) name.now defaults state.old)
+            result state.new };
+
+    /// The defaults that a function's `def` kept.
+    fn defaults<'a>(&'a self, state: &'a Self::State, function: FunctionId) -> &'a [Value]
+        ensures { result.now ≡ (operations self.now).defaults (id_seen function) state.now };
+
+    /// Which function written in Starlark a value is, if it is one.
+    fn function(&self, value: &Value) -> Option<FunctionId>
+        ensures { option_map id_seen result ≡ (operations self.now).function value.now };
+
+    /// What `x.NAME` is where it is called.
+    fn find(&self, state: &mut Self::State, value: &Value, name: &Text) -> Result<Callee, Broken>
+        ensures { SaysAs callee_seen ((operations self.now).find value.now name.now state.old)
+            result
+            state.new };
+
+    /// A call of what isn't written in Starlark: its values by position, of which the first is at the top, and those by
+    /// name with their names.
+    fn call(
+        &self,
+        state: &mut Self::State,
+        callee: &Callee,
+        items: Stack<Value>,
+        names: &[Text],
+        named: Stack<Value>,
+    ) -> Result<Value, Broken>
+        ensures { Says ((operations self.now).call (callee_seen callee.now)
+            (given items names.now named) state.old) result state.new };
+
+    /// Where memory comes from.
+    fn alloc(&self) -> Global;
+}
