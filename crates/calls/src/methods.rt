@@ -1,6 +1,5 @@
 //! The methods of lists, dicts, strings and depsets.
 ghost use Rattle.std.specs.Prelude.{◌≡◌, ◌∷◌, [], Ok, Err, Some, None, MatchResult, MatchOption, List, option_copied};
-ghost use Rattle.depsets.specs.Listed.{IsCoherent};
 ghost use Rattle.values.specs.Ticking.{FaultOr};
 ghost use Rattle.values.specs.Shape.{shape};
 ghost use Rattle.values.specs.declared.cells.Cell.{Cell as Kept};
@@ -13,7 +12,6 @@ ghost use Rattle.operations.specs.Methods.{with_one, with_none, keys, values, pa
 ghost use Rattle.operations.specs.Depsets.{to_list};
 ghost use Rattle.operations.specs.Strings.{split, join, starts_with, ends_with};
 ghost use Rattle.operations.specs.Calls.{of_text, of_depset, method_of, method_with, method_call};
-ghost use Rattle.calls.specs.Answered.{Lists};
 
 use crate::arguments::{only, positions};
 use crate::dicts::{get, keys, values};
@@ -36,8 +34,8 @@ pub fn call_method(
     receiver: &Value,
     arguments: &Arguments<'_>,
 ) -> Result<Value, Broken>
-    ensures { Lists (shape state.old.heap receiver.now)
-        → Does (method_call method receiver.now (given arguments.now)) state.old result state.new }
+    ensures { Does (method_call method receiver.now (given arguments.now)) state.old result
+        state.new }
 {
     match positions(arguments) {
         Ok(values) => method_of(alloc, state, method, receiver, values),
@@ -53,8 +51,7 @@ fn method_of(
     receiver: &Value,
     items: &[Value],
 ) -> Result<Value, Broken>
-    ensures { Lists (shape state.old.heap receiver.now)
-        → Does (method_of method receiver.now items.now) state.old result state.new }
+    ensures { Does (method_of method receiver.now items.now) state.old result state.new }
 {
     match method {
         Method::Append => append_one(state, receiver, items),
@@ -223,9 +220,8 @@ fn list_of(
     receiver: &Value,
     items: &[Value],
 ) -> Result<Value, Broken>
-    ensures { Lists (shape state.old.heap receiver.now)
-        → Does (of_depset (depset_in (shape state.old.heap receiver.now)) items.now) state.old result
-        state.new }
+    ensures { Does (of_depset (depset_in (shape state.old.heap receiver.now)) items.now) state.old
+        result state.new }
 {
     let Some(depset) = depset_of(receiver) else {
         return Err(Broken::Kind(Kind::Wrong));

@@ -6,5 +6,3 @@
 mod fields;
 #[cfg(test)]
 mod makers;
-#[cfg(test)]
-mod rows;

@@ -22,7 +22,7 @@ pub fn push_number<W: Operate>(
         number) f.old s
         result f.new s }
 {
-    let value = world.number(number);
+    let value = world.number(number)?;
     f.values.push(value)?;
     f.place += 1;
     Ok(Step::More)

@@ -47,9 +47,9 @@ pub trait Operate {
     fn refusal(&self, refusal: Refusal) -> Kind
         ensures { result ≡ (operations self.now).refusal (refusal_seen refusal) };
 
-    /// A number that a file writes out.
-    fn number(&self, number: u64) -> Value
-        ensures { result ≡ (operations self.now).number number };
+    /// A number that a file writes out. One from 2^63 on, which no text that is read has, may be answered as want of memory.
+    fn number(&self, number: u64) -> Result<Value, AllocError>
+        ensures { IfOk result (λ v. v ≡ (operations self.now).number number) };
 
     /// A string that a file writes out.
     fn string(&self, text: &Text) -> Result<Value, AllocError>

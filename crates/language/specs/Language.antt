@@ -17,7 +17,6 @@ use Rattle.values.specs.declared.ticks.Kind.{Kind}
 use Rattle.values.specs.declared.ticks.Kind.TheVariants as kind
 use Rattle.operations.specs.declared.arithmetic.Arithmetic.TheVariants as arithmetic
 use Rattle.operations.specs.declared.method.Method.{Method}
-use Rattle.operations.specs.declared.state.State.{State}
 use Rattle.operations.specs.States.{Op, then_do, tick}
 use Rattle.operations.specs.Making.{none, truth, number, text, new_list, new_tuple, new_dict, collect, enter, keep}
 use Rattle.operations.specs.Truth.{truth_of}
@@ -32,7 +31,7 @@ use Rattle.operations.specs.Fields.{Found, plainly, with_method, shape_method, f
 use Rattle.operations.specs.Arguments.{Given}
 use Rattle.operations.specs.Instances.{default_info}
 use Rattle.operations.specs.Calls.{built_in_call, instance_call, method_call}
-use Rattle.language.specs.Place.{Whole, Does, Place, with_work, of_state, kept}
+use Rattle.language.specs.Place.{Whole, Does, Place, of_state, kept}
 
 -- the kinds of the faults that evaluation finds itself
 abbrev pub refusal_kind : meant.Refusal → Kind

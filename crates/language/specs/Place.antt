@@ -7,11 +7,7 @@ use Rattle.values.specs.declared.ticks.Kind.{Kind}
 use Rattle.operations.specs.declared.state.State.{State}
 use Rattle.operations.specs.States.{Op}
 use Rattle.operations.specs.Arguments.{Given}
-
--- the state of an evaluation, and the work of its place: what it declares
-pub record Whole (W : Type 0) : Type 0 where
-  pub state : State
-  pub work : W
+pub use Rattle.language.specs.declared.whole.Whole.{Whole}
 
 abbrev pub Does : Type 0 → Type 0 → Type 0
 Does W A = Whole W → Result (A × Whole W) Kind

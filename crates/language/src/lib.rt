@@ -5,3 +5,6 @@
 #![tactic(auto)]
 
 pub mod laws;
+mod whole;
+
+pub use whole::Whole;

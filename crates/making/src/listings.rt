@@ -11,11 +11,11 @@ use operations::State;
 use std::alloc::{AllocError, Global};
 use values::{Broken, Depset, Element, Items, Key, Leaf, Value};
 
-/// A new list of the listing, or `large`. Of a depset that isn't coherent it is the listing of the walk that visits no id twice.
+/// A new list of the listing, or `large`. The walk visits no id twice; of a coherent depset it gives the plain listing.
 pub fn to_list(alloc: Global, state: &mut State, depset: &Depset) -> Result<Value, Broken>
-    ensures walk { Does (new_list (map element_value (walked depset.now))) state.old result
-        state.new }
-    ensures plain { IsCoherent depset.now → Does (to_list depset.now) state.old result state.new }
+    ensures list { Does (to_list depset.now) state.old result state.new }
+    ensures plain { IsCoherent depset.now
+        → Does (new_list (map element_value (flat depset.now))) state.old result state.new }
 {
     let items = listing(alloc, depset)?;
     match state.heap.new_list(items) {

@@ -4,7 +4,7 @@ use Rattle.std.specs.Prelude.{ℕ, ◌+◌, ◌^◌, nat_lt, List, [], ◌∷◌
 use Rattle.depsets.specs.Rose.{Rose, node, roses}
 use Rattle.depsets.specs.Own.{Own}
 use Rattle.depsets.specs.Refusals.{refusal}
-use Rattle.depsets.specs.Listed.{flat}
+use Rattle.depsets.specs.Listed.{walked}
 use Rattle.depsets.specs.declared.depset.Order.{Order}
 use Rattle.depsets.specs.declared.depset.Order.TheVariants as order
 use Rattle.depsets.specs.declared.depset.DepsetError.{DepsetError}
@@ -139,6 +139,7 @@ element_value (element.Truth b) = truth b
 element_value (element.Label t) = value.Leaf (plain.Label t)
 element_value (element.File f) = value.Leaf (plain.File f)
 
--- `t.to_list()`: a new list of the listing
+-- `t.to_list()`: a new list of the listing, by the walk that visits no id twice. Where one id has one tree, as in all that
+-- evaluation makes, it has the first occurrences of the walk of the whole tree.
 abbrev pub to_list : Rose Own → Op Value
-to_list d s = new_list (map element_value (flat d)) s
+to_list d s = new_list (map element_value (walked d)) s

@@ -12,4 +12,5 @@ mod texts;
 mod tree_texts;
 
 pub use reprs::{LARGEST_TEXT, repr};
-pub use tree_texts::text;
+pub use texts::{put_field_head, put_provider, put_quoted, put_separator};
+pub use tree_texts::{put_tree, text};

@@ -55,7 +55,7 @@ fn put_byte(out: &mut String, byte: u8) -> Result<(), AllocError>
 }
 
 /// Appends a string between quotes.
-fn put_quoted(out: &mut String, text: &[u8]) -> Result<(), AllocError>
+pub fn put_quoted(out: &mut String, text: &[u8]) -> Result<(), AllocError>
     ensures { OnOk result (string_bytes out.new ≡ string_bytes out.old ++ quoted text.now) }
 {
     out.push_str("\"")?;
@@ -127,7 +127,7 @@ fn put_exported(out: &mut String, exported: &Exported) -> Result<(), AllocError>
 }
 
 /// Appends the name of a provider.
-pub(crate) fn put_provider(out: &mut String, provider: &ProviderRef) -> Result<(), AllocError>
+pub fn put_provider(out: &mut String, provider: &ProviderRef) -> Result<(), AllocError>
     ensures { OnOk result (string_bytes out.new
         ≡ string_bytes out.old ++ provider_text provider.now) }
 {
@@ -211,7 +211,7 @@ fn object_name(object: Object) -> &'static str
 }
 
 /// Appends what stands before the part at a place.
-pub(crate) fn put_separator(out: &mut String, place: usize) -> Result<(), AllocError>
+pub fn put_separator(out: &mut String, place: usize) -> Result<(), AllocError>
     ensures { OnOk result (string_bytes out.new ≡ string_bytes out.old ++ separator place) }
 {
     if place > 0 {
@@ -305,7 +305,7 @@ pub(crate) fn put_key(out: &mut String, key: &Key) -> Result<(), AllocError>
 }
 
 /// Appends what stands before the value of a field.
-pub(crate) fn put_field_head(out: &mut String, name: &Text) -> Result<(), AllocError>
+pub fn put_field_head(out: &mut String, name: &Text) -> Result<(), AllocError>
     ensures { OnOk result (string_bytes out.new ≡ string_bytes out.old ++ field_head name.now) }
 {
     out.push_str(name.as_str())?;

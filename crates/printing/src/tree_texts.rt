@@ -53,7 +53,7 @@ fn name_at(names: &[Text], place: usize) -> &Text
 
 /// Appends a frozen value.
 #[cycle(text)]
-fn put_tree(alloc: Global, out: &mut String, tree: &Frozen) -> Result<(), AllocError>
+pub fn put_tree(alloc: Global, out: &mut String, tree: &Frozen) -> Result<(), AllocError>
     ensures { OnOk result (string_bytes out.new ≡ string_bytes out.old ++ text_by walked tree.now) }
 {
     match tree.held() {

@@ -2,9 +2,5 @@
 #![tactic(auto)]
 
 #[cfg(test)]
-mod lists;
-#[cfg(test)]
-mod operators;
-#[cfg(test)]
 mod serials;
 pub mod states;

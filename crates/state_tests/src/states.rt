@@ -6,8 +6,8 @@ use std::alloc::{AllocError, Global};
 use values::{Broken, Fields, Heap, Item, Key, Ticks, Value};
 
 /// A state of a module that may use 1,000 ticks.
-pub fn fresh(alloc: Global) -> Result<State, AllocError> {
-    Ok(State {
+pub fn fresh(alloc: Global) -> Result<Box<State>, AllocError> {
+    let state = State {
         heap: Heap::new(alloc),
         ticks: Ticks::new(1000),
         owner: Text::new(alloc, "a/r.bzl")?,
@@ -16,7 +16,8 @@ pub fn fresh(alloc: Global) -> Result<State, AllocError> {
         globals: Fields::with_capacity(alloc, 0)?,
         loaded: Fields::with_capacity(alloc, 0)?,
         defaults: Defaults::new(alloc),
-    })
+    };
+    Ok(Box::new(alloc, state)?)
 }
 
 /// A whole number.

@@ -1,0 +1,4 @@
+pub mod NewNames
+pub mod AttributeCalls
+pub mod ProviderCalls
+pub mod RuleMaking

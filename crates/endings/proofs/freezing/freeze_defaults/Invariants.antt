@@ -1,0 +1,11 @@
+use Rattle.std.proofs.Common.{◌≡◌, drop}
+use Rattle.values.specs.Visits.{all_of}
+use Rattle.values.specs.declared.ticks.TheConstants.{VISITED_LEVELS}
+use Rattle.visits.specs.Freeze.{freeze_at}
+use Rattle.values.proofs.VisitLemmas.{with_done}
+use Rattle.endings.proofs.freezing.freeze_defaults.Given as goal
+
+abbrev pub invariant-loop-i : goal.invariant-loop-i
+invariant-loop-i l =
+    let one = all_of (freeze_at VISITED_LEVELS l.heap) in
+    with_done l.kept (all_of one (drop l.i l.defaults) l.ticks) ≡ all_of one l.defaults l.initial.ticks

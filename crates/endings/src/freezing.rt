@@ -1,0 +1,138 @@
+//! Freezing what a module leaves.
+ghost use Rattle.std.specs.Prelude.{◌≡◌, ◌++◌, ◌∷◌, [], ◌<◌, Ok, Some, OnOk, MatchResult, length, slice_get};
+ghost use Rattle.values.specs.Ticking.{Says, FaultOr};
+ghost use Rattle.values.specs.Visits.{all_of};
+ghost use Rattle.visits.specs.Freeze.{freeze_at, frozen_slot};
+
+use operations::Defaults;
+use std::alloc::{AllocError, Global};
+use targets::Sequence;
+use values::{Broken, Frozen, Heap, Item, Ticks, VISITED_LEVELS, Value};
+use visits::freeze;
+
+/// The frozen value of a global, if it is bound.
+fn freeze_slot(
+    alloc: Global,
+    slot: &Option<Value>,
+    heap: &Heap,
+    ticks: &mut Ticks,
+) -> Result<Option<Frozen>, Broken>
+    ensures { Says (frozen_slot (freeze_at VISITED_LEVELS heap.now) slot.now ticks.old) result
+        ticks.new }
+{
+    match slot {
+        Some(value) => match freeze(alloc, Item::Value(value), heap, ticks) {
+            Ok(tree) => Ok(Some(tree)),
+            Err(broken) => Err(broken),
+        },
+        None => Ok(None),
+    }
+}
+
+/// The global at a place.
+fn slot_at(slots: &[Option<Value>], place: usize) -> &Option<Value>
+    requires { place < length slots.now }
+    ensures { slice_get slots.now place ≡ Some result.now }
+{
+    &slots[place]
+}
+
+/// Puts what a global has last.
+fn keep_slot(kept: &mut Vec<Option<Frozen>>, tree: Option<Frozen>) -> Result<(), AllocError>
+    ensures { OnOk result (kept.new.items ≡ kept.old.items ++ tree ∷ []) }
+{
+    kept.push(tree)?;
+    Ok(())
+}
+
+/// The frozen values of the globals, in the order in which they were bound.
+///
+/// # Errors
+///
+/// `steps`, `deep` and `type`, as freezing has them. After a `Broken` the ticks are open.
+pub(crate) fn freeze_globals(
+    alloc: Global,
+    globals: &[Option<Value>],
+    heap: &Heap,
+    ticks: &mut Ticks,
+) -> Result<Vec<Option<Frozen>>, Broken>
+    ensures { MatchResult result (λ v. all_of (frozen_slot (freeze_at VISITED_LEVELS heap.now))
+        globals.now ticks.old ≡ Ok (v.items, ticks.new)) (λ e. FaultOr
+        (all_of (frozen_slot (freeze_at VISITED_LEVELS heap.now)) globals.now ticks.old) e) }
+{
+    let mut kept = Vec::with_capacity(alloc, globals.len())?;
+    for i in 0..globals.len() {
+        match freeze_slot(alloc, slot_at(globals, i), heap, ticks) {
+            Ok(tree) => keep_slot(&mut kept, tree)?,
+            Err(broken) => return Err(broken),
+        }
+    }
+    Ok(kept)
+}
+
+/// The value at a place.
+fn value_at(values: &[Value], place: usize) -> &Value
+    requires { place < length values.now }
+    ensures { slice_get values.now place ≡ Some result.now }
+{
+    &values[place]
+}
+
+/// The frozen value of a default.
+fn freeze_value(
+    alloc: Global,
+    value: &Value,
+    heap: &Heap,
+    ticks: &mut Ticks,
+) -> Result<Frozen, Broken>
+    ensures { Says (freeze_at VISITED_LEVELS heap.now value.now ticks.old) result ticks.new }
+{
+    freeze(alloc, Item::Value(value), heap, ticks)
+}
+
+/// The frozen defaults of a function, in the order of its parameters.
+pub(crate) fn freeze_items(
+    alloc: Global,
+    values: &[Value],
+    heap: &Heap,
+    ticks: &mut Ticks,
+) -> Result<Sequence<Frozen>, Broken>
+    ensures { Says (all_of (freeze_at VISITED_LEVELS heap.now) values.now ticks.old) result
+        ticks.new }
+{
+    let mut kept = Sequence::with_capacity(alloc, values.len())?;
+    for i in 0..values.len() {
+        match freeze_value(alloc, value_at(values, i), heap, ticks) {
+            Ok(tree) => kept.push(tree)?,
+            Err(broken) => return Err(broken),
+        }
+    }
+    Ok(kept)
+}
+
+/// The frozen defaults of functions, by number.
+///
+/// # Errors
+///
+/// `steps`, `deep` and `type`, as freezing has them. After a `Broken` the ticks are open.
+pub(crate) fn freeze_defaults(
+    alloc: Global,
+    defaults: &Defaults,
+    heap: &Heap,
+    ticks: &mut Ticks,
+) -> Result<Sequence<Sequence<Frozen>>, Broken>
+    ensures { Says (all_of (all_of (freeze_at VISITED_LEVELS heap.now)) defaults.now ticks.old)
+        result ticks.new }
+{
+    let mut kept = Sequence::with_capacity(alloc, defaults.len())?;
+    for i in 0..defaults.len() {
+        let Some(items) = defaults.get(i) else {
+            return Ok(kept);
+        };
+        match freeze_items(alloc, items.as_slice(), heap, ticks) {
+            Ok(trees) => kept.push(trees)?,
+            Err(broken) => return Err(broken),
+        }
+    }
+    Ok(kept)
+}

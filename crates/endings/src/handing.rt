@@ -1,0 +1,70 @@
+//! What a module hands on, under the names that were given.
+ghost use Rattle.std.specs.Prelude.{◌≡◌, ◌<◌, ◌++◌, ◌∷◌, [], IfOk, OnOk, Some, length, map, slice_get};
+ghost use Rattle.values.specs.Shape.{value_of};
+ghost use Rattle.evaluation.specs.Naming.{named, slot_named};
+
+use crate::naming::Naming;
+use crate::renaming::{rename, rename_fields};
+use evaluation::Globals;
+use operations::Defaults;
+use std::alloc::{AllocError, Global};
+use targets::Sequence;
+use values::{Frozen, Items, Value, tree_at};
+
+/// The globals.
+pub(crate) fn named_globals(
+    alloc: Global,
+    naming: &Naming,
+    globals: &[Option<Frozen>],
+) -> Result<Globals, AllocError>
+    ensures { IfOk result (λ g. g ≡ map (slot_named naming.now) globals.now) }
+{
+    let parts = rename_fields(alloc, naming, globals)?;
+    Ok(Globals::of(parts.items))
+}
+
+/// A default, as a value.
+fn named_value(alloc: Global, naming: &Naming, tree: &Frozen) -> Result<Value, AllocError>
+    ensures { IfOk result (λ v. v ≡ value_of (named naming.now tree.now)) }
+{
+    match rename(alloc, naming, tree)? {
+        Some(new) => new.to_value(),
+        None => tree.to_value(),
+    }
+}
+
+/// The defaults of a function.
+fn named_items(alloc: Global, naming: &Naming, trees: &[Frozen]) -> Result<Items, AllocError>
+    ensures { IfOk result (λ v. v ≡ map (λ t. value_of (named naming.now t)) trees.now) }
+{
+    let mut items = Items::with_capacity(alloc, trees.len())?;
+    for i in 0..trees.len() {
+        items.push(named_value(alloc, naming, tree_at(trees, i))?)?;
+    }
+    Ok(items)
+}
+
+/// The defaults at a place.
+fn defaults_at(defaults: &[Sequence<Frozen>], place: usize) -> &Sequence<Frozen>
+    requires { place < length defaults.now }
+    ensures { slice_get defaults.now place ≡ Some result.now }
+{
+    &defaults[place]
+}
+
+/// The defaults of all functions, by number.
+pub(crate) fn named_defaults(
+    alloc: Global,
+    naming: &Naming,
+    defaults: &[Sequence<Frozen>],
+) -> Result<Defaults, AllocError>
+    ensures { IfOk result
+        (λ d. d ≡ map (map (λ t. value_of (named naming.now t))) defaults.now) }
+{
+    let mut all = Defaults::new(alloc);
+    for i in 0..defaults.len() {
+        let items = named_items(alloc, naming, defaults_at(defaults, i).as_slice())?;
+        all.push(items)?;
+    }
+    Ok(all)
+}

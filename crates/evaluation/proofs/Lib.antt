@@ -1,0 +1,5 @@
+pub mod Bound
+mod Small
+mod ModuleRows
+mod WorkspaceRows
+mod TargetRows

@@ -1,0 +1,147 @@
+//! Names of top levels, what loads ask for, and what a `def` makes.
+ghost use Rattle.std.specs.Prelude.{◌≡◌, Ok, Err, Some, None, MatchResult, option_copied, nat_eq};
+ghost use Rattle.values.specs.Ticking.{FaultOr};
+ghost use Rattle.values.specs.Seeing.{option_value};
+ghost use Rattle.operations.specs.States.{Gives};
+ghost use Rattle.operations.specs.Items.{or_fault};
+ghost use Rattle.operations.specs.Names.{global, set_global, set_loaded, load, define, defaults, listed, name_value};
+ghost use Rattle.language.specs.Place.{of_state};
+ghost use Rattle.language.specs.Language.{made_id};
+ghost use Rattle.frames.specs.Answers.{Says, id_seen};
+
+use crate::functions::made_id;
+use crate::stacks::all_of;
+use frames::{FunctionId, Stack};
+use language::Whole;
+use operations::State;
+use places::Link;
+use plain::Text;
+use std::alloc::Global;
+use values::{Broken, Item, Items, Kind, Value};
+
+/// The value of a name of the top level of a file.
+///
+/// # Errors
+///
+/// `unset`, before it is bound.
+pub(crate) fn global<L: Link, W>(
+    linked: &L,
+    whole: &Whole<W>,
+    file: usize,
+    number: usize,
+) -> Result<Value, Broken>
+    ensures { Says (of_state (global (L.linked linked.now) file number) whole.now) result
+        whole.now }
+{
+    if file == whole.state.file as usize {
+        own_name(&whole.state, number)
+    } else {
+        shared(linked.name(file, number))
+    }
+}
+
+/// The value of a name of the file that is evaluated, or `unset`.
+fn own_name(state: &State, number: usize) -> Result<Value, Broken>
+    ensures { Gives (or_fault Kind.Unset (name_value state.now number)) result }
+{
+    match making::name_value(state, number) {
+        Some(value) => Ok(value.share()?),
+        None => Err(Broken::Kind(Kind::Unset)),
+    }
+}
+
+/// A value that is there, or `unset`.
+fn shared(value: Option<Item<'_>>) -> Result<Value, Broken>
+    ensures { Gives (or_fault Kind.Unset (option_value value.entry)) result }
+{
+    match value {
+        Some(value) => Ok(value.to_value()?),
+        None => Err(Broken::Kind(Kind::Unset)),
+    }
+}
+
+/// A global of the file that is evaluated gets its value.
+pub(crate) fn set_global<W>(whole: &mut Whole<W>, file: usize, number: usize, value: Value)
+    ensures { whole.new ≡ record whole.old {
+      state = set_global file number value whole.old.state;
+    } }
+{
+    let own = whole.state.file;
+    if file == own as usize {
+        making::set_global(&mut whole.state, own, number, value);
+    }
+}
+
+/// A name that one of its loads binds gets its value.
+pub(crate) fn set_loaded<W>(whole: &mut Whole<W>, file: usize, number: usize, value: Value)
+    ensures { whole.new ≡ record whole.old {
+      state = set_loaded file number value whole.old.state;
+    } }
+{
+    let own = whole.state.file;
+    if file == own as usize {
+        making::set_loaded(&mut whole.state, own, number, value);
+    }
+}
+
+/// What a load of a file asks a module for.
+///
+/// # Errors
+///
+/// `unset`, where there is no such name.
+pub(crate) fn load<L: Link, W>(
+    linked: &L,
+    whole: &Whole<W>,
+    file: usize,
+    from: &Text,
+    name: &Text,
+) -> Result<Value, Broken>
+    ensures { Says (of_state (load (L.linked linked.now) file from.now name.now) whole.now) result
+        whole.now }
+{
+    shared(linked.asked(file, from, name))
+}
+
+/// The function that a `def` makes, with the values of its defaults, of which the first is at the top. A number that is
+/// too large for a value is answered as want of memory.
+pub(crate) fn define<W>(
+    alloc: Global,
+    whole: &mut Whole<W>,
+    function: FunctionId,
+    name: &Text,
+    defaults: Stack<Value>,
+) -> Result<Value, Broken>
+    ensures { Says (of_state (define (made_id (id_seen function)) name.now defaults) whole.old)
+        result whole.new }
+{
+    let defaults = all_of(alloc, defaults)?;
+    match made_id(function) {
+        Some(id) => making::define(alloc, &mut whole.state, id, name, defaults),
+        None => Err(Broken::NoMemory),
+    }
+}
+
+/// The defaults that a function's `def` kept.
+pub(crate) fn defaults<'a, L: Link>(
+    linked: &'a L,
+    state: &'a State,
+    function: FunctionId,
+) -> &'a [Value]
+    ensures { result.now ≡ defaults (L.linked linked.now) (made_id (id_seen function)) state.now }
+{
+    if function.file == state.file as usize {
+        listed(state.defaults.get(function.number))
+    } else {
+        linked.defaults(function.file, function.number)
+    }
+}
+
+/// Defaults, none where nothing is kept.
+fn listed(defaults: Option<&Items>) -> &[Value]
+    ensures { result.now ≡ listed (option_copied defaults.entry) }
+{
+    match defaults {
+        Some(defaults) => defaults.as_slice(),
+        None => &[],
+    }
+}

@@ -1,0 +1,174 @@
+//! Calls of what isn't written in Starlark.
+ghost use Rattle.std.specs.Prelude.{◌≡◌, Ok, Err, Some, None, MatchResult};
+ghost use Rattle.values.specs.Ticking.{FaultOr};
+ghost use Rattle.values.specs.declared.leaf.Leaf.{Leaf as Plain};
+ghost use Rattle.operations.specs.Arguments.{given};
+ghost use Rattle.language.specs.Language.{call_of, value_call, leaf_call, or_place, given_of};
+ghost use Rattle.language.specs.Language.{method_or_place, place_method, of_place};
+ghost use Rattle.operations.specs.Calls.{built_in_call};
+ghost use Rattle.operations.specs.Fields.{shape_method};
+ghost use Rattle.values.specs.Shape.{shape};
+ghost use Rattle.frames.specs.Answers.{Says, callee_seen, given as machine_given};
+
+use crate::stacks::all_of;
+use crate::world::World;
+use finding::method_named;
+use frames::{Callee, Stack};
+use language::Whole;
+use language_calls::of_place;
+use operations::Arguments;
+use places::{Link, Place};
+use plain::Text;
+use values::{Broken, BuiltIn, Kind, Leaf, Value};
+
+/// A call of what isn't written in Starlark: its values by position, of which the first is at the top, and those by name
+/// with their names.
+pub(crate) fn call<L: Link, P: Place>(
+    world: &World<'_, L, P>,
+    whole: &mut Whole<P::Work>,
+    callee: &Callee,
+    items: Stack<Value>,
+    names: &[Text],
+    named: Stack<Value>,
+) -> Result<Value, Broken>
+    ensures { Says (call_of (L.linked world.now.linked.now) (P.place world.now.place.now)
+        (callee_seen callee.now) (given_of (machine_given items names.now named)) whole.old) result
+        whole.new }
+{
+    let items = all_of(world.alloc, items)?;
+    let values = all_of(world.alloc, named)?;
+    let arguments = arguments(items.as_slice(), names, values.as_slice());
+    call_with(world, whole, callee, &arguments)
+}
+
+/// Arguments where they lie. A name without a value, or a value without a name, is none.
+fn arguments<'a>(items: &'a [Value], names: &'a [Text], values: &'a [Value]) -> Arguments<'a>
+    ensures { given result ≡ given_of (machine_given items.now names.now values.now) }
+{
+    if names.len() <= values.len() {
+        let values = &values[..names.len()];
+        Arguments {
+            items,
+            names,
+            values,
+        }
+    } else {
+        let names = &names[..values.len()];
+        Arguments {
+            items,
+            names,
+            values,
+        }
+    }
+}
+
+/// A call with arguments.
+fn call_with<L: Link, P: Place>(
+    world: &World<'_, L, P>,
+    whole: &mut Whole<P::Work>,
+    callee: &Callee,
+    arguments: &Arguments<'_>,
+) -> Result<Value, Broken>
+    ensures { Says (call_of (L.linked world.now.linked.now) (P.place world.now.place.now)
+        (callee_seen callee.now) (given arguments.now) whole.old) result whole.new }
+{
+    match callee {
+        Callee::Plain(value) => call_value(world, whole, value, arguments),
+        Callee::Method(value, name) => call_method(world, whole, value, name, arguments),
+    }
+}
+
+/// A call of a value.
+fn call_value<L: Link, P: Place>(
+    world: &World<'_, L, P>,
+    whole: &mut Whole<P::Work>,
+    value: &Value,
+    arguments: &Arguments<'_>,
+) -> Result<Value, Broken>
+    ensures { Says (value_call (L.linked world.now.linked.now) (P.place world.now.place.now)
+        value.now (given arguments.now) whole.old) result whole.new }
+{
+    match value {
+        Value::Leaf(leaf) => call_leaf(world, whole, leaf, arguments),
+        _ => Err(Broken::Kind(Kind::Wrong)),
+    }
+}
+
+/// A call of a built-in function, a provider or a rule.
+fn call_leaf<L: Link, P: Place>(
+    world: &World<'_, L, P>,
+    whole: &mut Whole<P::Work>,
+    leaf: &Leaf,
+    arguments: &Arguments<'_>,
+) -> Result<Value, Broken>
+    ensures { Says (leaf_call (L.linked world.now.linked.now) (P.place world.now.place.now)
+        leaf.now (given arguments.now) whole.old) result whole.new }
+{
+    match leaf {
+        Leaf::BuiltIn(function) => call_built_in(world, whole, *function, arguments),
+        Leaf::Provider(provider) => {
+            calls::call_provider(world.alloc, &mut whole.state, provider, arguments)
+        }
+        Leaf::Rule(_) => world.place.call(world.alloc, whole, leaf, arguments),
+        _ => Err(Broken::Kind(Kind::Wrong)),
+    }
+}
+
+/// A call of a built-in function, which may be one of the place.
+fn call_built_in<L: Link, P: Place>(
+    world: &World<'_, L, P>,
+    whole: &mut Whole<P::Work>,
+    function: BuiltIn,
+    arguments: &Arguments<'_>,
+) -> Result<Value, Broken>
+    ensures { Says (or_place (L.linked world.now.linked.now) (P.place world.now.place.now)
+        (Plain.BuiltIn function) (given arguments.now)
+        (built_in_call function (given arguments.now)) whole.old) result whole.new }
+{
+    match calls::call_built_in(world.alloc, &mut whole.state, function, arguments) {
+        Some(answer) => answer,
+        None => {
+            let leaf = Leaf::BuiltIn(function);
+            world.place.call(world.alloc, whole, &leaf, arguments)
+        }
+    }
+}
+
+/// A call of a method of a value.
+fn call_method<L: Link, P: Place>(
+    world: &World<'_, L, P>,
+    whole: &mut Whole<P::Work>,
+    value: &Value,
+    name: &Text,
+    arguments: &Arguments<'_>,
+) -> Result<Value, Broken>
+    ensures { Says (method_or_place (L.linked world.now.linked.now) (P.place world.now.place.now)
+        (shape_method (shape whole.old.state.heap value.now) name.now) value.now name.now
+        (given arguments.now) whole.old) result whole.new }
+{
+    match method_named(&whole.state.heap.see(value), name.as_str()) {
+        Some(method) => {
+            calls::call_method(world.alloc, &mut whole.state, method, value, arguments)
+        }
+        None => call_placed(world, whole, value, name, arguments),
+    }
+}
+
+/// A call of a method of a target or an object.
+fn call_placed<L: Link, P: Place>(
+    world: &World<'_, L, P>,
+    whole: &mut Whole<P::Work>,
+    value: &Value,
+    name: &Text,
+    arguments: &Arguments<'_>,
+) -> Result<Value, Broken>
+    ensures { Says (place_method (L.linked world.now.linked.now) (P.place world.now.place.now)
+        (of_place value.now) name.now (given arguments.now) whole.old) result whole.new }
+{
+    match of_place(value) {
+        Some(leaf) => world
+            .place
+            .method(world.alloc, whole, leaf, name, arguments),
+        None => Err(Broken::Kind(Kind::Name)),
+    }
+}

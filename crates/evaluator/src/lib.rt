@@ -1,0 +1,18 @@
+//! The operations of the language over true values: what the machine runs on.
+//!
+//! [`World`] joins the linked files and the place of an evaluation, and implements [`frames::Operate`] over a state with
+//! the work of the place. Each method is the operation of the record in crate `language`, exact for every state.
+#![tactic(auto)]
+
+mod binding;
+mod calling;
+mod displays;
+mod finding_callees;
+mod functions;
+mod looks;
+mod operating;
+mod stacks;
+mod turns;
+mod world;
+
+pub use world::World;

@@ -1,0 +1,91 @@
+//! Operators.
+ghost use Rattle.std.specs.Prelude.{◌≡◌, Ok, Err, Some, None, MatchResult};
+ghost use Rattle.grammar.specs.TreeView.{operator_seen, sign_seen};
+ghost use Rattle.values.specs.Ticking.{FaultOr};
+ghost use Rattle.operations.specs.Operators.{add_in_place};
+ghost use Rattle.language.specs.Place.{of_state};
+ghost use Rattle.language.specs.Language.{target_of, with_target, binary_of, sign_of};
+ghost use Rattle.frames.specs.Answers.{Says};
+
+use crate::world::World;
+use grammar::{Operator, Sign};
+use language::Whole;
+use language_calls::target_of;
+use places::{Link, Place};
+use std::alloc::Global;
+use values::{Broken, Item, Key, Value};
+
+/// An operator between two values, but `and` and `or`.
+pub(crate) fn binary<L: Link, P: Place>(
+    world: &World<'_, L, P>,
+    whole: &mut Whole<P::Work>,
+    operator: Operator,
+    left: &Value,
+    right: &Value,
+) -> Result<Value, Broken>
+    ensures { Says (with_target (L.linked world.now.linked.now) (P.place world.now.place.now)
+        (operator_seen operator) left.now right.now (target_of right.now) whole.old) result
+        whole.new }
+{
+    match target_of(right) {
+        Some(target) => binary_with(world, whole, operator, left, right, target),
+        None => language_calls::binary(world.alloc, &mut whole.state, operator, left, right),
+    }
+}
+
+/// An operator whose right side is a target.
+fn binary_with<L: Link, P: Place>(
+    world: &World<'_, L, P>,
+    whole: &mut Whole<P::Work>,
+    operator: Operator,
+    left: &Value,
+    right: &Value,
+    target: usize,
+) -> Result<Value, Broken>
+    ensures { Says (with_target (L.linked world.now.linked.now) (P.place world.now.place.now)
+        (operator_seen operator) left.now right.now (Some target) whole.old) result whole.new }
+{
+    match operator {
+        Operator::In => match world.place.offers(whole, target, left) {
+            Ok(offered) => Ok(Value::Key(Key::Truth(offered))),
+            Err(broken) => Err(broken),
+        },
+        Operator::NotIn => match world.place.offers(whole, target, left) {
+            Ok(offered) => Ok(Value::Key(Key::Truth(!offered))),
+            Err(broken) => Err(broken),
+        },
+        _ => language_calls::binary(world.alloc, &mut whole.state, operator, left, right),
+    }
+}
+
+/// `not` or `-`.
+pub(crate) fn sign<L: Link, P: Place>(
+    world: &World<'_, L, P>,
+    whole: &Whole<P::Work>,
+    sign: Sign,
+    value: &Value,
+) -> Result<Value, Broken>
+    ensures { Says (sign_of (L.linked world.now.linked.now) (P.place world.now.place.now)
+        (sign_seen sign) value.now whole.now) result whole.now }
+{
+    match sign {
+        Sign::Not => {
+            let truth = state::truth(&whole.state, Item::Value(value));
+            Ok(Value::Key(Key::Truth(!truth)))
+        }
+        Sign::Minus => state::negate(&whole.state, Item::Value(value)),
+    }
+}
+
+/// What `x += y` assigns to `x`.
+pub(crate) fn increase<W>(
+    alloc: Global,
+    whole: &mut Whole<W>,
+    old: &Value,
+    more: &Value,
+) -> Result<Value, Broken>
+    ensures { Says (of_state (add_in_place old.now more.now) whole.old) result whole.new }
+{
+    let old = old.share()?;
+    state::add_in_place(alloc, &mut whole.state, old, more)
+}

@@ -1,0 +1,3 @@
+pub mod Methods
+pub mod ModulePlace
+pub mod BuildPlace

@@ -1,0 +1,53 @@
+-- What a module has while its top level runs: the calls of `provider`, `rule` and `attr` declare; a call of a rule is `place`
+-- (docs/PROFILE.md, "Rules of all calls").
+use Rattle.std.specs.Prelude.{ℕ, List, Option, Some, None, Result, Ok, Err}
+use Rattle.values.specs.declared.leaf.AttributeKind.{AttributeKind}
+use Rattle.values.specs.declared.leaf.BuiltIn.{BuiltIn}
+use Rattle.values.specs.declared.leaf.BuiltIn.TheVariants as built_in
+use Rattle.values.specs.declared.leaf.Leaf.{Leaf}
+use Rattle.values.specs.declared.leaf.Leaf.TheVariants as plain
+use Rattle.values.specs.declared.ticks.Kind.{Kind}
+use Rattle.values.specs.declared.ticks.Kind.TheVariants as fault
+use Rattle.values.specs.declared.value.Value.{Value}
+use Rattle.operations.specs.Arguments.{Given}
+use Rattle.language.specs.Place.{Does, Place}
+use Rattle.language.specs.declared.whole.Whole.{Whole}
+use Rattle.targets.specs.declared.attributes.Attribute.{Attribute}
+use Rattle.declarations.specs.declared.table.Declarations.{Declarations}
+use Rattle.declarations.specs.AttributeCalls.{new_attribute}
+use Rattle.declarations.specs.ProviderCalls.{new_provider}
+use Rattle.declarations.specs.RuleMaking.{new_rule}
+use Rattle.file_places.specs.Methods.{declared_kind, has_method}
+
+-- what is declared is kept beside the state, which stays
+abbrev pub declared : Whole Declarations → Result (Value × Declarations) Kind → Result (Value × Whole Declarations) Kind
+declared w (Ok p) = Ok (p.0, record w { work = p.1 })
+declared w (Err k) = Err k
+
+-- `attr.string(..)` and its kin
+abbrev pub attribute_call : Option AttributeKind → Given → Does Declarations Value
+attribute_call (Some k) g w = declared w (new_attribute k g w.state w.work)
+attribute_call None g w = Err fault.Name
+
+-- what other modules declared, by their paths and by numbers
+module _ (linked : List ℕ → ℕ → Option Attribute) where
+  abbrev pub built_in_call : BuiltIn → Given → Does Declarations Value
+  built_in_call built_in.Provider g w = declared w (new_provider g w.state w.work)
+  built_in_call built_in.Rule g w = declared w (new_rule linked w.state w.work g)
+  built_in_call _ g w = Err fault.Wrong
+
+  abbrev pub module_call : Leaf → Given → Does Declarations Value
+  module_call (plain.BuiltIn b) g w = built_in_call b g w
+  module_call (plain.Rule r) g w = Err fault.Place
+  module_call _ g w = Err fault.Wrong
+
+  -- `attr` has no fields, and a module sees no targets
+  abbrev pub module_place : Place Declarations
+  module_place = record {
+    call = module_call;
+    has_method = has_method;
+    method = λ l x. attribute_call (declared_kind l x);
+    field = λ l x w. Err fault.Name;
+    item = λ n v w. Err fault.Wrong;
+    offers = λ n v w. Err fault.Wrong;
+  }

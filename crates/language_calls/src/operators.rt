@@ -1,0 +1,115 @@
+//! The operators of two values, where the right side is no target.
+ghost use Rattle.std.specs.Prelude.{◌≡◌, Ok, Err, MatchResult};
+ghost use Rattle.grammar.specs.TreeView.{operator_seen};
+ghost use Rattle.values.specs.Ticking.{FaultOr};
+ghost use Rattle.operations.specs.States.{Does, Stays};
+ghost use Rattle.operations.specs.Equality.{equals};
+ghost use Rattle.operations.specs.Strings.{member};
+ghost use Rattle.operations.specs.Operators.{calculate, compare};
+ghost use Rattle.language.specs.Language.{as_truth, as_opposite, binary_of};
+
+use grammar::Operator;
+use numbers::Comparison;
+use operations::{Arithmetic, State};
+use std::alloc::Global;
+use values::{Broken, Item, Key, Kind, Value};
+
+/// An operator between two values, but `and` and `or`, which no operation does: they are `type` here.
+///
+/// # Errors
+///
+/// Those of the operator.
+pub fn binary(
+    alloc: Global,
+    state: &mut State,
+    operator: Operator,
+    left: &Value,
+    right: &Value,
+) -> Result<Value, Broken>
+    ensures { Does (binary_of (operator_seen operator) left.now right.now) state.old result
+        state.new }
+{
+    match operator {
+        Operator::Equal => equal(state, left, right),
+        Operator::NotEqual => not_equal(state, left, right),
+        Operator::Less => compared(state, Comparison::Below, left, right),
+        Operator::LessEqual => compared(state, Comparison::AtMost, left, right),
+        Operator::Greater => compared(state, Comparison::Above, left, right),
+        Operator::GreaterEqual => compared(state, Comparison::AtLeast, left, right),
+        Operator::In => within(state, left, right),
+        Operator::NotIn => not_within(state, left, right),
+        Operator::Add => state::plus(alloc, state, left, right),
+        Operator::Subtract => calculated(state, Arithmetic::Minus, left, right),
+        Operator::Multiply => calculated(state, Arithmetic::Times, left, right),
+        Operator::FloorDivide => calculated(state, Arithmetic::FloorDiv, left, right),
+        Operator::Remainder => calculated(state, Arithmetic::Modulo, left, right),
+        Operator::Or | Operator::And => Err(Broken::Kind(Kind::Wrong)),
+    }
+}
+
+/// `left == right`.
+fn equal(state: &mut State, left: &Value, right: &Value) -> Result<Value, Broken>
+    ensures { Does (as_truth (equals left.now right.now)) state.old result state.new }
+{
+    match state::equals(state, Item::Value(left), Item::Value(right)) {
+        Ok(same) => Ok(Value::Key(Key::Truth(same))),
+        Err(broken) => Err(broken),
+    }
+}
+
+/// `left != right`.
+fn not_equal(state: &mut State, left: &Value, right: &Value) -> Result<Value, Broken>
+    ensures { Does (as_opposite (equals left.now right.now)) state.old result state.new }
+{
+    match state::equals(state, Item::Value(left), Item::Value(right)) {
+        Ok(same) => Ok(Value::Key(Key::Truth(!same))),
+        Err(broken) => Err(broken),
+    }
+}
+
+/// `left < right` and its like.
+fn compared(
+    state: &State,
+    operator: Comparison,
+    left: &Value,
+    right: &Value,
+) -> Result<Value, Broken>
+    ensures { Does (as_truth (compare operator left.now right.now)) state.now result state.now }
+{
+    match state::compare(state, operator, Item::Value(left), Item::Value(right)) {
+        Ok(holds) => Ok(Value::Key(Key::Truth(holds))),
+        Err(broken) => Err(broken),
+    }
+}
+
+/// `left in right`.
+fn within(state: &mut State, left: &Value, right: &Value) -> Result<Value, Broken>
+    ensures { Does (as_truth (member left.now right.now)) state.old result state.new }
+{
+    match text_calls::member(state, Item::Value(left), Item::Value(right)) {
+        Ok(held) => Ok(Value::Key(Key::Truth(held))),
+        Err(broken) => Err(broken),
+    }
+}
+
+/// `left not in right`.
+fn not_within(state: &mut State, left: &Value, right: &Value) -> Result<Value, Broken>
+    ensures { Does (as_opposite (member left.now right.now)) state.old result state.new }
+{
+    match text_calls::member(state, Item::Value(left), Item::Value(right)) {
+        Ok(held) => Ok(Value::Key(Key::Truth(!held))),
+        Err(broken) => Err(broken),
+    }
+}
+
+/// `left - right` and the other operators of whole numbers alone.
+fn calculated(
+    state: &State,
+    operator: Arithmetic,
+    left: &Value,
+    right: &Value,
+) -> Result<Value, Broken>
+    ensures { Does (calculate operator left.now right.now) state.now result state.now }
+{
+    state::calculate(state, operator, Item::Value(left), Item::Value(right))
+}

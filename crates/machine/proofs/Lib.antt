@@ -1,0 +1,6 @@
+pub mod Lists
+pub mod Named
+pub mod Parameters
+pub mod CallSteps
+pub mod Moving
+pub mod Loop

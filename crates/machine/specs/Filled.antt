@@ -1,0 +1,20 @@
+-- What one parameter gets.
+use Rattle.std.specs.Prelude.{ℕ, zero, suc, Option, Some, None, List, bytes_eq, slice_get}
+use Rattle.std.specs.Map.{lookup}
+use Rattle.syntax.specs.Names.{Name, or_else}
+
+-- a value by position, unless there is one by name
+abbrev pub unless : {V : Type 0} → Option V → V → Option V
+unless None v = Some v
+unless (Some w) v = None
+
+-- a parameter gets its value by position, if it has none by its name; or the one by its name, or its default
+abbrev pub got : {V : Type 0} → Name → Option V → List (Name × V) → Option V → Option V
+got p (Some v) named d = unless (lookup (bytes_eq p) named) v
+got p None named d = or_else (lookup (bytes_eq p) named) d
+
+-- the default of a parameter by its place, where the first ones, so many, have none
+abbrev pub default_at : {V : Type 0} → ℕ → ℕ → List V → Option V
+default_at zero i ds = slice_get ds i
+default_at (suc n) zero ds = None
+default_at (suc n) (suc i) ds = default_at n i ds

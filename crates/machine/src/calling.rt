@@ -1,0 +1,172 @@
+//! Calls.
+
+ghost use Rattle.std.specs.Prelude.{◌≡◌, List, Some, option_map};
+ghost use Rattle.values.specs.declared.value.Value as held;
+ghost use Rattle.meaning.specs.Entry.{called};
+ghost use Rattle.meaning.specs.Instructions.{Codes, code_at};
+ghost use Rattle.meaning.specs.Machine as machine;
+ghost use Rattle.frames.specs.Answers.{id_seen, callee_seen};
+ghost use Rattle.frames.specs.Seen.{seen};
+ghost use Rattle.machine.specs.ActiveView.{ids_seen};
+ghost use Rattle.machine.specs.CallView.{Begins, Enters, arguments_seen, here_at};
+ghost use Rattle.machine.specs.LinkedView.{codes_of};
+
+use crate::active::Active;
+use crate::filling::slots_at_entry;
+use crate::linked::Linked;
+use frames::{Callee, Frame, FunctionId, Operate, Refusal, Slots, Stack, Stop, refused, stop_at};
+use plain::Text;
+use std::alloc::{AllocError, Global};
+use values::Value;
+
+/// The arguments of a call: those by position, the first at the top, and those by name with their names, the first
+/// at the
+/// top.
+#[derive(Drop)]
+pub struct Arguments<'a> {
+    pub items: Stack<Value>,
+    pub names: &'a [Text],
+    pub named: Stack<Value>,
+}
+
+/// Where a call stands: the number of its file, and its line.
+#[derive(Clone, Copy)]
+pub(crate) struct Place {
+    pub(crate) file: usize,
+    pub(crate) line: usize,
+}
+
+/// What a call comes to: the value of what isn't written in Starlark, or the frame of a function that is.
+#[derive(Drop)]
+pub(crate) enum Called<T> {
+    Value(Value),
+    Frame(Frame<T>),
+}
+
+/// A function may be active once, and 128 functions at most.
+const MOST_ACTIVE: usize = 128;
+
+/// A frame at the first instruction of a function.
+pub(crate) fn frame_at_entry<T>(alloc: Global, function: FunctionId, slots: Slots) -> Frame<T>
+    ensures { (rest : T → List held.Value) → seen rest result ≡ machine.frame_of (id_seen
+        function) slots }
+{
+    Frame {
+        function,
+        place: 0,
+        slots,
+        values: Stack::new(alloc),
+        callees: Stack::new(alloc),
+        walk: None,
+        outer: Stack::new(alloc),
+    }
+}
+
+/// A function whose arguments fit becomes active, if it isn't yet and if not too many are, with the tick of its call.
+fn enter<W: Operate>(
+    world: &W,
+    place: Place,
+    function: FunctionId,
+    slots: Slots,
+    active: &mut Active,
+    state: &mut W::State,
+) -> Result<Frame<W::Walk>, Stop>
+    ensures { (codes : Codes) → Begins W.rest (λ below. machine.starting (W.operations world.now)
+        codes
+        (here_at place (ids_seen active.old)) (id_seen function) below state.old (Some slots))
+        result
+        (ids_seen active.new) state.new }
+{
+    if active.contains(function) {
+        return Err(refused(world, Refusal::Recursion, place.file, place.line));
+    }
+    if active.len() >= MOST_ACTIVE {
+        return Err(refused(world, Refusal::Deep, place.file, place.line));
+    }
+    if let Err(broken) = world.tick(state) {
+        return Err(stop_at(broken, place.file, place.line));
+    }
+    active.enter(function)?;
+    Ok(frame_at_entry(world.alloc(), function, slots))
+}
+
+/// A function written in Starlark is called: the tests of the call, its tick, and a new frame.
+pub(crate) fn call_function<W: Operate>(
+    world: &W,
+    linked: &Linked,
+    place: Place,
+    function: FunctionId,
+    arguments: Arguments<'_>,
+    active: &mut Active,
+    state: &mut W::State,
+) -> Result<Frame<W::Walk>, Stop>
+    ensures { Begins W.rest (λ below. machine.starts (W.operations world.now) (codes_of linked.now)
+        (here_at place (ids_seen active.old)) (id_seen function) (arguments_seen arguments.entry)
+        below state.old
+        (code_at (codes_of linked.now) (id_seen function))) result (ids_seen active.new) state.new }
+{
+    let Some(code) = linked.function(function) else {
+        return Err(refused(world, Refusal::WrongType, place.file, place.line));
+    };
+    let Arguments {
+        items,
+        names,
+        named,
+    } = arguments;
+    let defaults = world.defaults(state, function);
+    let entry = slots_at_entry(
+        world.alloc(),
+        code.params(),
+        code.slots(),
+        defaults,
+        items,
+        names,
+        named,
+    )?;
+    let Some(slots) = entry else {
+        return Err(refused(world, Refusal::Arity, place.file, place.line));
+    };
+    enter(world, place, function, slots, active, state)
+}
+
+/// Which function written in Starlark is called, if one is.
+fn function_of<W: Operate>(world: &W, callee: &Callee) -> Option<FunctionId>
+    ensures { option_map id_seen result ≡ called (W.operations world.now) (callee_seen callee.now) }
+{
+    match callee {
+        Callee::Plain(value) => world.function(value),
+        Callee::Method(_, _) => None,
+    }
+}
+
+/// A call: of a function written in Starlark, or of something else.
+pub(crate) fn call<W: Operate>(
+    world: &W,
+    linked: &Linked,
+    place: Place,
+    callee: &Callee,
+    arguments: Arguments<'_>,
+    active: &mut Active,
+    state: &mut W::State,
+) -> Result<Called<W::Walk>, Stop>
+    ensures { Enters W.rest (λ below. machine.start (W.operations world.now) (codes_of linked.now)
+        (here_at place (ids_seen active.old)) (callee_seen callee.now) (arguments_seen
+        arguments.entry) below state.old) result
+        (ids_seen active.new) state.new }
+{
+    if let Some(function) = function_of(world, callee) {
+        return match call_function(world, linked, place, function, arguments, active, state) {
+            Ok(frame) => Ok(Called::Frame(frame)),
+            Err(stop) => Err(stop),
+        };
+    }
+    let Arguments {
+        items,
+        names,
+        named,
+    } = arguments;
+    match world.call(state, callee, items, names, named) {
+        Ok(value) => Ok(Called::Value(value)),
+        Err(broken) => Err(stop_at(broken, place.file, place.line)),
+    }
+}

@@ -1,0 +1,196 @@
+//! Runs, from their start to their end.
+
+ghost use Rattle.std.specs.Prelude.{◌≡◌, []};
+ghost use Rattle.values.specs.declared.value.Value as held;
+ghost use Rattle.values.specs.declared.ticks.Kind as kinds;
+ghost use Rattle.meaning.specs.Correct.{call_start, function_start, top_start};
+ghost use Rattle.meaning.specs.Functions.{Files};
+ghost use Rattle.meaning.specs.StatementCode.{code_of};
+ghost use Rattle.frames.specs.Answers.{callee_seen, id_seen};
+ghost use Rattle.machine.specs.CallView.{arguments_seen};
+ghost use Rattle.machine.specs.LinkedView.{codes_of};
+ghost use Rattle.machine.specs.StartView.{Answers, Comes, Starts, meaning_of, start_of};
+
+use crate::active::Active;
+use crate::calling::{Arguments, Called, Place, call, call_function, frame_at_entry};
+use crate::filling::unset;
+use crate::linked::Linked;
+use crate::running::Running;
+use crate::stepping::step;
+use frames::{Callee, Frame, FunctionId, Operate, Refusal, Stack, Step, Stop, refused};
+use std::alloc::Global;
+use values::{Kind, Value};
+
+/// What is run.
+#[derive(Drop)]
+pub enum Start<'a> {
+    /// A value, or a method of one, is called at a line of a file, with these arguments.
+    Call(usize, usize, Callee, Arguments<'a>),
+    /// A function is called at the line of its `def`, whatever value it has: so an implementation is called.
+    Function(FunctionId, Arguments<'a>),
+    /// The top level of a file, by the number of the file.
+    TopLevel(usize),
+}
+
+/// What a start comes to: a value at once, or a run.
+#[derive(Drop)]
+pub(crate) enum Begun<T> {
+    Over(Value),
+    Running(Running<T>),
+}
+
+/// A function runs, which has no caller.
+fn alone<T>(alloc: Global, top: Frame<T>, active: Active) -> Running<T>
+    ensures { result ≡ record { top = top; below = []; active = active } }
+{
+    Running {
+        top,
+        below: Stack::new(alloc),
+        active,
+    }
+}
+
+/// A call of a value begins.
+fn begin_call<W: Operate>(
+    world: &W,
+    linked: &Linked,
+    place: Place,
+    callee: &Callee,
+    arguments: Arguments<'_>,
+    state: &mut W::State,
+) -> Result<Begun<W::Walk>, Stop>
+    ensures { Starts W.rest (call_start (W.operations world.now) (codes_of linked.now) place.file
+        place.line (callee_seen callee.now) (arguments_seen arguments.entry) state.old) result
+        state.new }
+{
+    let mut active = Active::new(world.alloc());
+    match call(world, linked, place, callee, arguments, &mut active, state) {
+        Ok(Called::Value(value)) => Ok(Begun::Over(value)),
+        Ok(Called::Frame(top)) => Ok(Begun::Running(alone(world.alloc(), top, active))),
+        Err(stop) => Err(stop),
+    }
+}
+
+/// A call of a function begins, at the line of its `def`.
+fn begin_function<W: Operate>(
+    world: &W,
+    linked: &Linked,
+    function: FunctionId,
+    arguments: Arguments<'_>,
+    state: &mut W::State,
+) -> Result<Begun<W::Walk>, Stop>
+    ensures { Starts W.rest (function_start (W.operations world.now) (codes_of linked.now)
+        (id_seen function) (arguments_seen arguments.entry) state.old) result state.new }
+{
+    let file = function.file;
+    let Some(line) = linked.def_line(function) else {
+        return Err(refused(world, Refusal::WrongType, file, 0));
+    };
+    let mut active = Active::new(world.alloc());
+    let place = Place { file, line };
+    match call_function(
+        world,
+        linked,
+        place,
+        function,
+        arguments,
+        &mut active,
+        state,
+    ) {
+        Ok(top) => Ok(Begun::Running(alone(world.alloc(), top, active))),
+        Err(stop) => Err(stop),
+    }
+}
+
+/// The top level of a file begins: no function is active, nothing is set in its slots, and it takes no tick.
+fn begin_top<W: Operate>(world: &W, linked: &Linked, file: usize) -> Result<Begun<W::Walk>, Stop>
+    ensures { (s : W.State) → Starts W.rest (top_start (W.operations world.now) (codes_of
+        linked.now)
+        file s) result s }
+{
+    let function = FunctionId { file, number: 0 };
+    let Some(code) = linked.function(function) else {
+        return Err(refused(world, Refusal::WrongType, file, 0));
+    };
+    let slots = unset(world.alloc(), code.slots())?;
+    let top = frame_at_entry(world.alloc(), function, slots);
+    let active = Active::new(world.alloc());
+    Ok(Begun::Running(alone(world.alloc(), top, active)))
+}
+
+/// A run begins.
+fn begin<W: Operate>(
+    world: &W,
+    linked: &Linked,
+    start: Start<'_>,
+    state: &mut W::State,
+) -> Result<Begun<W::Walk>, Stop>
+    ensures { Starts W.rest (start_of (W.operations world.now) (codes_of linked.now) start.entry
+        state.old) result state.new }
+{
+    match start {
+        Start::Call(file, line, callee, arguments) => {
+            begin_call(
+                world,
+                linked,
+                Place { file, line },
+                &callee,
+                arguments,
+                state,
+            )
+        }
+        Start::Function(function, arguments) => {
+            begin_function(world, linked, function, arguments, state)
+        }
+        Start::TopLevel(file) => begin_top(world, linked, file),
+    }
+}
+
+/// A run, up to its end.
+fn run<W: Operate>(
+    world: &W,
+    linked: &Linked,
+    start: Start<'_>,
+    state: &mut W::State,
+) -> Result<Value, Stop>
+    ensures { Comes (W.operations world.now) (codes_of linked.now) (start_of (W.operations
+        world.now)
+        (codes_of linked.now) start.entry state.old) result state.new }
+{
+    let mut running = match begin(world, linked, start, state) {
+        Ok(Begun::Running(running)) => running,
+        Ok(Begun::Over(value)) => return Ok(value),
+        Err(stop) => return Err(stop),
+    };
+    loop {
+        match step(world, linked, &mut running, state) {
+            Ok(Step::More) => {}
+            Ok(Step::Over(value)) => return Ok(value),
+            Ok(Step::Stuck) => unreachable!(),
+            Err(stop) => return Err(stop),
+        }
+    }
+}
+
+/// Runs linked code. What it answers is exactly what the files mean of which it is the code: the value, with the
+/// state after
+/// it and so the ticks; or the fault of that kind, in that file, at that line. Each run ends: the machine takes one
+/// instruction
+/// after the other and doesn't recurse, whatever the depth of calls.
+///
+/// # Errors
+///
+/// A fault as the files mean it; [`Stop::NoMemory`] where memory was refused, and then the state is left as it is.
+pub fn execute<W: Operate>(
+    world: &W,
+    linked: &Linked,
+    start: Start<'_>,
+    state: &mut W::State,
+) -> Result<Value, Stop>
+    ensures means { (files : Files) → codes_of linked.now ≡ code_of files → Answers (meaning_of
+        (W.operations world.now) files start.entry state.old) result state.new }
+    ensures compiled { ∥ ((files : Files) × (codes_of linked.now ≡ code_of files)) ∥₁ }
+{
+    meaning::laws::compiled_code_is_correct::<W::State, Value, Kind>();
+    run(world, linked, start, state)
+}

@@ -1,0 +1,183 @@
+//! What the parameters of a function get.
+
+ghost use Rattle.std.specs.Prelude.{◌≡◌, ◌++◌, None, position, replicate, slice_get, option_copied, bytes_eq, IfOk};
+ghost use Rattle.std.specs.List.{list_any, list_all};
+ghost use Rattle.std.specs.Map.{lookup};
+ghost use Rattle.meaning.specs.Entry.{all_known, defaults_of, entry, filled, paired};
+ghost use Rattle.frames.specs.Answers.{given};
+ghost use Rattle.machine.specs.Filled.{default_at, got};
+
+use frames::{Slots, Stack};
+use plain::Text;
+use std::alloc::{AllocError, Global};
+use values::Value;
+
+/// The place of a name.
+fn place_of(name: &Text, names: &[Text]) -> Option<usize>
+    ensures { result ≡ position (bytes_eq name.now) names.now }
+{
+    names.iter().position(|other| *name == *other)
+}
+
+/// The value of an argument by its name, if there is one of this name.
+fn named_value<'a>(param: &Text, names: &[Text], named: &'a [Value]) -> Option<&'a Value>
+    ensures { option_copied result ≡ lookup (bytes_eq param.now) (paired names.now named.now) }
+{
+    match place_of(param, names) {
+        Some(index) => value_at(named, index),
+        None => None,
+    }
+}
+
+/// Whether a name is that of a parameter.
+fn is_param(params: &[Text], name: &Text) -> bool
+    ensures { result ≡ list_any (bytes_eq name.now) params.now }
+{
+    params.iter().any(|param| *name == *param)
+}
+
+/// Whether each name is that of a parameter.
+fn are_params(params: &[Text], names: &[Text]) -> bool
+    ensures { result ≡ list_all (λ n. list_any (bytes_eq n) params.now) names.now }
+{
+    names.iter().all(|name| is_param(params, name))
+}
+
+/// Whether each argument by name is one of a parameter.
+fn are_known(params: &[Text], names: &[Text], named: &[Value]) -> bool
+    ensures { result ≡ all_known params.now (paired names.now named.now) }
+{
+    let count = names.len().min(named.len());
+    are_params(params, &names[..count])
+}
+
+/// What one parameter gets, if it gets something.
+fn given_to(
+    param: &Text,
+    item: Option<Value>,
+    names: &[Text],
+    named: &[Value],
+    default: Option<&Value>,
+) -> Result<Option<Value>, AllocError>
+    ensures { IfOk result (λ o. o
+        ≡ got param.now item (paired names.now named.now) (option_copied default.entry)) }
+{
+    let by_name = named_value(param, names, named);
+    match item {
+        Some(value) => match by_name {
+            Some(_) => Ok(None),
+            None => Ok(Some(value)),
+        },
+        None => match by_name {
+            Some(value) => Ok(Some(value.share()?)),
+            None => match default {
+                Some(value) => Ok(Some(value.share()?)),
+                None => Ok(None),
+            },
+        },
+    }
+}
+
+/// The value at a place.
+fn value_at(values: &[Value], index: usize) -> Option<&Value>
+    ensures { option_copied result ≡ slice_get values.now index }
+{
+    values.get(index)
+}
+
+/// The default of a parameter by its place, where so many parameters have none.
+fn default_of(defaults: &[Value], without: usize, index: usize) -> Option<&Value>
+    ensures { option_copied result ≡ default_at without index defaults.now }
+{
+    if index < without {
+        None
+    } else {
+        value_at(defaults, index - without)
+    }
+}
+
+/// What the parameters get, in their order; None where the arguments don't fit them.
+fn fill(
+    alloc: Global,
+    params: &[Text],
+    defaults: &[Value],
+    items: Stack<Value>,
+    names: &[Text],
+    named: &[Value],
+) -> Result<Option<Slots>, AllocError>
+    ensures { IfOk result (λ o. o ≡ filled params.now items (paired names.now named.now)
+        (defaults_of params.now defaults.now)) }
+{
+    let mut items = items;
+    let mut slots = Slots::new(alloc);
+    let without = params.len().saturating_sub(defaults.len());
+    for (index, param) in params.iter().enumerate() {
+        let default = default_of(defaults, without, index);
+        match given_to(param, items.pop(), names, named, default)? {
+            Some(value) => slots.push(Some(value))?,
+            None => return Ok(None),
+        }
+    }
+    if items.len() > 0 {
+        return Ok(None);
+    }
+    Ok(Some(slots))
+}
+
+/// So many slots more, in which nothing is set.
+fn pad(slots: &mut Slots, count: usize) -> Result<(), AllocError>
+    ensures { IfOk result (λ _. slots.new ≡ slots.old ++ replicate count None) }
+{
+    for _ in 0..count {
+        slots.push(None)?;
+    }
+    Ok(())
+}
+
+/// As many slots, in which nothing is set.
+pub(crate) fn unset(alloc: Global, count: usize) -> Result<Slots, AllocError>
+    ensures { IfOk result (λ slots. slots ≡ replicate count None) }
+{
+    let mut slots = Slots::new(alloc);
+    pad(&mut slots, count)?;
+    Ok(slots)
+}
+
+/// The values of a stack in order, the top first.
+fn in_order(alloc: Global, values: Stack<Value>) -> Result<Vec<Value>, AllocError>
+    ensures { IfOk result (λ v. v.items ≡ values) }
+{
+    let mut values = values;
+    let mut all = Vec::new(alloc);
+    while let Some(value) = values.pop() {
+        all.push(value)?;
+    }
+    Ok(all)
+}
+
+/// The slots at the entry of a function; None where the arguments don't fit its parameters.
+#[tactic(auto, unfolding(meaning::specs::Entry::entry))]
+pub(crate) fn slots_at_entry(
+    alloc: Global,
+    params: &[Text],
+    count: usize,
+    defaults: &[Value],
+    items: Stack<Value>,
+    names: &[Text],
+    named: Stack<Value>,
+) -> Result<Option<Slots>, AllocError>
+    ensures { IfOk result (λ o. o ≡ entry params.now count defaults.now (given items names.now
+        named)) }
+{
+    let named = in_order(alloc, named)?;
+    if !are_known(params, names, named.as_slice()) {
+        return Ok(None);
+    }
+    match fill(alloc, params, defaults, items, names, named.as_slice())? {
+        None => Ok(None),
+        Some(mut slots) => {
+            pad(&mut slots, count.saturating_sub(params.len()))?;
+            Ok(Some(slots))
+        }
+    }
+}

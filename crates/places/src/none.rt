@@ -1,0 +1,95 @@
+//! No linked files, and no place.
+ghost use Rattle.std.specs.Prelude.{◌≡◌, Err, None, false, MatchResult};
+ghost use Rattle.places.specs.Nothing.{no_files, no_place};
+
+use crate::{Link, Place};
+use language::Whole;
+use operations::Arguments;
+use plain::Text;
+use std::alloc::Global;
+use values::{Broken, Item, Kind, Leaf, Value};
+
+/// No files are linked: no name is known, and no load gives anything.
+#[derive(Clone, Copy)]
+pub struct NoFiles;
+
+impl Link for NoFiles {
+    ghost linked = { λ _. no_files };
+
+    fn name(&self, _file: usize, _number: usize) -> Option<Item<'_>> {
+        None
+    }
+
+    fn defaults(&self, _file: usize, _number: usize) -> &[Value] {
+        &[]
+    }
+
+    fn asked(&self, _file: usize, _label: &Text, _name: &Text) -> Option<Item<'_>> {
+        None
+    }
+}
+
+/// Outside of modules, `BUILD` files and implementations: calls of `provider`, of `rule` and of rules are `place`, and
+/// nothing has a field or a method.
+#[derive(Clone, Copy)]
+pub struct NoPlace;
+
+impl Place for NoPlace {
+    type Work = ();
+
+    ghost place = { λ _. no_place };
+
+    fn call(
+        &self,
+        _alloc: Global,
+        _whole: &mut Whole<()>,
+        _callee: &Leaf,
+        _arguments: &Arguments<'_>,
+    ) -> Result<Value, Broken> {
+        Err(Broken::Kind(Kind::Place))
+    }
+
+    fn has_method(&self, _owner: &Leaf, _name: &Text) -> bool {
+        false
+    }
+
+    fn method(
+        &self,
+        _alloc: Global,
+        _whole: &mut Whole<()>,
+        _owner: &Leaf,
+        _name: &Text,
+        _arguments: &Arguments<'_>,
+    ) -> Result<Value, Broken> {
+        Err(Broken::Kind(Kind::Name))
+    }
+
+    fn field(
+        &self,
+        _alloc: Global,
+        _whole: &Whole<()>,
+        _owner: &Leaf,
+        _name: &Text,
+    ) -> Result<Value, Broken> {
+        Err(Broken::Kind(Kind::Name))
+    }
+
+    fn item(
+        &self,
+        _alloc: Global,
+        _whole: &Whole<()>,
+        _target: usize,
+        _provider: &Value,
+    ) -> Result<Value, Broken> {
+        Err(Broken::Kind(Kind::Wrong))
+    }
+
+    fn offers(
+        &self,
+        _whole: &Whole<()>,
+        _target: usize,
+        _provider: &Value,
+    ) -> Result<bool, Broken> {
+        Err(Broken::Kind(Kind::Wrong))
+    }
+}

@@ -1,0 +1,79 @@
+//! What only one place has.
+ghost use Rattle.std.specs.Prelude.{◌≡◌};
+ghost use Rattle.operations.specs.Arguments.{given};
+ghost use Rattle.language.specs.Place.{Place as Having};
+ghost use Rattle.places.specs.Answers.{Says, Reads};
+
+use language::Whole;
+use operations::Arguments;
+use plain::Text;
+use std::alloc::Global;
+use values::{Broken, Leaf, Value};
+
+/// A module, a `BUILD` file or an implementation: its calls, and what its targets and objects show. Its work is what its
+/// calls change beside the state of the evaluation.
+///
+/// Each method gives what the place gives, with the state after it, or the fault that it has. Where memory was refused
+/// nothing is said.
+pub trait Place {
+    /// What the place declares.
+    type Work;
+
+    ghost place: { Self → Having Self.Work };
+
+    /// A call of `provider` or `rule`, or of a rule.
+    fn call(
+        &self,
+        alloc: Global,
+        whole: &mut Whole<Self::Work>,
+        callee: &Leaf,
+        arguments: &Arguments<'_>,
+    ) -> Result<Value, Broken>
+        ensures { Says ((place self.now).call callee.now (given arguments.now) whole.old) result
+            whole.new };
+
+    /// Whether a target or an object has a method of this name.
+    fn has_method(&self, owner: &Leaf, name: &Text) -> bool
+        ensures { result ≡ (place self.now).has_method owner.now name.now };
+
+    /// A call of a method of a target or an object.
+    fn method(
+        &self,
+        alloc: Global,
+        whole: &mut Whole<Self::Work>,
+        owner: &Leaf,
+        name: &Text,
+        arguments: &Arguments<'_>,
+    ) -> Result<Value, Broken>
+        ensures { Says ((place self.now).method owner.now name.now (given arguments.now) whole.old)
+            result whole.new };
+
+    /// A field of a target or an object.
+    fn field(
+        &self,
+        alloc: Global,
+        whole: &Whole<Self::Work>,
+        owner: &Leaf,
+        name: &Text,
+    ) -> Result<Value, Broken>
+        ensures { Reads ((place self.now).field owner.now name.now whole.now) result };
+
+    /// `t[P]` of the target at a place among the dependencies.
+    fn item(
+        &self,
+        alloc: Global,
+        whole: &Whole<Self::Work>,
+        target: usize,
+        provider: &Value,
+    ) -> Result<Value, Broken>
+        ensures { Reads ((place self.now).item target provider.now whole.now) result };
+
+    /// `P in t` of the target at a place among the dependencies.
+    fn offers(
+        &self,
+        whole: &Whole<Self::Work>,
+        target: usize,
+        provider: &Value,
+    ) -> Result<bool, Broken>
+        ensures { Reads ((place self.now).offers target provider.now whole.now) result };
+}

@@ -1,0 +1,7 @@
+use Rattle.std.proofs.Common.{◌≡◌, ◌++◌, drop, map, string_bytes}
+use Rattle.printing.specs.Texts.{joined_from, joined, quoted}
+use Rattle.reporting.proofs.strings_in.put_texts.Given as goal
+
+abbrev pub invariant-loop-i : goal.invariant-loop-i
+invariant-loop-i l =
+    string_bytes l.out ++ joined_from l.i (map quoted (drop l.i l.texts)) ≡ string_bytes l.fn.out ++ joined (map quoted l.texts)

@@ -1,0 +1,17 @@
+//! The lines of a report: load faults, what becomes of each label, and conflicts.
+//!
+//! Each function appends to a text what a definition of `specs/Lines` says. A depset is written by its listing, whose walk
+//! skips what it has seen; of what is coherent that is the text of the plain meaning.
+#![tactic(auto)]
+
+mod action_lines;
+mod conflict_lines;
+mod fault_texts;
+mod load_lines;
+mod outcome_lines;
+mod provider_lines;
+mod strings_in;
+
+pub use conflict_lines::put_conflict;
+pub use load_lines::put_load_fault;
+pub use outcome_lines::put_outcome;

@@ -1,0 +1,89 @@
+//! Lists of strings.
+ghost use Rattle.std.specs.Prelude.{◌≡◌, ◌++◌, map, string_bytes, IfOk, OnOk};
+ghost use Rattle.std.specs.List.{flat_map};
+ghost use Rattle.printing.specs.Texts.{joined, quoted, separator};
+ghost use Rattle.reporting.specs.Lines.{element_paths, path_of, strings_text};
+
+use depsets::{Element, FileRef};
+use plain::{Shared, Text};
+use printing::{put_quoted, put_separator};
+use std::alloc::{AllocError, Global};
+
+/// Appends the string at a place of a list.
+fn put_string_at(out: &mut String, place: usize, text: &str) -> Result<(), AllocError>
+    ensures { OnOk result (string_bytes out.new
+        ≡ string_bytes out.old ++ (separator place ++ quoted text.now)) }
+{
+    put_separator(out, place)?;
+    put_quoted(out, text.as_bytes())?;
+    Ok(())
+}
+
+/// Appends texts as strings, with commas between them.
+fn put_texts(out: &mut String, texts: &[Text]) -> Result<(), AllocError>
+    ensures { OnOk result (string_bytes out.new
+        ≡ string_bytes out.old ++ joined (map quoted texts.now)) }
+{
+    for i in 0..texts.len() {
+        put_string_at(out, i, texts[i].as_str())?;
+    }
+    Ok(())
+}
+
+/// Appends the paths of Files as strings, with commas between them.
+fn put_paths(out: &mut String, files: &[Shared<FileRef>]) -> Result<(), AllocError>
+    ensures { OnOk result (string_bytes out.new
+        ≡ string_bytes out.old ++ joined (map quoted (map path_of files.now))) }
+{
+    for i in 0..files.len() {
+        put_string_at(out, i, files[i].get().path.as_str())?;
+    }
+    Ok(())
+}
+
+/// Appends the list of texts.
+pub(crate) fn put_text_list(out: &mut String, texts: &[Text]) -> Result<(), AllocError>
+    ensures { OnOk result (string_bytes out.new ≡ string_bytes out.old ++ strings_text texts.now) }
+{
+    out.push_str("[")?;
+    put_texts(out, texts)?;
+    out.push_str("]")?;
+    Ok(())
+}
+
+/// Appends the list of the paths of Files.
+pub(crate) fn put_file_list(out: &mut String, files: &[Shared<FileRef>]) -> Result<(), AllocError>
+    ensures { OnOk result (string_bytes out.new
+        ≡ string_bytes out.old ++ strings_text (map path_of files.now)) }
+{
+    out.push_str("[")?;
+    put_paths(out, files)?;
+    out.push_str("]")?;
+    Ok(())
+}
+
+/// The paths of the Files among elements.
+fn paths_in(alloc: Global, elements: &[Element]) -> Result<Vec<Text>, AllocError>
+    ensures { IfOk result (λ v. v.items ≡ flat_map element_paths elements.now) }
+{
+    let mut paths = Vec::new(alloc);
+    for element in elements {
+        if let Element::File(file) = element {
+            paths.push(file.get().path.share()?)?;
+        }
+    }
+    Ok(paths)
+}
+
+/// Appends the list of the paths of the Files among elements.
+pub(crate) fn put_element_list(
+    alloc: Global,
+    out: &mut String,
+    elements: &[Element],
+) -> Result<(), AllocError>
+    ensures { OnOk result (string_bytes out.new
+        ≡ string_bytes out.old ++ strings_text (flat_map element_paths elements.now)) }
+{
+    let paths = paths_in(alloc, elements)?;
+    put_text_list(out, &paths)
+}

@@ -1,0 +1,5 @@
+pub mod Adding
+pub mod Typed
+pub mod Repeated
+pub mod Named
+pub mod Steps

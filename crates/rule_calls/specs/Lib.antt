@@ -1,0 +1,4 @@
+pub mod Each
+pub mod Freezing
+pub mod Packages
+pub mod Called

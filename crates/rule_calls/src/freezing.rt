@@ -1,0 +1,52 @@
+//! Freezing what a call of a rule gives.
+ghost use Rattle.std.specs.Prelude.{◌≡◌, Ok, Err, MatchResult, option_copied};
+ghost use Rattle.values.specs.Ticking.{Says, FaultOr};
+ghost use Rattle.operations.specs.Arguments.{given};
+ghost use Rattle.targets.specs.RuleCalls.{given_as};
+ghost use Rattle.rule_calls.specs.Freezing.{frozen_option, frozen_for};
+
+use crate::given::given_as;
+use operations::Arguments;
+use std::alloc::Global;
+use targets::NamedAttribute;
+use values::{Broken, Heap, Item, Ticks, Value};
+use visits::freeze;
+
+/// Freezes what is given for attributes, in their order. Nothing is kept of it: the target has what was read of it, so
+/// that it costs ticks alone.
+pub(crate) fn freeze_given(
+    alloc: Global,
+    attributes: &[NamedAttribute],
+    arguments: &Arguments<'_>,
+    heap: &Heap,
+    ticks: &mut Ticks,
+) -> Result<(), Broken>
+    ensures { Says (frozen_for attributes.now (given arguments.now) heap.now ticks.old) result
+        ticks.new }
+{
+    for attribute in attributes {
+        let value = given_as(attribute.name.as_str(), arguments);
+        if let Err(broken) = freeze_option(alloc, value, heap, ticks) {
+            return Err(broken);
+        }
+    }
+    Ok(())
+}
+
+/// Freezes a value, if there is one.
+fn freeze_option(
+    alloc: Global,
+    value: Option<&Value>,
+    heap: &Heap,
+    ticks: &mut Ticks,
+) -> Result<(), Broken>
+    ensures { Says (frozen_option (option_copied value.entry) heap.now ticks.old) result ticks.new }
+{
+    let Some(value) = value else {
+        return Ok(());
+    };
+    match freeze(alloc, Item::Value(value), heap, ticks) {
+        Ok(_) => Ok(()),
+        Err(broken) => Err(broken),
+    }
+}

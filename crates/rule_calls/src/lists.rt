@@ -1,0 +1,107 @@
+//! Strings, and labels of a package, out of the items of a list.
+ghost use Rattle.std.specs.Prelude.{◌≡◌, [], Ok, Err, Some, MatchResult};
+ghost use Rattle.values.specs.Seeing.{seen, group_items};
+ghost use Rattle.values.specs.Shape.{shape};
+ghost use Rattle.values.specs.Ticking.{FaultOr};
+ghost use Rattle.operations.specs.Items.{or_fault};
+ghost use Rattle.operations.specs.Reading.{string_in};
+ghost use Rattle.operations.specs.States.{Gives};
+ghost use Rattle.workspace.specs.Labels.{label_of};
+ghost use Rattle.targets.specs.RuleCalls.{label_in};
+ghost use Rattle.rule_calls.specs.Each.{put_read, added};
+
+use plain::Shared;
+use state::text_of;
+use std::alloc::Global;
+use targets::Sequence;
+use values::{Broken, Group, Heap, Kind, Names, Seen};
+use workspace::{Label, LabelRefused};
+
+/// The strings that items are, or `type`.
+pub(crate) fn strings(alloc: Global, heap: &Heap, items: Group<'_>) -> Result<Names, Broken>
+    ensures { Gives (added (λ v. string_in (shape heap.now v)) [] (group_items items.entry)) result }
+{
+    let mut texts = Names::new(alloc);
+    for place in 0..items.len() {
+        if let Err(broken) = put_text(&heap.see_item(items.item(place)), &mut texts) {
+            return Err(broken);
+        }
+    }
+    Ok(texts)
+}
+
+/// Puts the string that a value is last, or `type`.
+fn put_text(value: &Seen<'_>, texts: &mut Names) -> Result<(), Broken>
+    ensures { MatchResult result
+        (λ _. put_read texts.old (string_in (seen value.now)) ≡ Ok texts.new)
+        (λ e. FaultOr (put_read texts.old (string_in (seen value.now))) e) }
+{
+    let Some(text) = text_of(value) else {
+        return Err(Broken::Kind(Kind::Wrong));
+    };
+    let text = text.share()?;
+    if texts.push(text).is_err() {
+        return Err(Broken::NoMemory);
+    }
+    Ok(())
+}
+
+/// The labels that items are, whose texts are read in a package, or `type`.
+pub(crate) fn labels(
+    alloc: Global,
+    heap: &Heap,
+    package: &str,
+    items: Group<'_>,
+) -> Result<Sequence<Shared<Label>>, Broken>
+    ensures { Gives (added (λ v. label_in heap.now «package».now (shape heap.now v)) []
+        (group_items items.entry)) result }
+{
+    let mut labels = Sequence::new(alloc);
+    for place in 0..items.len() {
+        let value = heap.see_item(items.item(place));
+        if let Err(broken) = put_label(alloc, heap, package, &value, &mut labels) {
+            return Err(broken);
+        }
+    }
+    Ok(labels)
+}
+
+/// Puts the label that a value is last, or `type`.
+fn put_label(
+    alloc: Global,
+    heap: &Heap,
+    package: &str,
+    value: &Seen<'_>,
+    labels: &mut Sequence<Shared<Label>>,
+) -> Result<(), Broken>
+    ensures { MatchResult result
+        (λ _. put_read labels.old (label_in heap.now «package».now (seen value.now)) ≡ Ok labels.new)
+        (λ e. FaultOr (put_read labels.old (label_in heap.now «package».now (seen value.now))) e) }
+{
+    let Some(text) = text_of(value) else {
+        return Err(Broken::Kind(Kind::Wrong));
+    };
+    match read_label(alloc, package, text.as_str()) {
+        Ok(label) => {
+            if labels.push(label).is_err() {
+                return Err(Broken::NoMemory);
+            }
+            Ok(())
+        }
+        Err(broken) => Err(broken),
+    }
+}
+
+/// The label that a text is, read in a package, or `type`.
+pub(crate) fn read_label(alloc: Global, package: &str, text: &str) -> Result<Shared<Label>, Broken>
+    ensures { Gives (or_fault Kind.Wrong (label_of text.now (Some «package».now))) result }
+{
+    match Label::read(alloc, text, Some(package)) {
+        Ok(label) => {
+            let label = Shared::new(alloc, label)?;
+            Ok(label)
+        }
+        Err(LabelRefused::Illegal) => Err(Broken::Kind(Kind::Wrong)),
+        Err(LabelRefused::NoMemory) => Err(Broken::NoMemory),
+    }
+}

@@ -1,0 +1,118 @@
+//! The label and the values of a target, out of what is given for it.
+ghost use Rattle.std.specs.Prelude.{◌≡◌, [], Ok, Err, MatchResult, option_copied};
+ghost use Rattle.values.specs.Ticking.{FaultOr};
+ghost use Rattle.operations.specs.Arguments.{given};
+ghost use Rattle.operations.specs.Items.{or_fault};
+ghost use Rattle.operations.specs.States.{Gives};
+ghost use Rattle.workspace.specs.Labels.{legal_label};
+ghost use Rattle.targets.specs.RuleCalls.{value_for, label_from};
+ghost use Rattle.rule_calls.specs.Each.{put_read, added};
+
+use crate::defaults::default_of;
+use crate::given::given_as;
+use crate::typing::typed;
+use operations::Arguments;
+use plain::Shared;
+use state::text_of;
+use std::alloc::Global;
+use targets::{AttributeValue, NamedAttribute, Sequence};
+use values::{Broken, Heap, Kind, Value};
+use workspace::{Label, is_label, label_with};
+
+/// The label of a target in a package, whose name is a string, or `type`.
+pub(crate) fn label_from(
+    alloc: Global,
+    heap: &Heap,
+    package: &str,
+    name: Option<&Value>,
+) -> Result<Shared<Label>, Broken>
+    ensures { Gives (or_fault Kind.Wrong
+        (label_from heap.now «package».now (option_copied name.entry))) result }
+{
+    let Some(name) = name else {
+        return Err(Broken::Kind(Kind::Wrong));
+    };
+    match text_of(&heap.see(name)) {
+        Some(name) => label_named(alloc, package, name.as_str()),
+        None => Err(Broken::Kind(Kind::Wrong)),
+    }
+}
+
+/// The label of a package and a name, or `type` where they make none.
+fn label_named(alloc: Global, package: &str, name: &str) -> Result<Shared<Label>, Broken>
+    ensures { Gives (or_fault Kind.Wrong
+        (legal_label (record { «package» = «package».now; name = name.now }))) result }
+{
+    if !is_label(package, name) {
+        return Err(Broken::Kind(Kind::Wrong));
+    }
+    let label = label_with(alloc, package, name)?;
+    let label = Shared::new(alloc, label)?;
+    Ok(label)
+}
+
+/// What a target has for each attribute, or `type`.
+pub(crate) fn values_for(
+    alloc: Global,
+    heap: &Heap,
+    package: &str,
+    arguments: &Arguments<'_>,
+    attributes: &[NamedAttribute],
+) -> Result<Sequence<AttributeValue>, Broken>
+    ensures { Gives (added (value_for heap.now «package».now (given arguments.now)) []
+        attributes.now) result }
+{
+    let mut values = Sequence::new(alloc);
+    for attribute in attributes {
+        if let Err(broken) = put_value(alloc, heap, package, arguments, attribute, &mut values) {
+            return Err(broken);
+        }
+    }
+    Ok(values)
+}
+
+/// Puts what a target has for an attribute last, or `type`.
+fn put_value(
+    alloc: Global,
+    heap: &Heap,
+    package: &str,
+    arguments: &Arguments<'_>,
+    attribute: &NamedAttribute,
+    values: &mut Sequence<AttributeValue>,
+) -> Result<(), Broken>
+    ensures { MatchResult result (λ _. put_read values.old
+        (value_for heap.now «package».now (given arguments.now) attribute.now) ≡ Ok values.new)
+        (λ e. FaultOr (put_read values.old
+        (value_for heap.now «package».now (given arguments.now) attribute.now)) e) }
+{
+    match value_for(alloc, heap, package, arguments, attribute) {
+        Ok(value) => {
+            if values.push(value).is_err() {
+                return Err(Broken::NoMemory);
+            }
+            Ok(())
+        }
+        Err(broken) => Err(broken),
+    }
+}
+
+/// What a target has for an attribute: what is given, or else the default; or `type`.
+fn value_for(
+    alloc: Global,
+    heap: &Heap,
+    package: &str,
+    arguments: &Arguments<'_>,
+    attribute: &NamedAttribute,
+) -> Result<AttributeValue, Broken>
+    ensures { Gives (or_fault Kind.Wrong
+        (value_for heap.now «package».now (given arguments.now) attribute.now)) result }
+{
+    let declared = attribute.attribute.get();
+    match given_as(attribute.name.as_str(), arguments) {
+        Some(value) => typed(alloc, heap, package, declared, value),
+        None => {
+            let value = default_of(alloc, declared)?;
+            Ok(value)
+        }
+    }
+}

@@ -1,0 +1,75 @@
+//! Labels that stand twice in a list that is given.
+ghost use Rattle.std.specs.Prelude.{◌≡◌, ◌&&◌, IfOk, true, false};
+ghost use Rattle.std.specs.List.{list_any};
+ghost use Rattle.operations.specs.Arguments.{given};
+ghost use Rattle.targets.specs.RuleCalls.{is_given, repeats, repeats_label, repeats_given};
+
+use crate::given::given_as;
+use operations::Arguments;
+use plain::Shared;
+use std::alloc::{AllocError, Global};
+use std::collections::BTreeSet;
+use targets::{AttributeValue, NamedAttribute};
+use workspace::Label;
+
+/// Whether a list of labels that is given has one twice. A default may have it.
+pub(crate) fn repeats_given(
+    alloc: Global,
+    attributes: &[NamedAttribute],
+    arguments: &Arguments<'_>,
+    values: &[AttributeValue],
+) -> Result<bool, AllocError>
+    ensures { IfOk result (λ b. b
+        ≡ repeats_given attributes.now (given arguments.now) values.now) }
+{
+    for (place, attribute) in attributes.iter().enumerate() {
+        let repeats = match values.get(place) {
+            Some(value) => repeats_for(alloc, attribute, arguments, value)?,
+            None => return Ok(false),
+        };
+        if repeats {
+            return Ok(true);
+        }
+    }
+    Ok(false)
+}
+
+/// Whether what is given for an attribute has a label twice.
+fn repeats_for(
+    alloc: Global,
+    attribute: &NamedAttribute,
+    arguments: &Arguments<'_>,
+    value: &AttributeValue,
+) -> Result<bool, AllocError>
+    ensures { IfOk result (λ b. b
+        ≡ (is_given (given arguments.now) attribute.now.name && repeats_label value.now)) }
+{
+    if given_as(attribute.name.as_str(), arguments).is_none() {
+        return Ok(false);
+    }
+    repeats_label(alloc, value)
+}
+
+/// Whether a value has a label twice.
+fn repeats_label(alloc: Global, value: &AttributeValue) -> Result<bool, AllocError>
+    ensures { IfOk result (λ b. b ≡ repeats_label value.now) }
+{
+    match value {
+        AttributeValue::Labels(labels) => repeats(alloc, labels.get().as_slice()),
+        _ => Ok(false),
+    }
+}
+
+/// Whether one of the labels is there twice. They are found by order, so who chooses them can't make this slow.
+fn repeats(alloc: Global, labels: &[Shared<Label>]) -> Result<bool, AllocError>
+    ensures { IfOk result (λ b. b ≡ repeats labels.now) }
+{
+    let mut seen = BTreeSet::new(alloc);
+    for label in labels {
+        let is_new = seen.insert((label.get().package(), label.get().name()))?;
+        if !is_new {
+            return Ok(true);
+        }
+    }
+    Ok(false)
+}

@@ -1,0 +1,165 @@
+//! Values of attributes, out of what is given for them.
+ghost use Rattle.std.specs.Prelude.{◌≡◌, ℕ, List, Ok, Err, MatchResult};
+ghost use Rattle.std.specs.List.{list_any};
+ghost use Rattle.values.specs.Leaves.{same_key};
+ghost use Rattle.values.specs.Seeing.{seen};
+ghost use Rattle.values.specs.Shape.{shape};
+ghost use Rattle.values.specs.Ticking.{FaultOr};
+ghost use Rattle.values.specs.declared.cells.Cell.{Cell};
+ghost use Rattle.operations.specs.Items.{or_fault};
+ghost use Rattle.operations.specs.States.{Gives};
+ghost use Rattle.targets.specs.RuleCalls.{typed, is_allowed, if_allowed};
+
+use crate::lists::{labels, read_label, strings};
+use plain::Shared;
+use std::alloc::Global;
+use targets::{Attribute, AttributeValue};
+use values::{AttributeKind, Broken, Heap, Key, Kind, Seen, Value};
+
+/// What a value is for an attribute, whose labels are read in a package, or `type`.
+pub(crate) fn typed(
+    alloc: Global,
+    heap: &Heap,
+    package: &str,
+    attribute: &Attribute,
+    value: &Value,
+) -> Result<AttributeValue, Broken>
+    ensures { Gives (or_fault Kind.Wrong (typed heap.now «package».now attribute.now.kind
+        attribute.now.values (shape heap.now value.now))) result }
+{
+    let seen = heap.see(value);
+    let allowed = attribute.values.as_slice();
+    match attribute.kind {
+        AttributeKind::String => text_value(allowed, &seen),
+        AttributeKind::Int => number_value(allowed, &seen),
+        AttributeKind::Bool => truth_value(&seen),
+        AttributeKind::StringList => strings_value(alloc, heap, &seen),
+        AttributeKind::Label => label_value(alloc, package, &seen),
+        AttributeKind::LabelList => labels_value(alloc, heap, package, &seen),
+    }
+}
+
+/// A string that is allowed.
+fn text_value(allowed: &[Key], value: &Seen<'_>) -> Result<AttributeValue, Broken>
+    ensures { (h : List Cell) (p : List ℕ) → Gives (or_fault Kind.Wrong
+        (typed h p AttributeKind.String allowed.now (seen value.now))) result }
+{
+    match value {
+        Seen::Key(key) => match key {
+            Key::Text(_) => if_allowed(allowed, key),
+            _ => Err(Broken::Kind(Kind::Wrong)),
+        },
+        _ => Err(Broken::Kind(Kind::Wrong)),
+    }
+}
+
+/// A whole number that is allowed.
+fn number_value(allowed: &[Key], value: &Seen<'_>) -> Result<AttributeValue, Broken>
+    ensures { (h : List Cell) (p : List ℕ) → Gives (or_fault Kind.Wrong
+        (typed h p AttributeKind.Int allowed.now (seen value.now))) result }
+{
+    match value {
+        Seen::Key(key) => match key {
+            Key::Number(_) => if_allowed(allowed, key),
+            _ => Err(Broken::Kind(Kind::Wrong)),
+        },
+        _ => Err(Broken::Kind(Kind::Wrong)),
+    }
+}
+
+/// A key, if it is allowed.
+fn if_allowed(allowed: &[Key], key: &Key) -> Result<AttributeValue, Broken>
+    ensures { Gives (or_fault Kind.Wrong (if_allowed allowed.now key.now)) result }
+{
+    if !is_allowed(allowed, key) {
+        return Err(Broken::Kind(Kind::Wrong));
+    }
+    let key = key.share()?;
+    Ok(AttributeValue::Key(key))
+}
+
+/// Whether a key is one of those that are allowed, which are all where there are none.
+fn is_allowed(allowed: &[Key], key: &Key) -> bool
+    ensures { result ≡ is_allowed allowed.now key.now }
+{
+    if allowed.len() == 0 {
+        return true;
+    }
+    is_among(allowed, key)
+}
+
+/// Whether a key is one of these.
+fn is_among(keys: &[Key], key: &Key) -> bool
+    ensures { result ≡ list_any (same_key key.now) keys.now }
+{
+    for other in keys {
+        if *key == *other {
+            return true;
+        }
+    }
+    false
+}
+
+/// A bool.
+fn truth_value(value: &Seen<'_>) -> Result<AttributeValue, Broken>
+    ensures { (h : List Cell) (p : List ℕ) (ks : List Key) → Gives (or_fault Kind.Wrong
+        (typed h p AttributeKind.Bool ks (seen value.now))) result }
+{
+    match value {
+        Seen::Key(Key::Truth(truth)) => Ok(AttributeValue::Key(Key::Truth(*truth))),
+        _ => Err(Broken::Kind(Kind::Wrong)),
+    }
+}
+
+/// A list of strings.
+fn strings_value(alloc: Global, heap: &Heap, value: &Seen<'_>) -> Result<AttributeValue, Broken>
+    ensures { (p : List ℕ) (ks : List Key) → Gives (or_fault Kind.Wrong
+        (typed heap.now p AttributeKind.StringList ks (seen value.now))) result }
+{
+    let Seen::List(items) = value else {
+        return Err(Broken::Kind(Kind::Wrong));
+    };
+    match strings(alloc, heap, *items) {
+        Ok(texts) => {
+            let texts = Shared::new(alloc, texts)?;
+            Ok(AttributeValue::Strings(texts))
+        }
+        Err(broken) => Err(broken),
+    }
+}
+
+/// The label that a string is.
+fn label_value(alloc: Global, package: &str, value: &Seen<'_>) -> Result<AttributeValue, Broken>
+    ensures { (h : List Cell) (ks : List Key) → Gives (or_fault Kind.Wrong
+        (typed h «package».now AttributeKind.Label ks (seen value.now))) result }
+{
+    let Seen::Key(Key::Text(text)) = value else {
+        return Err(Broken::Kind(Kind::Wrong));
+    };
+    match read_label(alloc, package, text.as_str()) {
+        Ok(label) => Ok(AttributeValue::Label(Some(label))),
+        Err(broken) => Err(broken),
+    }
+}
+
+/// The labels that a list of strings is.
+fn labels_value(
+    alloc: Global,
+    heap: &Heap,
+    package: &str,
+    value: &Seen<'_>,
+) -> Result<AttributeValue, Broken>
+    ensures { (ks : List Key) → Gives (or_fault Kind.Wrong
+        (typed heap.now «package».now AttributeKind.LabelList ks (seen value.now))) result }
+{
+    let Seen::List(items) = value else {
+        return Err(Broken::Kind(Kind::Wrong));
+    };
+    match labels(alloc, heap, package, *items) {
+        Ok(labels) => {
+            let labels = Shared::new(alloc, labels)?;
+            Ok(AttributeValue::Labels(labels))
+        }
+        Err(broken) => Err(broken),
+    }
+}
