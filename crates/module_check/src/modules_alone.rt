@@ -86,7 +86,12 @@ fn globals(alloc: Global, parsed: &Parsed, mut whole: Box<Whole<()>>) -> Result<
 }
 
 /// Runs the top level of a file that was read.
-fn run(alloc: Global, default_info: &DefaultInfo, path: &str, parsed: &Parsed) -> Result<Evaluated> {
+fn run(
+    alloc: Global,
+    default_info: &DefaultInfo,
+    path: &str,
+    parsed: &Parsed,
+) -> Result<Evaluated> {
     let Ok(code) = compile(alloc, parsed) else {
         bail!("no memory")
     };
@@ -117,9 +122,10 @@ pub fn evaluate(
 ) -> Result<Evaluated> {
     match parse(alloc, text, FileKind::Module) {
         Ok(parsed) => run(alloc, default_info, path, &parsed),
-        Err(ParseStop::Fault(found)) => Ok(Evaluated::Fault(
-            format!(in alloc; "{} syntax {}", found.line, found.kind)?,
-        )),
+        Err(ParseStop::Fault(found)) => Ok(Evaluated::Fault(format!(in alloc;
+            "{} syntax {}",
+            found.line, found.kind
+        )?)),
         Err(ParseStop::NoMemory) => bail!("no memory"),
     }
 }

@@ -57,11 +57,7 @@ fn put_words(out: &mut String, action: &Action) -> Result<(), AllocError>
 }
 
 /// Appends the line of an action.
-pub(crate) fn put_action(
-    alloc: Global,
-    out: &mut String,
-    action: &Action,
-) -> Result<(), AllocError>
+pub(crate) fn put_action(alloc: Global, out: &mut String, action: &Action) -> Result<(), AllocError>
     ensures { OnOk result (string_bytes out.new
         ≡ string_bytes out.old ++ action_line walked action.now) }
 {

@@ -11,10 +11,7 @@ use std::fmt::Write;
 use values::Kind;
 
 /// Appends why a file failed.
-fn put_load_kind(
-    out: &mut String,
-    kind: &LoadFaultKind<FaultKind, Kind>,
-) -> Result<(), AllocError>
+fn put_load_kind(out: &mut String, kind: &LoadFaultKind<FaultKind, Kind>) -> Result<(), AllocError>
     ensures { OnOk result (string_bytes out.new ≡ string_bytes out.old ++ load_kind_text kind.now) }
 {
     match kind {

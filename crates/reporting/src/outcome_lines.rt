@@ -85,10 +85,16 @@ fn put_fault(out: &mut String, fault: &TargetFault) -> Result<(), AllocError>
         TargetFault::NoSuchTarget => out.push_str("no such target")?,
         TargetFault::PackageFailed => out.push_str("package failed")?,
         TargetFault::DependencyFailed(labels) => put_failed(out, labels.as_slice())?,
-        TargetFault::ProvidersMissing(name, label) =>
-            put_refused(out, "providers missing ", name, label.get())?,
+        TargetFault::ProvidersMissing(name, label) => put_refused(
+            out,
+            "providers missing ",
+            name,
+            label.get(),
+        )?,
         TargetFault::FileKind(name, label) => put_refused(out, "file kind ", name, label.get())?,
-        TargetFault::Implementation(kind, path, line) => put_implementation(out, kind, path, *line)?,
+        TargetFault::Implementation(kind, path, line) => put_implementation(
+            out, kind, path, *line,
+        )?,
         TargetFault::Returned => out.push_str("returned")?,
         TargetFault::NoAction(path) => put_no_action(out, path)?,
     }

@@ -12,12 +12,7 @@ use std::alloc::{AllocError, Global};
 use values::{Frozen, Held, Node};
 
 /// Appends a field that was given, after a space.
-fn put_given(
-    alloc: Global,
-    out: &mut String,
-    name: &Text,
-    value: &Frozen,
-) -> Result<(), AllocError>
+fn put_given(alloc: Global, out: &mut String, name: &Text, value: &Frozen) -> Result<(), AllocError>
     ensures { OnOk result (string_bytes out.new
         ≡ string_bytes out.old ++ given_text walked name.now value.now) }
 {
