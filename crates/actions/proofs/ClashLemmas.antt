@@ -1,5 +1,5 @@
 -- What is gathered from claims in order meets the law of conflicts.
-use Rattle.std.proofs.Common.{◌≡◌, ◌≤◌, ◌<◌, ◌⊎◌, inl, inr, ℕ, zero, suc, ◌+◌, Bool, true, false, List, [], ◌∷◌, ◌++◌, length, map, cond, refl, sym, ap, ◌∙◌, subst, arith, append_assoc, append-nil, if◌then◌else◌, nat_lt, ⊎_elim}
+use Rattle.std.proofs.Common.{◌≡◌, ◌≤◌, inl, inr, ℕ, Bool, true, false, List, [], ◌∷◌, ◌++◌, length, map, cond, refl, sym, ap, ◌∙◌, subst, arith, append_assoc, append-nil, if◌then◌else◌, nat_lt}
 use Rattle.std.proofs.lemmas.Bool.{ltb-true, true≢false}
 use Rattle.std.proofs.lemmas.Bool.Decides.{nat_tests}
 use Rattle.std.proofs.lemmas.Cmp.{alike_right, tied_itself, nat_list_cmp_total}
@@ -13,7 +13,7 @@ use Rattle.std.specs.Cmp.Lexicographic.{slice_cmp}
 use Rattle.std.specs.Str.{bytes_eq}
 use Rattle.actions.specs.Claims.{claim_cmp, put_in_order, all_in_order, in_order, claims_from}
 use Rattle.actions.specs.Conflicts.{conflict_of, gathered, conflicts_of}
-use Rattle.actions.specs.Clashes.{Each, IsAmong, AreAscending, is_on, labels_on, owners, AreConflicts}
+use Rattle.actions.specs.Clashes.{Each, IsAmong, AreAscending, is_on, labels_on, AreConflicts}
 use Rattle.actions.specs.declared.action.Owned.{Owned}
 use Rattle.actions.specs.declared.claims.Claim.{Claim}
 use Rattle.actions.specs.declared.gather.Conflict.{Conflict}

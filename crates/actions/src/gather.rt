@@ -9,6 +9,7 @@ use crate::claims::{Claim, all_claims};
 use crate::{Owned, Words};
 use plain::Text;
 use std::alloc::{AllocError, Global};
+use std::collections::BTreeSet;
 use std::mem;
 
 /// A path that at least two actions declare, and the labels of these actions, in order: one for each action.
@@ -35,11 +36,22 @@ pub fn conflicts(alloc: Global, owned: &[Owned]) -> Result<Vec<Conflict>, AllocE
     Ok(found)
 }
 
-/// The conflicts, path by path from the claims in order.
+/// The conflicts of these actions.
 fn gather(alloc: Global, owned: &[Owned]) -> Result<Vec<Conflict>, AllocError>
     ensures { IfOk result (λ v. v.items ≡ conflicts_of owned.now) }
 {
     let claims = all_claims(alloc, owned)?;
+    let found = gather_claims(alloc, &claims)?;
+    Ok(found)
+}
+
+/// The conflicts, path by path from the claims in order.
+pub(crate) fn gather_claims(
+    alloc: Global,
+    claims: &BTreeSet<Claim>,
+) -> Result<Vec<Conflict>, AllocError>
+    ensures { IfOk result (λ v. v.items ≡ gathered [] [] claims.now.keys) }
+{
     let mut gatherer = Gatherer {
         found: Vec::new(alloc),
         path: Text::new(alloc, "")?,

@@ -1,9 +1,9 @@
 use Rattle.std.proofs.Common.{◌∙◌}
 use Rattle.actions.proofs.ClaimLemmas.{outputs-next}
-use Rattle.actions.proofs.claims.claim_all.Goals as goal
+use Rattle.actions.proofs.claims.claim_outputs.Goals as goal
 
 pub loop-i-preserved : goal.loop-i-preserved
 loop-i-preserved c =
-    outputs-next c.args.place c.args.owned.now.label c.as_slice-files.result.now c.loop-i.i c.item_at.result.now c.loop-i.claims.keys c.add_claim.new.claims.keys
+    outputs-next c.args.place c.args.label.now c.as_slice-files.result.now c.loop-i.i c.item_at.result.now c.loop-i.claims.keys c.add_claim.new.claims.keys
     c.item_at.ensures c.in_ok-add_claim.ensures
     ∙ c.loop-i.invariant

@@ -1,6 +1,6 @@
 use Rattle.std.proofs.Common.{◌≡◌, ◌++◌, []}
 use Rattle.actions.specs.Conflicts.{gathered}
-use Rattle.actions.proofs.gather.gather.Given as goal
+use Rattle.actions.proofs.gather.gather_claims.Given as goal
 
 abbrev pub invariant-loop-claim : goal.invariant-loop-claim
 invariant-loop-claim l =
