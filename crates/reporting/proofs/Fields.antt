@@ -1,5 +1,5 @@
 -- The fields of an instance, one after the other.
-use Rattle.std.proofs.Common.{◌≡◌, ℕ, zero, suc, ◌+◌, ◌≤◌, ◌<◌, List, [], ◌∷◌, ◌++◌, length, drop, slice_get, Option, Some, None, refl, ap, sym, ◌∙◌, arith, append_assoc, drop_of_length-le, min}
+use Rattle.std.proofs.Common.{◌≡◌, ℕ, zero, suc, ◌+◌, ◌≤◌, List, [], ◌∷◌, ◌++◌, length, drop, slice_get, Option, Some, None, refl, ap, sym, ◌∙◌, arith, append_assoc, drop_of_length-le, min}
 use Rattle.depsets.proofs.Turns.{drop_at}
 use Rattle.depsets.specs.Rose.{Rose}
 use Rattle.depsets.specs.Own.{Own}

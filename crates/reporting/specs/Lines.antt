@@ -10,7 +10,7 @@ use Rattle.depsets.specs.declared.element.Element.{Element}
 use Rattle.depsets.specs.declared.element.Element.TheVariants as element
 use Rattle.depsets.specs.declared.element.FileRef.{FileRef}
 use Rattle.values.specs.KindText.{kind_text}
-use Rattle.values.specs.Tree.{Slots, leaf, branch, instance, end, missing, given}
+use Rattle.values.specs.Tree.{Slots, branch, instance, end, missing, given}
 use Rattle.values.specs.View.{FrozenTree, FrozenBranch}
 use Rattle.values.specs.declared.key.Key.{Key}
 use Rattle.values.specs.declared.leaf.Leaf.{Leaf}

@@ -8,10 +8,12 @@ mod action_lines;
 mod conflict_lines;
 mod fault_texts;
 mod load_lines;
+mod made;
 mod outcome_lines;
 mod provider_lines;
 mod strings_in;
 
 pub use conflict_lines::put_conflict;
 pub use load_lines::put_load_fault;
+pub use made::{Node, Report, make_report};
 pub use outcome_lines::put_outcome;

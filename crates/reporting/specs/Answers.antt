@@ -1,0 +1,59 @@
+-- What a report says as a whole (docs/REPORT.md, "The report"; this project's own): the files that failed, what becomes of each
+-- label, and the paths that several actions declare.
+use Rattle.std.specs.Prelude.{ℕ, Bool, true, false, ◌||◌, List, [], ◌∷◌, ◌++◌, map}
+use Rattle.std.specs.List.{flat_map, list_any}
+use Rattle.lexer.specs.declared.fault.FaultKind.{FaultKind}
+use Rattle.depsets.specs.Own.{Own}
+use Rattle.depsets.specs.Rose.{Rose}
+use Rattle.depsets.specs.declared.element.Element.{Element}
+use Rattle.values.specs.declared.ticks.Kind.{Kind}
+use Rattle.actions.specs.Conflicts.{conflicts_of}
+use Rattle.actions.specs.declared.action.Action.{Action}
+use Rattle.actions.specs.declared.action.Owned.{Owned}
+use Rattle.workspace.specs.Labels.{LabelParts, label_text}
+use Rattle.modules.specs.declared.sorting.FileFault.{FileFault}
+use Rattle.targets.specs.Steps.{is_failed}
+use Rattle.targets.specs.declared.outcome.Outcome.{Outcome}
+use Rattle.targets.specs.declared.outcome.Outcome.TheVariants.{Source, Done, Failed}
+use Rattle.reporting.specs.Lines.{load_fault_line, outcome_text, conflict_line}
+
+-- a label, and what becomes of it
+pub record Node : Type 0 where
+  pub label : LabelParts
+  pub outcome : Outcome
+
+-- a target that failed has no actions
+abbrev pub actions_of : Outcome → List Action
+actions_of (Source f) = []
+actions_of (Done providers actions) = actions
+actions_of (Failed f) = []
+
+-- an action, with the text of its target's label
+abbrev pub owned_by : List ℕ → Action → Owned
+owned_by text a = record { label = text; action = a }
+
+abbrev pub node_actions : Node → List Owned
+node_actions n = map (owned_by (label_text n.label)) (actions_of n.outcome)
+
+abbrev pub owned_actions : List Node → List Owned
+owned_actions nodes = flat_map node_actions nodes
+
+abbrev pub file_line : FileFault FaultKind Kind → List ℕ
+file_line f = load_fault_line f.path f.fault
+
+module _ (listing : Rose Own → List Element) where
+  abbrev pub node_text : Node → List ℕ
+  node_text n = outcome_text listing n.label n.outcome
+
+  -- The bytes: of the files that failed, of each label, and of the conflicts of the actions of these labels.
+  abbrev pub report_text : List (FileFault FaultKind Kind) → List Node → List ℕ
+  report_text faults nodes =
+      flat_map file_line faults ++ (flat_map node_text nodes ++ flat_map conflict_line (conflicts_of (owned_actions nodes)))
+
+abbrev pub has_some : {A : Type 0} → List A → Bool
+has_some [] = false
+has_some (x ∷ xs) = true
+
+-- whether it tells of a file that failed, a target that failed or a conflict
+abbrev pub is_loud : List (FileFault FaultKind Kind) → List Node → Bool
+is_loud faults nodes = has_some faults || (list_any (λ n. is_failed n.outcome) nodes || has_some (conflicts_of (owned_actions nodes)))

@@ -1,0 +1,220 @@
+//! A report as a whole.
+ghost use Rattle.std.specs.Prelude.{◌≡◌, ◌++◌, ◌||◌, map, string_bytes, IfOk, OnOk};
+ghost use Rattle.std.specs.List.{flat_map, list_any};
+ghost use Rattle.depsets.specs.Listed.{walked};
+ghost use Rattle.actions.specs.Conflicts.{conflicts_of, gathered};
+ghost use Rattle.actions.specs.Taken.{nothing, with_actions};
+ghost use Rattle.workspace.specs.Labels.{label_text};
+ghost use Rattle.targets.specs.Steps.{is_failed};
+ghost use Rattle.reporting.specs.Lines.{conflict_line};
+ghost use Rattle.reporting.specs.Answers.{actions_of, file_line, has_some, is_loud, node_actions, node_text, owned_actions, owned_by, report_text};
+ghost use Rattle.reporting.specs.Seen.{node_seen, nodes_seen};
+
+use crate::conflict_lines::put_conflict;
+use crate::load_lines::put_load_fault;
+use crate::outcome_lines::put_outcome;
+use actions::{Action, Claims, Conflict};
+use lexer::FaultKind;
+use modules::FileFault;
+use plain::Text;
+use std::alloc::{AllocError, Global};
+use targets::Outcome;
+use values::Kind;
+use workspace::Label;
+
+/// A label, and what becomes of it.
+#[derive(Clone, Copy)]
+pub struct Node<'a> {
+    pub label: &'a Label,
+    pub outcome: &'a Outcome,
+}
+
+/// The text of a report, and whether it is loud: whether it tells of a file that failed, a target that failed or a conflict.
+#[derive(Drop)]
+pub struct Report {
+    pub text: String,
+    pub loud: bool,
+}
+
+/// Appends a line for each file that failed.
+fn put_faults(out: &mut String, faults: &[FileFault<FaultKind, Kind>]) -> Result<(), AllocError>
+    ensures { OnOk result (string_bytes out.new
+        ≡ string_bytes out.old ++ flat_map file_line faults.now) }
+{
+    for fault in faults {
+        put_load_fault(out, &fault.path, &fault.fault)?;
+    }
+    Ok(())
+}
+
+/// Appends the lines of a node.
+fn put_node(alloc: Global, out: &mut String, node: &Node<'_>) -> Result<(), AllocError>
+    ensures { OnOk result (string_bytes out.new
+        ≡ string_bytes out.old ++ node_text walked (node_seen node.now)) }
+{
+    put_outcome(alloc, out, node.label, node.outcome)
+}
+
+/// Appends the lines of nodes.
+fn put_nodes(alloc: Global, out: &mut String, nodes: &[Node<'_>]) -> Result<(), AllocError>
+    ensures { OnOk result (string_bytes out.new
+        ≡ string_bytes out.old ++ flat_map (node_text walked) (nodes_seen nodes.now)) }
+{
+    for node in nodes {
+        put_node(alloc, out, node)?;
+    }
+    Ok(())
+}
+
+/// Appends a line for each conflict.
+fn put_conflicts(out: &mut String, conflicts: &[Conflict]) -> Result<(), AllocError>
+    ensures { OnOk result (string_bytes out.new
+        ≡ string_bytes out.old ++ flat_map conflict_line conflicts.now) }
+{
+    for conflict in conflicts {
+        put_conflict(out, conflict)?;
+    }
+    Ok(())
+}
+
+/// The actions that an outcome has.
+fn actions_of(outcome: &Outcome) -> &[Action]
+    ensures { result.now ≡ actions_of outcome.now }
+{
+    match outcome {
+        Outcome::Source(_) => &[],
+        Outcome::Done(_, actions) => actions.as_slice(),
+        Outcome::Failed(_) => &[],
+    }
+}
+
+/// Takes the actions of a label, whose text this is.
+fn claim_actions(claims: &mut Claims, text: &Text, actions: &[Action]) -> Result<(), AllocError>
+    ensures { OnOk result
+        (claims.new ≡ with_actions claims.old (map (owned_by text.now) actions.now)) }
+{
+    for action in actions {
+        claims.add(text, action)?;
+    }
+    Ok(())
+}
+
+/// Takes the actions of a node.
+fn claim_node(alloc: Global, claims: &mut Claims, node: &Node<'_>) -> Result<(), AllocError>
+    ensures { OnOk result
+        (claims.new ≡ with_actions claims.old (node_actions (node_seen node.now))) }
+{
+    let actions = actions_of(node.outcome);
+    if actions.is_empty() {
+        return Ok(());
+    }
+    let text = Text::new(alloc, node.label.text())?;
+    claim_actions(claims, &text, actions)
+}
+
+/// What the actions of nodes claim.
+fn claim_all(alloc: Global, nodes: &[Node<'_>]) -> Result<Claims, AllocError>
+    ensures { IfOk result
+        (λ c. c ≡ with_actions nothing (owned_actions (nodes_seen nodes.now))) }
+{
+    let mut claims = Claims::new(alloc);
+    for node in nodes {
+        claim_node(alloc, &mut claims, node)?;
+    }
+    Ok(claims)
+}
+
+/// The conflicts of the actions of nodes.
+fn conflicts_of(alloc: Global, nodes: &[Node<'_>]) -> Result<Vec<Conflict>, AllocError>
+    ensures { IfOk result
+        (λ v. v.items ≡ conflicts_of (owned_actions (nodes_seen nodes.now))) }
+{
+    let claims = claim_all(alloc, nodes)?;
+    let found = claims.conflicts(alloc)?;
+    Ok(found)
+}
+
+/// Whether an outcome is a failure.
+fn is_failure(outcome: &Outcome) -> bool
+    ensures { result ≡ is_failed outcome.now }
+{
+    match outcome {
+        Outcome::Source(_) => false,
+        Outcome::Done(_, _) => false,
+        Outcome::Failed(_) => true,
+    }
+}
+
+/// Whether a node is a target that failed.
+fn is_failed(node: &Node<'_>) -> bool
+    ensures { result ≡ is_failed (node_seen node.now).outcome }
+{
+    is_failure(node.outcome)
+}
+
+/// Whether one of the nodes is a target that failed, of the nodes where they lie.
+fn any_failed(nodes: &[Node<'_>]) -> bool
+    ensures { result ≡ list_any (λ n. is_failed (node_seen n).outcome) nodes.now }
+{
+    nodes.iter().any(|node| is_failed(node))
+}
+
+/// Whether a target failed.
+fn has_failed(nodes: &[Node<'_>]) -> bool
+    ensures { result ≡ list_any (λ n. is_failed n.outcome) (nodes_seen nodes.now) }
+{
+    any_failed(nodes)
+}
+
+/// The report of files that failed and of nodes, both in the order in which they are to stand.
+///
+/// It takes time linear in its length, and n log n comparisons of paths for n outputs of actions; no action and no value is
+/// copied.
+///
+/// # Errors
+///
+/// `AllocError` where memory for the text, for a listing or for the claims of actions was refused.
+pub fn make_report(
+    alloc: Global,
+    faults: &[FileFault<FaultKind, Kind>],
+    nodes: &[Node<'_>],
+) -> Result<Report, AllocError>
+    ensures text { IfOk result
+        (λ r. string_bytes r.text ≡ report_text walked faults.now (nodes_seen nodes.now)) }
+    ensures loud { IfOk result (λ r. r.loud ≡ is_loud faults.now (nodes_seen nodes.now)) }
+{
+    let conflicts = conflicts_of(alloc, nodes)?;
+    let text = lines(alloc, faults, nodes, &conflicts)?;
+    let loud = is_loud(faults, nodes, &conflicts);
+    Ok(Report { text, loud })
+}
+
+/// Whether a report tells of a file that failed, a target that failed or one of these conflicts.
+fn is_loud(
+    faults: &[FileFault<FaultKind, Kind>],
+    nodes: &[Node<'_>],
+    conflicts: &[Conflict],
+) -> bool
+    ensures { result ≡ (has_some faults.now
+        || (list_any (λ n. is_failed n.outcome) (nodes_seen nodes.now) || has_some conflicts.now)) }
+{
+    !faults.is_empty() || has_failed(nodes) || !conflicts.is_empty()
+}
+
+/// All lines.
+fn lines(
+    alloc: Global,
+    faults: &[FileFault<FaultKind, Kind>],
+    nodes: &[Node<'_>],
+    conflicts: &[Conflict],
+) -> Result<String, AllocError>
+    ensures { IfOk result (λ text. string_bytes text ≡ flat_map file_line faults.now
+        ++ (flat_map (node_text walked) (nodes_seen nodes.now)
+        ++ flat_map conflict_line conflicts.now)) }
+{
+    let mut out = String::new(alloc);
+    put_faults(&mut out, faults)?;
+    put_nodes(alloc, &mut out, nodes)?;
+    put_conflicts(&mut out, conflicts)?;
+    Ok(out)
+}
