@@ -54,7 +54,7 @@ abbrev pub small_build : OfBuild (Unit {0})
 small_build =
     record {
       place = λ known path. with_calls (λ l g w. Err kind.Place);
-      first = tt;
+      first = λ _. tt;
       declared = λ w. [];
     }
 

@@ -51,7 +51,7 @@ pub record OfModule (W : Type 0) : Type 0 where
 -- of the BUILD file at a path: the targets that it declared, in order
 pub record OfBuild (W : Type 0) : Type 0 where
   pub place : Known → Path → Place W
-  pub first : W
+  pub first : Path → W
   pub declared : W → List Target
 
 -- of an implementation, for the target of a label, with the outcomes of its dependencies: the Files that it declared
@@ -180,7 +180,7 @@ module _ (limit : ℕ) (files : Files) (paths : List Path) where
     run_build known path n =
         targets_after
         (top_meaning (language (world paths known) (own.place known path)) files n
-        (record { state = state_of_file limit path n (program_at files n); work = own.first }))
+        (record { state = state_of_file limit path n (program_at files n); work = own.first path }))
 
   module _ {W : Type 0} (own : OfTarget W) where
     abbrev pub fault_placed : Placed Kind → outcome.Fault
