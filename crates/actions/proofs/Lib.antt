@@ -3,3 +3,4 @@ pub mod ClashLemmas
 pub mod ClashUnique
 pub mod OwnerLemmas
 pub mod Crossing
+pub mod Ascending
