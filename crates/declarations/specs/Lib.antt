@@ -2,3 +2,4 @@ pub mod NewNames
 pub mod AttributeCalls
 pub mod ProviderCalls
 pub mod RuleMaking
+pub mod Steps

@@ -1,0 +1,209 @@
+//! Items of a sequence, each read as what is asked. None stands for a sequence with an item of another type.
+ghost use Rattle.std.specs.Prelude.{◌≡◌, IfOk, None, option_and_then};
+ghost use Rattle.values.specs.Seeing.{seen, group_items};
+ghost use Rattle.values.specs.Shape.{shape};
+ghost use Rattle.operations.specs.Reading.{string_in, sequence_in};
+ghost use Rattle.workspace.specs.Labels.{label_of};
+ghost use Rattle.targets.specs.RuleCalls.{each_of};
+ghost use Rattle.declarations.specs.AttributeCalls.{key_of_kind, provider_in, all_providers, whole_label_in};
+ghost use Rattle.declarations.specs.NewNames.{name_in};
+
+use crate::names::name_of;
+use plain::{Shared, Text};
+use state::{sequence_of, text_of};
+use std::alloc::{AllocError, Global};
+use targets::Sequence;
+use values::{AttributeKind, Group, Heap, Key, Leaf, Names, Provider, Seen};
+use workspace::{Label, LabelRefused};
+
+/// Strings.
+pub(crate) fn strings(
+    alloc: Global,
+    heap: &Heap,
+    items: Group<'_>,
+) -> Result<Option<Names>, AllocError>
+    ensures { IfOk result (λ o. o ≡ each_of (λ v. string_in (shape heap.now v))
+        (group_items items.entry)) }
+{
+    let mut texts = Names::new(alloc);
+    for place in 0..items.len() {
+        match string_in(&heap.see_item(items.item(place)))? {
+            Some(text) => texts.push(text)?,
+            None => return Ok(None),
+        }
+    }
+    Ok(Some(texts))
+}
+
+/// A string.
+fn string_in(value: &Seen<'_>) -> Result<Option<Text>, AllocError>
+    ensures { IfOk result (λ o. o ≡ string_in (seen value.now)) }
+{
+    match text_of(value) {
+        Some(text) => Ok(Some(text.share()?)),
+        None => Ok(None),
+    }
+}
+
+/// Names.
+pub(crate) fn names(
+    alloc: Global,
+    heap: &Heap,
+    items: Group<'_>,
+) -> Result<Option<Names>, AllocError>
+    ensures { IfOk result (λ o. o ≡ each_of (λ v. name_in (shape heap.now v))
+        (group_items items.entry)) }
+{
+    let mut names = Names::new(alloc);
+    for place in 0..items.len() {
+        match name_in(&heap.see_item(items.item(place)))? {
+            Some(name) => names.push(name)?,
+            None => return Ok(None),
+        }
+    }
+    Ok(Some(names))
+}
+
+/// A name.
+pub(crate) fn name_in(value: &Seen<'_>) -> Result<Option<Text>, AllocError>
+    ensures { IfOk result (λ o. o ≡ name_in (seen value.now)) }
+{
+    match name_of(value) {
+        Some(name) => Ok(Some(name.share()?)),
+        None => Ok(None),
+    }
+}
+
+/// Labels that begin with `//`.
+pub(crate) fn whole_labels(
+    alloc: Global,
+    heap: &Heap,
+    items: Group<'_>,
+) -> Result<Option<Sequence<Shared<Label>>>, AllocError>
+    ensures { IfOk result (λ o. o ≡ each_of (λ v. whole_label_in (shape heap.now v))
+        (group_items items.entry)) }
+{
+    let mut labels = Sequence::new(alloc);
+    for place in 0..items.len() {
+        match whole_label_in(alloc, &heap.see_item(items.item(place)))? {
+            Some(label) => labels.push(label)?,
+            None => return Ok(None),
+        }
+    }
+    Ok(Some(labels))
+}
+
+/// A label that begins with `//`, as its text.
+fn whole_label_in(alloc: Global, value: &Seen<'_>) -> Result<Option<Shared<Label>>, AllocError>
+    ensures { IfOk result (λ o. o ≡ whole_label_in (seen value.now)) }
+{
+    match text_of(value) {
+        Some(text) => whole_label(alloc, text.as_str()),
+        None => Ok(None),
+    }
+}
+
+/// The label that a text is, read without a package.
+pub(crate) fn whole_label(alloc: Global, text: &str) -> Result<Option<Shared<Label>>, AllocError>
+    ensures { IfOk result (λ o. o ≡ label_of text.now None) }
+{
+    match Label::read(alloc, text, None) {
+        Ok(label) => Ok(Some(Shared::new(alloc, label)?)),
+        Err(LabelRefused::Illegal) => Ok(None),
+        Err(LabelRefused::NoMemory) => Err(AllocError),
+    }
+}
+
+/// Strings, or whole numbers, as the kind has them.
+pub(crate) fn keys(
+    alloc: Global,
+    heap: &Heap,
+    kind: AttributeKind,
+    items: Group<'_>,
+) -> Result<Option<Sequence<Key>>, AllocError>
+    ensures { IfOk result (λ o. o ≡ each_of (λ v. key_of_kind kind (shape heap.now v))
+        (group_items items.entry)) }
+{
+    let mut keys = Sequence::new(alloc);
+    for place in 0..items.len() {
+        match key_of_kind(kind, &heap.see_item(items.item(place)))? {
+            Some(key) => keys.push(key)?,
+            None => return Ok(None),
+        }
+    }
+    Ok(Some(keys))
+}
+
+/// A string of an attribute of strings, a whole number of one of numbers.
+fn key_of_kind(kind: AttributeKind, value: &Seen<'_>) -> Result<Option<Key>, AllocError>
+    ensures { IfOk result (λ o. o ≡ key_of_kind kind (seen value.now)) }
+{
+    match (kind, value) {
+        (AttributeKind::String, Seen::Key(Key::Text(text))) => Ok(Some(Key::Text(text.share()?))),
+        (AttributeKind::Int, Seen::Key(Key::Number(number))) => Ok(Some(Key::Number(*number))),
+        _ => Ok(None),
+    }
+}
+
+/// Providers.
+pub(crate) fn providers(
+    alloc: Global,
+    heap: &Heap,
+    items: Group<'_>,
+) -> Result<Option<Sequence<Shared<Provider>>>, AllocError>
+    ensures { IfOk result (λ o. o ≡ all_providers heap.now (group_items items.entry)) }
+{
+    let mut providers = Sequence::new(alloc);
+    for place in 0..items.len() {
+        match provider_in(&heap.see_item(items.item(place)))? {
+            Some(provider) => providers.push(provider)?,
+            None => return Ok(None),
+        }
+    }
+    Ok(Some(providers))
+}
+
+/// A provider.
+fn provider_in(value: &Seen<'_>) -> Result<Option<Shared<Provider>>, AllocError>
+    ensures { IfOk result (λ o. o ≡ provider_in (seen value.now)) }
+{
+    match value {
+        Seen::Leaf(Leaf::Provider(provider)) => Ok(Some(provider.share()?)),
+        _ => Ok(None),
+    }
+}
+
+/// Lists of providers.
+pub(crate) fn lists_of_providers(
+    alloc: Global,
+    heap: &Heap,
+    items: Group<'_>,
+) -> Result<Option<Sequence<Sequence<Shared<Provider>>>>, AllocError>
+    ensures { IfOk result (λ o. o ≡ each_of
+        (λ v. option_and_then (all_providers heap.now) (sequence_in (shape heap.now v)))
+        (group_items items.entry)) }
+{
+    let mut lists = Sequence::new(alloc);
+    for place in 0..items.len() {
+        match providers_in(alloc, heap, &heap.see_item(items.item(place)))? {
+            Some(providers) => lists.push(providers)?,
+            None => return Ok(None),
+        }
+    }
+    Ok(Some(lists))
+}
+
+/// A list of providers.
+fn providers_in(
+    alloc: Global,
+    heap: &Heap,
+    value: &Seen<'_>,
+) -> Result<Option<Sequence<Shared<Provider>>>, AllocError>
+    ensures { IfOk result
+        (λ o. o ≡ option_and_then (all_providers heap.now) (sequence_in (seen value.now))) }
+{
+    match sequence_of(value) {
+        Some(items) => providers(alloc, heap, items),
+        None => Ok(None),
+    }
+}

@@ -1,0 +1,121 @@
+//! What a module has while its top level runs.
+ghost use Rattle.std.specs.Prelude.{◌≡◌, Ok, Err, Some, None, MatchResult};
+ghost use Rattle.values.specs.Ticking.{FaultOr};
+ghost use Rattle.operations.specs.Arguments.{given};
+ghost use Rattle.places.specs.Answers.{Says};
+ghost use Rattle.file_places.specs.ModulePlace.{declared, attribute_call, built_in_call};
+
+use crate::methods::{declared_kind, has_method};
+use declarations::{Attributes, Declarations, new_attribute, new_provider, new_rule};
+use language::Whole;
+use operations::Arguments;
+use places::Place;
+use plain::Text;
+use std::alloc::Global;
+use values::{AttributeKind, Broken, BuiltIn, Kind, Leaf, Value};
+
+/// The place of a module, beside those that were evaluated before: calls of `provider`, `rule` and the methods of `attr`
+/// declare; calls of rules are `place`.
+#[derive(Drop)]
+pub struct ModulePlace<'a, A> {
+    pub linked: &'a A,
+}
+
+impl<'a, A: Attributes> Place for ModulePlace<'a, A> {
+    type Work = Declarations;
+
+    ghost use Rattle.file_places.specs.ModulePlace.{module_place};
+
+    ghost place = { λ p. module_place (A.declared p.linked.now) };
+
+    fn call(
+        &self,
+        alloc: Global,
+        whole: &mut Whole<Declarations>,
+        callee: &Leaf,
+        arguments: &Arguments<'_>,
+    ) -> Result<Value, Broken> {
+        match callee {
+            Leaf::BuiltIn(function) => call(alloc, self.linked, whole, *function, arguments),
+            Leaf::Rule(_) => Err(Broken::Kind(Kind::Place)),
+            _ => Err(Broken::Kind(Kind::Wrong)),
+        }
+    }
+
+    fn has_method(&self, owner: &Leaf, name: &Text) -> bool {
+        has_method(owner, name)
+    }
+
+    fn method(
+        &self,
+        alloc: Global,
+        whole: &mut Whole<Declarations>,
+        owner: &Leaf,
+        name: &Text,
+        arguments: &Arguments<'_>,
+    ) -> Result<Value, Broken> {
+        match declared_kind(owner, name) {
+            Some(kind) => call_attribute(alloc, whole, kind, arguments),
+            None => Err(Broken::Kind(Kind::Name)),
+        }
+    }
+
+    fn field(
+        &self,
+        _alloc: Global,
+        _whole: &Whole<Declarations>,
+        _owner: &Leaf,
+        _name: &Text,
+    ) -> Result<Value, Broken> {
+        Err(Broken::Kind(Kind::Name))
+    }
+
+    fn item(
+        &self,
+        _alloc: Global,
+        _whole: &Whole<Declarations>,
+        _target: usize,
+        _provider: &Value,
+    ) -> Result<Value, Broken> {
+        Err(Broken::Kind(Kind::Wrong))
+    }
+
+    fn offers(
+        &self,
+        _whole: &Whole<Declarations>,
+        _target: usize,
+        _provider: &Value,
+    ) -> Result<bool, Broken> {
+        Err(Broken::Kind(Kind::Wrong))
+    }
+}
+
+/// A call of `provider` or of `rule`.
+fn call<A: Attributes>(
+    alloc: Global,
+    linked: &A,
+    whole: &mut Whole<Declarations>,
+    function: BuiltIn,
+    arguments: &Arguments<'_>,
+) -> Result<Value, Broken>
+    ensures { Says (built_in_call (A.declared linked.now) function (given arguments.now) whole.old)
+        result whole.new }
+{
+    match function {
+        BuiltIn::Provider => new_provider(alloc, &whole.state, &mut whole.work, arguments),
+        BuiltIn::Rule => new_rule(alloc, linked, &whole.state, &mut whole.work, arguments),
+        _ => Err(Broken::Kind(Kind::Wrong)),
+    }
+}
+
+/// A call of a method of `attr`.
+fn call_attribute(
+    alloc: Global,
+    whole: &mut Whole<Declarations>,
+    kind: AttributeKind,
+    arguments: &Arguments<'_>,
+) -> Result<Value, Broken>
+    ensures { Says (attribute_call (Some kind) (given arguments.now) whole.old) result whole.new }
+{
+    new_attribute(alloc, &whole.state, &mut whole.work, kind, arguments)
+}
