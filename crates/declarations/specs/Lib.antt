@@ -2,4 +2,3 @@ pub mod NewNames
 pub mod AttributeCalls
 pub mod ProviderCalls
 pub mod RuleMaking
-pub mod Steps

@@ -1,0 +1,13 @@
+use Rattle.std.proofs.Common.{◌≡◌, drop}
+use Rattle.values.specs.Seeing.{group_items}
+use Rattle.values.specs.Shape.{shape}
+use Rattle.std.specs.Prelude.{option_and_then}
+use Rattle.operations.specs.Reading.{sequence_in}
+use Rattle.targets.specs.RuleCalls.{each_of}
+use Rattle.declarations.specs.AttributeCalls.{all_providers}
+use Rattle.declaring.proofs.Reading.{behind}
+use Rattle.declaring.proofs.lists.lists_of_providers.Given as goal
+
+abbrev pub invariant-loop-place : goal.invariant-loop-place
+invariant-loop-place l =
+    behind l.lists (each_of (λ v. option_and_then (all_providers l.heap) (sequence_in (shape l.heap v))) (drop l.place (group_items l.items))) ≡ each_of (λ v. option_and_then (all_providers l.heap) (sequence_in (shape l.heap v))) (group_items l.items)

@@ -1,0 +1,11 @@
+use Rattle.std.proofs.Common.{◌≡◌, drop}
+use Rattle.values.specs.Seeing.{group_items}
+use Rattle.values.specs.Shape.{shape}
+use Rattle.targets.specs.RuleCalls.{each_of}
+use Rattle.declarations.specs.AttributeCalls.{provider_in}
+use Rattle.declaring.proofs.Reading.{behind}
+use Rattle.declaring.proofs.lists.providers.Given as goal
+
+abbrev pub invariant-loop-place : goal.invariant-loop-place
+invariant-loop-place l =
+    behind l.providers (each_of (λ v. provider_in (shape l.heap v)) (drop l.place (group_items l.items))) ≡ each_of (λ v. provider_in (shape l.heap v)) (group_items l.items)
