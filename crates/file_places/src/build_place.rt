@@ -1,6 +1,7 @@
 //! What a `BUILD` file has while it runs.
 ghost use Rattle.std.specs.Prelude.{◌≡◌, Ok, Err, Some, None, Option, MatchResult, option_copied};
 ghost use Rattle.values.specs.Ticking.{FaultOr};
+ghost use Rattle.values.specs.declared.leaf.MadeId.{MadeId as Id};
 ghost use Rattle.operations.specs.Arguments.{Given, given};
 ghost use Rattle.language.specs.declared.whole.Whole.{Whole as Held};
 ghost use Rattle.targets.specs.declared.attributes.Rule.{Rule as Made};
@@ -20,7 +21,7 @@ use values::{Broken, BuiltIn, Kind, Leaf, MadeId, Value};
 
 /// The rules of the modules that are linked.
 pub trait Rules {
-    ghost rules: { Self → MadeId → Option Made };
+    ghost rules: { Self → Id → Option Made };
 
     /// The rule of these numbers.
     fn rule(&self, id: MadeId) -> Option<&Shared<Rule>>

@@ -6,7 +6,8 @@ ghost use Rattle.places.specs.Answers.{Says};
 ghost use Rattle.file_places.specs.ModulePlace.{declared, attribute_call, built_in_call};
 
 use crate::methods::{declared_kind, has_method};
-use declarations::{Attributes, Declarations, new_attribute, new_provider, new_rule};
+use declarations::Declarations;
+use declaring::{Attributes, new_attribute, new_provider, new_rule};
 use language::Whole;
 use operations::Arguments;
 use places::Place;
