@@ -1,0 +1,4 @@
+pub mod Same
+pub mod Reached
+pub mod Graphs
+pub mod Numbering
