@@ -39,8 +39,8 @@ pub sorted_ascends : (xs : List (List ℕ)) → IsSorted (slice_cmp nat_cmp) xs 
 sorted_ascends [] up apart = tt
 sorted_ascends (x ∷ xs) up apart = (
   each_less x xs
-  (λ k low. sorted_far (λ a b. is_lt (slice_cmp nat_cmp a b)) (ranks_by nat_list_cmp_total (λ y. y)) (x ∷ xs) up 0 (suc k) x (omega arith) (omega (arith, low)))
-  (IsDistinct-head bytes_eq x xs apart),
+      (λ k low. sorted_far (λ a b. is_lt (slice_cmp nat_cmp a b)) (ranks_by nat_list_cmp_total (λ y. y)) (x ∷ xs) up 0 (suc k) x (omega arith) (omega (arith, low)))
+      (IsDistinct-head bytes_eq x xs apart),
   sorted_ascends xs (rest_sorted x xs up) (IsDistinct-tail bytes_eq x xs apart),
 )
 
