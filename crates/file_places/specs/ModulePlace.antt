@@ -13,6 +13,7 @@ use Rattle.operations.specs.Arguments.{Given}
 use Rattle.language.specs.Place.{Does, Place}
 use Rattle.language.specs.declared.whole.Whole.{Whole}
 use Rattle.targets.specs.declared.attributes.Attribute.{Attribute}
+use Rattle.evaluation.specs.declared.made.Made.{Made}
 use Rattle.declarations.specs.declared.table.Declarations.{Declarations}
 use Rattle.declarations.specs.AttributeCalls.{new_attribute}
 use Rattle.declarations.specs.ProviderCalls.{new_provider}
@@ -51,3 +52,7 @@ module _ (linked : List ℕ → ℕ → Option Attribute) where
     item = λ n v w. Err fault.Wrong;
     offers = λ n v w. Err fault.Wrong;
   }
+
+-- what a module made, once its top level has ended: what it declared, by the same numbers
+abbrev pub made_of : Declarations → Made
+made_of d = record { providers = d.providers; rules = d.rules; attributes = d.attributes }
