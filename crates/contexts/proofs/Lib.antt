@@ -1,0 +1,3 @@
+mod Small
+mod FieldRows
+mod ActionRows

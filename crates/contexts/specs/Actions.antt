@@ -1,0 +1,197 @@
+-- The methods of `ctx.actions` (Bazel documentation, "actions"; what each takes and refuses is docs/PROFILE.md, "Calls of
+-- implementations"). They read the heap, and what they declare is the work.
+use Rattle.std.specs.Prelude.{ℕ, Bool, true, false, not, ◌&&◌, ◌||◌, nat_le, nat_eq, List, [], ◌∷◌, ◌++◌, length, Option, Some, None, option_and_then, Result, Ok, Err, codes, bytes_eq, if◌then◌else◌}
+use Rattle.std.specs.List.{list_all}
+use Rattle.depsets.specs.Own.{Own}
+use Rattle.depsets.specs.Rose.{Rose}
+use Rattle.depsets.specs.declared.element.FileRef.{FileRef}
+use Rattle.values.specs.Shape.{Shape, key, atom, items, shape}
+use Rattle.values.specs.declared.cells.Cell.{Cell}
+use Rattle.values.specs.declared.key.Key.TheVariants as index
+use Rattle.values.specs.declared.leaf.Leaf.{Leaf}
+use Rattle.values.specs.declared.leaf.Leaf.TheVariants as plain
+use Rattle.values.specs.declared.ticks.Kind.{Kind}
+use Rattle.values.specs.declared.ticks.Kind.TheVariants as fault
+use Rattle.values.specs.declared.value.Value.{Value}
+use Rattle.values.specs.declared.value.Value.TheVariants as value
+use Rattle.actions.specs.declared.action.Action.{Action}
+use Rattle.actions.specs.declared.action.Inputs.{Inputs}
+use Rattle.actions.specs.declared.action.Inputs.TheVariants as inputs
+use Rattle.operations.specs.Arguments.{Given, Parameter, Bound, wanted, named_only, bound}
+use Rattle.operations.specs.BuiltIns.{argument}
+use Rattle.operations.specs.Depsets.{all_in, parts_in}
+use Rattle.operations.specs.Instances.{only_files}
+use Rattle.operations.specs.Making.{none}
+use Rattle.operations.specs.Reading.{string_in, sequence_in, of_type}
+use Rattle.operations.specs.States.{then_give}
+use Rattle.workspace.specs.Labels.{LabelParts, label_text, label_path, is_label}
+use Rattle.contexts.specs.Works.{is_among, repeats}
+use Rattle.contexts.specs.declared.method.ActionMethod.{ActionMethod}
+use Rattle.contexts.specs.declared.method.ActionMethod.TheVariants as method
+use Rattle.contexts.specs.declared.work.Work.{Work}
+
+abbrev pub method_named : List ℕ → Option ActionMethod
+method_named x =
+    if bytes_eq x (codes "declare_file") then Some method.DeclareFile else
+    if bytes_eq x (codes "write") then Some method.Write else
+    if bytes_eq x (codes "run") then Some method.Run else
+    if bytes_eq x (codes "run_shell") then Some method.RunShell else
+    None
+
+-- what a call gives, and the work after it; or the kind of its fault
+abbrev pub Working : Type 0
+Working = Result (Value × Work) Kind
+
+-- ---- ctx.actions.declare_file(name)
+
+abbrev pub below : LabelParts → List ℕ → LabelParts
+below l name = record l { name = name }
+
+-- the File of this name that the target of a label declares
+abbrev pub file_named : LabelParts → List ℕ → FileRef
+file_named l name = record { path = label_path (below l name); owner = label_text l }
+
+abbrev pub with_file : Work → FileRef → Work
+with_file w f = record w { files = w.files ++ f ∷ [] }
+
+-- `type` where package and name don't make a path, and then `key` where the File is declared already
+abbrev pub declared : LabelParts → Work → List ℕ → Working
+declared l w name =
+    if not (is_label (below l name)) then Err fault.Wrong else
+    if is_among (file_named l name) w.files then Err fault.Key else
+    Ok (value.Leaf (plain.File (file_named l name)), with_file w (file_named l name))
+
+abbrev pub declare_file : LabelParts → List Cell → Given → Work → Working
+declare_file l h g w = then_give (argument (codes "name") g) (λ v. of_type (string_in (shape h v)) (declared l w))
+
+-- ---- an action more: an output that isn't declared is `place`, and one that stands there twice is `key`
+
+abbrev pub with_action : Work → Action → Work
+with_action w a = record w { actions = w.actions ++ a ∷ [] }
+
+abbrev pub registered : Work → Action → Working
+registered w a =
+    if not (list_all (λ f. is_among f w.files) a.outputs) then Err fault.Place else
+    if repeats a.outputs then Err fault.Key else
+    Ok (none, with_action w a)
+
+-- ---- ctx.actions.write(output, content)
+
+abbrev pub leaf_file : Leaf → Option FileRef
+leaf_file (plain.File f) = Some f
+leaf_file _ = None
+
+abbrev pub file_in : Shape → Option FileRef
+file_in (atom l) = leaf_file l
+file_in _ = None
+
+abbrev pub write_parameters : List Parameter
+write_parameters = wanted (codes "output") ∷ wanted (codes "content") ∷ []
+
+abbrev pub file_write : FileRef → List ℕ → Action
+file_write f content =
+    record { mnemonic = codes "FileWrite"; outputs = f ∷ []; inputs = inputs.Files []; words = []; content = Some content }
+
+abbrev pub written : Work → Option FileRef → Option (List ℕ) → Working
+written w (Some f) (Some t) = registered w (file_write f t)
+written w _ _ = Err fault.Wrong
+
+abbrev pub write_with : List Cell → Work → Bound → Working
+write_with h w (Some f ∷ Some t ∷ []) = written w (file_in (shape h f)) (string_in (shape h t))
+write_with h w _ = Err fault.Arity
+
+abbrev pub write : List Cell → Given → Work → Working
+write h g w = then_give (bound write_parameters g) (write_with h w)
+
+-- ---- ctx.actions.run(*, outputs, executable, inputs = [], arguments = [], mnemonic = "Action"), and run_shell with a command
+
+-- a parameter that is given by name alone, and has to be
+abbrev pub needed : List ℕ → Parameter
+needed x = record { name = x; by_name = true; may_miss = false }
+
+abbrev pub run_parameters : List ℕ → List Parameter
+run_parameters word =
+    needed (codes "outputs") ∷ needed word ∷ named_only (codes "inputs") ∷ named_only (codes "arguments") ∷ named_only (codes "mnemonic") ∷ []
+
+-- no output is `arity`, before any `type`
+abbrev pub some_outputs : Option (List Value) → Result (List Value) Kind
+some_outputs None = Err fault.Wrong
+some_outputs (Some []) = Err fault.Arity
+some_outputs (Some (v ∷ vs)) = Ok (v ∷ vs)
+
+-- an executable: a string, or the path of a File
+abbrev pub leaf_path : Leaf → Option (List ℕ)
+leaf_path (plain.File f) = Some f.path
+leaf_path _ = None
+
+abbrev pub executable_in : Shape → Option (List ℕ)
+executable_in (key (index.Text t)) = Some t
+executable_in (atom l) = leaf_path l
+executable_in _ = None
+
+abbrev pub files_from : Result (List FileRef) Kind → Result Inputs Kind
+files_from (Ok fs) = Ok (inputs.Files fs)
+files_from (Err k) = Err k
+
+abbrev pub depset_from : Result (Rose Own) Kind → Result Inputs Kind
+depset_from (Ok d) = Ok (inputs.Depset d)
+depset_from (Err k) = Err k
+
+abbrev pub leaf_inputs : Leaf → Result Inputs Kind
+leaf_inputs (plain.Depset d) = depset_from (only_files d)
+leaf_inputs _ = Err fault.Wrong
+
+-- `inputs`: a sequence of Files, or a depset that is empty or of Files
+abbrev pub shown_inputs : List Cell → Shape → Result Inputs Kind
+shown_inputs h (items j xs) = files_from (all_in file_in h xs)
+shown_inputs h (atom l) = leaf_inputs l
+shown_inputs h _ = Err fault.Wrong
+
+abbrev pub inputs_in : List Cell → Option Value → Result Inputs Kind
+inputs_in h None = Ok (inputs.Files [])
+inputs_in h (Some v) = shown_inputs h (shape h v)
+
+-- `mnemonic`: one or more letters
+abbrev pub is_letter : ℕ → Bool
+is_letter b = (nat_le 65 b && nat_le b 90) || (nat_le 97 b && nat_le b 122)
+
+abbrev pub if_mnemonic : List ℕ → Option (List ℕ)
+if_mnemonic t = if not (nat_eq (length t) 0) && list_all is_letter t then Some t else None
+
+abbrev pub mnemonic_in : List Cell → Option Value → Result (List ℕ) Kind
+mnemonic_in h None = Ok (codes "Action")
+mnemonic_in h (Some v) = of_type (option_and_then if_mnemonic (string_in (shape h v))) Ok
+
+abbrev pub action_with : List FileRef → List ℕ → Inputs → List (List ℕ) → List ℕ → Action
+action_with outputs word from arguments mnemonic =
+    record { mnemonic = mnemonic; outputs = outputs; inputs = from; words = word ∷ arguments; content = None }
+
+-- the action of outputs, of which there are some, and of what else a call got
+abbrev pub action_of : List Cell → List Value → Option (List ℕ) → Option Value → Option Value → Option Value → Result Action Kind
+action_of h outputs word from arguments mnemonic =
+    then_give (all_in file_in h outputs) (λ fs. of_type word (λ t. then_give (inputs_in h from) (λ is.
+    then_give (parts_in string_in h arguments) (λ ws. then_give (mnemonic_in h mnemonic) (λ m.
+    Ok (action_with fs t is ws m))))))
+
+abbrev pub run_with : (Shape → Option (List ℕ)) → List Cell → Work → Bound → Working
+run_with word_in h w (Some outputs ∷ Some word ∷ from ∷ arguments ∷ mnemonic ∷ []) =
+    then_give (some_outputs (sequence_in (shape h outputs))) (λ vs.
+    then_give (action_of h vs (word_in (shape h word)) from arguments mnemonic) (registered w))
+run_with word_in h w _ = Err fault.Arity
+
+abbrev pub run_of : List ℕ → (Shape → Option (List ℕ)) → List Cell → Given → Work → Working
+run_of word word_in h g w = then_give (bound (run_parameters word) g) (run_with word_in h w)
+
+abbrev pub run : List Cell → Given → Work → Working
+run h g w = run_of (codes "executable") executable_in h g w
+
+abbrev pub run_shell : List Cell → Given → Work → Working
+run_shell h g w = run_of (codes "command") string_in h g w
+
+-- ---- a call of a method
+
+abbrev pub method_call : LabelParts → ActionMethod → List Cell → Given → Work → Working
+method_call l method.DeclareFile h g w = declare_file l h g w
+method_call l method.Write h g w = write h g w
+method_call l method.Run h g w = run h g w
+method_call l method.RunShell h g w = run_shell h g w

@@ -1,0 +1,4 @@
+pub mod Works
+pub mod Offered
+pub mod Fields
+pub mod Actions

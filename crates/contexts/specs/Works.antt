@@ -1,0 +1,15 @@
+-- When a File is among those that are declared: two Files are the same where path and owner are.
+use Rattle.std.specs.Prelude.{Bool, false, ◌&&◌, ◌||◌, List, [], ◌∷◌, bytes_eq}
+use Rattle.std.specs.List.{list_any}
+use Rattle.depsets.specs.declared.element.FileRef.{FileRef}
+
+abbrev pub same_file : FileRef → FileRef → Bool
+same_file f g = bytes_eq f.path g.path && bytes_eq f.owner g.owner
+
+abbrev pub is_among : FileRef → List FileRef → Bool
+is_among f fs = list_any (same_file f) fs
+
+-- some File stands there twice
+abbrev pub repeats : List FileRef → Bool
+repeats [] = false
+repeats (f ∷ fs) = is_among f fs || repeats fs
