@@ -30,7 +30,7 @@ fn branch_provider(branch: &Branch) -> Option<&Provider>
 }
 
 /// Whether a value is an instance of a provider.
-fn is_of(value: &Frozen, provider: &Provider) -> bool
+pub fn is_of(value: &Frozen, provider: &Provider) -> bool
     ensures { result ≡ is_of provider.now (provider_of value.now) }
 {
     match provider_of(value) {

@@ -15,5 +15,5 @@ mod returned;
 pub use checks::first_refused;
 pub use dependency::{Dependency, failed_labels};
 pub use finishing::{default_info, finish};
-pub use instances::offers;
+pub use instances::{is_of, offers};
 pub use noted::dependencies;

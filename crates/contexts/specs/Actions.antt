@@ -19,7 +19,7 @@ use Rattle.actions.specs.declared.action.Inputs.{Inputs}
 use Rattle.actions.specs.declared.action.Inputs.TheVariants as inputs
 use Rattle.operations.specs.Arguments.{Given, Parameter, Bound, wanted, named_only, bound}
 use Rattle.operations.specs.BuiltIns.{argument}
-use Rattle.operations.specs.Depsets.{all_in, parts_in}
+use Rattle.operations.specs.Depsets.{gathered, put_last, all_in}
 use Rattle.operations.specs.Instances.{only_files}
 use Rattle.operations.specs.Making.{none}
 use Rattle.operations.specs.Reading.{string_in, sequence_in, of_type}
@@ -155,23 +155,34 @@ inputs_in h (Some v) = shown_inputs h (shape h v)
 abbrev pub is_letter : ℕ → Bool
 is_letter b = (nat_le 65 b && nat_le b 90) || (nat_le 97 b && nat_le b 122)
 
+abbrev pub is_mnemonic : List ℕ → Bool
+is_mnemonic t = not (nat_eq (length t) 0) && list_all is_letter t
+
 abbrev pub if_mnemonic : List ℕ → Option (List ℕ)
-if_mnemonic t = if not (nat_eq (length t) 0) && list_all is_letter t then Some t else None
+if_mnemonic t = if is_mnemonic t then Some t else None
 
 abbrev pub mnemonic_in : List Cell → Option Value → Result (List ℕ) Kind
 mnemonic_in h None = Ok (codes "Action")
 mnemonic_in h (Some v) = of_type (option_and_then if_mnemonic (string_in (shape h v))) Ok
 
-abbrev pub action_with : List FileRef → List ℕ → Inputs → List (List ℕ) → List ℕ → Action
-action_with outputs word from arguments mnemonic =
-    record { mnemonic = mnemonic; outputs = outputs; inputs = from; words = word ∷ arguments; content = None }
+-- the words: the first, and then the strings of `arguments`
+abbrev pub with_strings : List Cell → List Value → List (List ℕ) → Result (List (List ℕ)) Kind
+with_strings h vs words = gathered (λ v ws. put_last ws (string_in (shape h v))) vs words
+
+abbrev pub words_in : List Cell → List ℕ → Option Value → Result (List (List ℕ)) Kind
+words_in h word None = Ok (word ∷ [])
+words_in h word (Some v) = of_type (sequence_in (shape h v)) (λ vs. with_strings h vs (word ∷ []))
+
+abbrev pub action_with : List FileRef → Inputs → List (List ℕ) → List ℕ → Action
+action_with outputs from words mnemonic =
+    record { mnemonic = mnemonic; outputs = outputs; inputs = from; words = words; content = None }
 
 -- the action of outputs, of which there are some, and of what else a call got
 abbrev pub action_of : List Cell → List Value → Option (List ℕ) → Option Value → Option Value → Option Value → Result Action Kind
 action_of h outputs word from arguments mnemonic =
     then_give (all_in file_in h outputs) (λ fs. of_type word (λ t. then_give (inputs_in h from) (λ is.
-    then_give (parts_in string_in h arguments) (λ ws. then_give (mnemonic_in h mnemonic) (λ m.
-    Ok (action_with fs t is ws m))))))
+    then_give (words_in h t arguments) (λ ws. then_give (mnemonic_in h mnemonic) (λ m.
+    Ok (action_with fs is ws m))))))
 
 abbrev pub run_with : (Shape → Option (List ℕ)) → List Cell → Work → Bound → Working
 run_with word_in h w (Some outputs ∷ Some word ∷ from ∷ arguments ∷ mnemonic ∷ []) =

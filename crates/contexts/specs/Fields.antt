@@ -22,7 +22,7 @@ use Rattle.values.specs.declared.value.Value.TheVariants as value
 use Rattle.operations.specs.Items.{or_fault}
 use Rattle.operations.specs.Making.{none, text}
 use Rattle.workspace.specs.Labels.{LabelParts, label_text}
-use Rattle.targets.specs.Checks.{Dependency, dependency_of}
+use Rattle.targets.specs.Checks.{Dependency}
 use Rattle.targets.specs.RuleCalls.{same_label}
 use Rattle.targets.specs.declared.attributes.AttributeValue.{AttributeValue}
 use Rattle.targets.specs.declared.attributes.AttributeValue.TheVariants as has
@@ -109,12 +109,10 @@ attribute_labels (has.Label None) = Some []
 attribute_labels (has.Label (Some l)) = Some (l ∷ [])
 attribute_labels (has.Labels ls) = Some ls
 
--- a target, and its dependencies with their outcomes
-module _ (t : Target) (ds : List Dependency) where
+-- the dependencies of a target with their outcomes
+module _ (ds : List Dependency) where
   abbrev pub target_tree : LabelParts → FrozenTree
   target_tree l = leaf (plain.Target (place_of ds l))
-
-  -- ---- `ctx.attr`
 
   abbrev pub attribute_value : AttributeValue → Value
   attribute_value (has.Key k) = value.Key k
@@ -123,25 +121,30 @@ module _ (t : Target) (ds : List Dependency) where
   attribute_value (has.Label (Some l)) = value_of (target_tree l)
   attribute_value (has.Labels ls) = frozen_list (map target_tree ls)
 
-  abbrev pub attr_field : LabelParts → List ℕ → Option Value
-  attr_field l x =
-      if bytes_eq x (codes "name") then Some (text l.name) else option_map attribute_value (value_for t x)
-
-  -- ---- `ctx.files`: the listings of the targets of a label attribute, one after the other
-
+  -- the listings of the targets of labels, one after the other
   abbrev pub files_listed : List LabelParts → List Element
-  files_listed ls = flat_map (λ l. listed_files (dependency_of ds l)) ls
+  files_listed ls = flat_map (λ l. listed_files (slice_get ds (place_of ds l))) ls
 
   abbrev pub files_or_name : Option (List LabelParts) → Result Value Kind
   files_or_name (Some ls) = unless_large (files_listed ls)
   files_or_name None = Err fault.Name
 
-  abbrev pub labels_for : Option AttributeValue → Option (List LabelParts)
-  labels_for (Some v) = attribute_labels v
-  labels_for None = None
+abbrev pub labels_for : Option AttributeValue → Option (List LabelParts)
+labels_for (Some v) = attribute_labels v
+labels_for None = None
+
+-- a target, and its dependencies with their outcomes
+module _ (t : Target) (ds : List Dependency) where
+  -- ---- `ctx.attr`
+
+  abbrev pub attr_field : LabelParts → List ℕ → Option Value
+  attr_field l x =
+      if bytes_eq x (codes "name") then Some (text l.name) else option_map (attribute_value ds) (value_for t x)
+
+  -- ---- `ctx.files`, of attributes of labels alone
 
   abbrev pub files_field : List ℕ → Result Value Kind
-  files_field x = files_or_name (labels_for (value_for t x))
+  files_field x = files_or_name ds (labels_for (value_for t x))
 
   -- ---- all of them; what has no such field is `name`, and so are methods that aren't called
 

@@ -1,5 +1,5 @@
 -- When a File is among those that are declared: two Files are the same where path and owner are.
-use Rattle.std.specs.Prelude.{Bool, false, ◌&&◌, ◌||◌, List, [], ◌∷◌, bytes_eq}
+use Rattle.std.specs.Prelude.{Bool, false, ◌&&◌, ◌||◌, List, [], ◌∷◌, ◌++◌, bytes_eq}
 use Rattle.std.specs.List.{list_any}
 use Rattle.depsets.specs.declared.element.FileRef.{FileRef}
 
@@ -9,7 +9,10 @@ same_file f g = bytes_eq f.path g.path && bytes_eq f.owner g.owner
 abbrev pub is_among : FileRef → List FileRef → Bool
 is_among f fs = list_any (same_file f) fs
 
--- some File stands there twice
+-- some File stands there twice: it is among those before it
+abbrev pub repeats_after : List FileRef → List FileRef → Bool
+repeats_after seen [] = false
+repeats_after seen (f ∷ fs) = is_among f seen || repeats_after (seen ++ f ∷ []) fs
+
 abbrev pub repeats : List FileRef → Bool
-repeats [] = false
-repeats (f ∷ fs) = is_among f fs || repeats fs
+repeats fs = repeats_after [] fs

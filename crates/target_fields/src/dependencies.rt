@@ -1,0 +1,122 @@
+//! The dependencies of a target, as its implementation has them.
+ghost use Rattle.std.specs.Prelude.{◌≡◌, ◌<◌, IfOk, OnOk, length, option_map, slice_get, Some};
+ghost use Rattle.operations.specs.Instances.{default_info};
+ghost use Rattle.analysis.specs.Noted.{parts_cmp, parts_label};
+ghost use Rattle.analysis.specs.Seen.{dependency_seen, dependencies_seen};
+ghost use Rattle.contexts.specs.Fields.{place_of};
+ghost use Rattle.target_fields.specs.Placed.{ArePlaced, HasFirst};
+
+use analysis::Dependency;
+use plain::Shared;
+use std::alloc::{AllocError, Global};
+use std::collections::BTreeMap;
+use std::marker::Model;
+use values::Provider;
+use workspace::Label;
+
+/// Package and name of a label, by which it is found.
+type Parts<'a> = (&'a str, &'a str);
+
+/// The dependencies of a target with their outcomes, each found by its place and by its label; and `DefaultInfo`.
+#[derive(Drop)]
+pub struct Dependencies<'a> {
+    all: &'a [Dependency<'a>],
+    /// The first place of each label.
+    places: BTreeMap<Parts<'a>, usize>,
+    info: &'a Shared<Provider>,
+}
+
+impl<'a> Model for Dependencies<'a> {
+    ghost use Rattle.std.specs.Prelude.{◌≡◌, List};
+    ghost use Rattle.operations.specs.Instances.{default_info};
+    ghost use Rattle.targets.specs.Checks.{Dependency as Depends};
+    ghost use Rattle.analysis.specs.Seen.{dependencies_seen};
+    ghost use Rattle.target_fields.specs.Placed.{ArePlaced, HasFirst};
+
+    ghost Value = { List Depends };
+
+    ghost use Rattle.std.specs.Coded.{codes};
+    ghost use Rattle.targets.specs.contracts.outcome.Outcome as outcome;
+
+    ghost coded = { Prim.hlevel (codes, outcome.the_row.coded) };
+
+    ghost view = { λ d. dependencies_seen d.all.now };
+
+    ghost invariant = { λ d. ArePlaced (dependencies_seen d.all.now) d.places
+        × (d.info.now ≡ default_info) };
+}
+
+impl<'a> Dependencies<'a> {
+    /// These dependencies. Their labels are put in order once.
+    pub fn new(
+        alloc: Global,
+        all: &'a [Dependency<'a>],
+        info: &'a Shared<Provider>,
+    ) -> Result<Dependencies<'a>, AllocError>
+        requires { info.now ≡ default_info }
+        ensures { IfOk result (λ d. d ≡ dependencies_seen all.now) }
+    {
+        let places = places(alloc, all)?;
+        Ok(Dependencies { all, places, info })
+    }
+
+    /// The provider `DefaultInfo`.
+    pub(crate) fn info(&self) -> &'a Shared<Provider>
+        ensures { result.now ≡ default_info }
+    {
+        self.info
+    }
+
+    /// The dependency at a place.
+    pub(crate) fn at(&self, place: usize) -> Option<&'a Dependency<'a>>
+        ensures { option_map (λ d. dependency_seen d.now) result ≡ slice_get self.now place }
+    {
+        self.all.get(place)
+    }
+
+    /// The first place of a label among them; past all of them where it is none of theirs.
+    pub(crate) fn place(&self, label: &'a Label) -> usize
+        ensures { result ≡ place_of self.now label.now }
+    {
+        match self.places.get(&(label.package(), label.name())) {
+            Some(place) => *place,
+            None => self.all.len(),
+        }
+    }
+}
+
+/// The first place of each label.
+fn places<'a>(
+    alloc: Global,
+    all: &'a [Dependency<'a>],
+) -> Result<BTreeMap<Parts<'a>, usize>, AllocError>
+    ensures { IfOk result (λ places. ArePlaced (dependencies_seen all.now) places) }
+{
+    let mut places = BTreeMap::new(alloc);
+    let mut place = all.len();
+    while place > 0 {
+        place -= 1;
+        put(dependency_at(all, place).label.get(), place, &mut places)?;
+    }
+    Ok(places)
+}
+
+/// The dependency at a place.
+fn dependency_at<'a>(all: &'a [Dependency<'a>], place: usize) -> &'a Dependency<'a>
+    requires { place < length all.now }
+    ensures { slice_get all.now place ≡ Some result.now }
+{
+    &all[place]
+}
+
+/// Puts the place of a label, in place of a later one.
+fn put<'a>(
+    label: &'a Label,
+    place: usize,
+    places: &mut BTreeMap<Parts<'a>, usize>,
+) -> Result<(), AllocError>
+    ensures { OnOk result (HasFirst label.now place places.old places.new) }
+{
+    places.insert((label.package(), label.name()), place)?;
+    Ok(())
+}

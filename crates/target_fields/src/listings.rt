@@ -1,0 +1,143 @@
+//! `ctx.files`: the listings of the targets of labels.
+ghost use Rattle.std.specs.Prelude.{◌≡◌, ◌++◌, ◌∷◌, [], ◌<◌, Ok, Err, Some, None, MatchResult, IfOk, OnOk, map, length, slice_get};
+ghost use Rattle.depsets.specs.Listed.{walked};
+ghost use Rattle.values.specs.Ticking.{FaultOr};
+ghost use Rattle.operations.specs.Instances.{default_info};
+ghost use Rattle.operations.specs.States.{Gives};
+ghost use Rattle.contexts.specs.Fields.{attribute_labels, files_listed, files_or_name, frozen_list, listing, listed_files, element_tree, place_of, unless_large};
+
+use crate::attributes::frozen_list;
+use crate::dependencies::Dependencies;
+use crate::files::files_of;
+use depsets::{Depset, Element};
+use plain::Shared;
+use std::alloc::{AllocError, Global};
+use targets::AttributeValue;
+use values::{Broken, Frozen, Key, Kind, LARGEST, Leaf, Value};
+use workspace::Label;
+
+/// The Files of the targets of an attribute's labels.
+///
+/// # Errors
+///
+/// `name`, where it is no attribute of labels; `large`, where there are too many for a list.
+pub(crate) fn files<'a>(
+    alloc: Global,
+    dependencies: &Dependencies<'a>,
+    value: &'a AttributeValue,
+) -> Result<Value, Broken>
+    ensures { Gives (files_or_name dependencies.now (attribute_labels value.now)) result }
+{
+    match value {
+        AttributeValue::Key(_) => Err(Broken::Kind(Kind::Name)),
+        AttributeValue::Strings(_) => Err(Broken::Kind(Kind::Name)),
+        AttributeValue::Label(None) => files_of_labels(alloc, dependencies, &[]),
+        AttributeValue::Label(Some(label)) => {
+            files_of_labels(alloc, dependencies, std::slice::from_ref(label))
+        }
+        AttributeValue::Labels(labels) => {
+            files_of_labels(alloc, dependencies, labels.get().as_slice())
+        }
+    }
+}
+
+/// The listings of the targets of labels, one after the other, as a frozen list, or `large`.
+fn files_of_labels<'a>(
+    alloc: Global,
+    dependencies: &Dependencies<'a>,
+    labels: &'a [Shared<Label>],
+) -> Result<Value, Broken>
+    ensures { Gives (unless_large (files_listed dependencies.now labels.now)) result }
+{
+    match listed(alloc, dependencies, labels) {
+        Ok(trees) => {
+            let list = frozen_list(alloc, trees)?;
+            Ok(list)
+        }
+        Err(broken) => Err(broken),
+    }
+}
+
+/// The listings of the targets of labels, one after the other, or `large` as soon as they are.
+fn listed<'a>(
+    alloc: Global,
+    dependencies: &Dependencies<'a>,
+    labels: &'a [Shared<Label>],
+) -> Result<Vec<Frozen>, Broken>
+    ensures { MatchResult result
+        (λ ts. unless_large (files_listed dependencies.now labels.now) ≡ Ok (frozen_list ts.items))
+        (λ e. FaultOr (unless_large (files_listed dependencies.now labels.now)) e) }
+{
+    let mut trees = Vec::new(alloc);
+    for label in labels {
+        put_files(
+            alloc,
+            dependencies,
+            dependencies.place(label.get()),
+            &mut trees,
+        )?;
+        if trees.len() > LARGEST {
+            return Err(Broken::Kind(Kind::Large));
+        }
+    }
+    Ok(trees)
+}
+
+/// Puts the listing of the target at a place last.
+fn put_files(
+    alloc: Global,
+    dependencies: &Dependencies<'_>,
+    place: usize,
+    trees: &mut Vec<Frozen>,
+) -> Result<(), AllocError>
+    ensures { OnOk result (trees.new.items ≡ trees.old.items
+        ++ map element_tree (listed_files (slice_get dependencies.now place))) }
+{
+    let Some(dependency) = dependencies.at(place) else {
+        return Ok(());
+    };
+    match files_of(alloc, dependency, dependencies.info().get())? {
+        Some(depset) => put_listing(alloc, &depset, trees),
+        None => Ok(()),
+    }
+}
+
+/// Puts the listing of a depset last.
+fn put_listing(alloc: Global, depset: &Depset, trees: &mut Vec<Frozen>) -> Result<(), AllocError>
+    ensures { OnOk result (trees.new.items ≡ trees.old.items
+        ++ map element_tree (walked depset.now)) }
+{
+    let listing = depset.list_whole(alloc)?;
+    put_elements(listing.items.as_slice(), trees)
+}
+
+/// Puts elements last.
+fn put_elements(elements: &[Element], trees: &mut Vec<Frozen>) -> Result<(), AllocError>
+    ensures { OnOk result (trees.new.items ≡ trees.old.items ++ map element_tree elements.now) }
+{
+    for element in elements {
+        put_element(element, trees)?;
+    }
+    Ok(())
+}
+
+/// Puts an element last.
+fn put_element(element: &Element, trees: &mut Vec<Frozen>) -> Result<(), AllocError>
+    ensures { OnOk result (trees.new.items ≡ trees.old.items ++ element_tree element.now ∷ []) }
+{
+    trees.push(element_tree(element)?)?;
+    Ok(())
+}
+
+/// An element as a frozen value.
+fn element_tree(element: &Element) -> Result<Frozen, AllocError>
+    ensures { IfOk result (λ t. t ≡ element_tree element.now) }
+{
+    match element {
+        Element::Text(text) => Ok(Frozen::of_key(Key::Text(text.share()?))),
+        Element::Number(number) => Ok(Frozen::of_key(Key::Number(*number))),
+        Element::Truth(truth) => Ok(Frozen::of_key(Key::Truth(*truth))),
+        Element::Label(label) => Ok(Frozen::of_leaf(Leaf::Label(label.share()?))),
+        Element::File(file) => Ok(Frozen::of_leaf(Leaf::File(file.share()?))),
+    }
+}
