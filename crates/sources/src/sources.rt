@@ -1,0 +1,143 @@
+//! The files of a workspace, each read and compiled once.
+ghost use Rattle.std.specs.Prelude.{◌≡◌, ◌<◌, IfOk, length, map, position, bytes_eq};
+ghost use Rattle.std.specs.List.Sorted.{IsPermutation};
+ghost use Rattle.workspace.specs.Workspaces.{paths_of};
+ghost use Rattle.meaning.specs.Functions.{functions};
+ghost use Rattle.meaning.specs.StatementCode.{code_of};
+ghost use Rattle.load_graph.specs.Paths.{ArePaths};
+ghost use Rattle.evaluation.specs.Runs.{program_at};
+ghost use Rattle.evaluation.specs.Workspaces.{linked_files, read_file};
+ghost use Rattle.sources.specs.Kept.{as_read, kept_of};
+
+use crate::files::{Files, PathAndText};
+use crate::kept::{Kept, Loads, read_file};
+use crate::shares::statements;
+use evaluation::TopNames;
+use lexer::FaultKind;
+use loading::FileRead;
+use plain::{Shared, Text};
+use std::alloc::{AllocError, Global};
+use std::marker::Model;
+use workspace::Workspace;
+
+/// The files of a workspace, in ascending order of their paths: what was read of each, and the codes of all of them. The
+/// place of a file, from 0, is its number.
+#[derive(Drop)]
+pub struct Sources {
+    files: Files,
+    kept: Vec<Kept>,
+}
+
+impl Model for Sources {
+    ghost use Rattle.std.specs.Prelude.{List, ◌≡◌};
+    ghost use Rattle.workspace.specs.Workspaces.{Pair};
+    ghost use Rattle.std.specs.Prelude.{map};
+    ghost use Rattle.sources.specs.Kept.{kept_of};
+
+    ghost Value = { List Pair };
+
+    ghost view = { λ s. s.files };
+
+    ghost invariant = { λ s. s.kept.items ≡ map kept_of s.files };
+}
+
+/// Reads and compiles files.
+fn read_all(alloc: Global, files: &[PathAndText]) -> Result<Vec<Kept>, AllocError>
+    ensures kept { IfOk result (λ r. r.items ≡ map kept_of files.now) }
+{
+    let mut all = Vec::with_capacity(alloc, files.len())?;
+    for file in files {
+        let done = read_file(alloc, &file.0, file.1.as_str())?;
+        all.push(done.kept)?;
+    }
+    Ok(all)
+}
+
+/// A file as loading sees it, under its number.
+fn as_read(
+    alloc: Global,
+    number: usize,
+    loads: &Loads,
+) -> Result<Result<FileRead<usize>, (FaultKind, u64)>, AllocError>
+    ensures { IfOk result (λ r. r ≡ as_read number loads.now) }
+{
+    match loads {
+        Ok(loads) => Ok(Ok(FileRead {
+            loads: statements(alloc, loads.as_slice())?,
+            tree: number,
+        })),
+        Err(fault) => Ok(Err(*fault)),
+    }
+}
+
+impl Sources {
+    /// The files of a workspace. Each is parsed and compiled once, and its tree let go at once.
+    ///
+    /// # Errors
+    ///
+    /// `AllocError` where memory was refused.
+    pub fn of(alloc: Global, workspace: &Workspace) -> Result<Sources, AllocError>
+        ensures { IfOk result (IsPermutation workspace.now) }
+    {
+        let files = Files::of(alloc, workspace)?;
+        let kept = read_all(alloc, files.as_slice())?;
+        Ok(Sources { files, kept })
+    }
+
+    /// The paths of the files, in order.
+    pub fn paths(&self) -> &[Text]
+        ensures value { result.now ≡ paths_of self.now }
+        ensures ascending { ArePaths (paths_of self.now) }
+    {
+        self.files.paths()
+    }
+
+    /// The number of the file at a path, if there is one.
+    pub fn number(&self, path: &Text) -> Option<usize>
+        ensures { result ≡ position (bytes_eq path.now) (paths_of self.now) }
+    {
+        self.files.number(path)
+    }
+
+    /// The names of the top level of a file.
+    pub fn names(&self, number: usize) -> &Shared<TopNames>
+        requires file { number < length self.now }
+        ensures { result.now ≡ (program_at (linked_files self.now) number).globals }
+    {
+        let kept = &self.kept[number];
+        &kept.names
+    }
+
+    /// How many functions a file has, with its top level.
+    pub fn functions(&self, number: usize) -> usize
+        requires file { number < length self.now }
+        ensures { result ≡ length (functions (program_at (linked_files self.now) number)) }
+    {
+        let kept = &self.kept[number];
+        kept.functions
+    }
+
+    /// The file at a path, or the kind and the line of its syntax fault. A path without a file is read as an empty one.
+    ///
+    /// # Errors
+    ///
+    /// `AllocError` where memory was refused.
+    pub fn read(
+        &self,
+        alloc: Global,
+        path: &Text,
+    ) -> Result<Result<FileRead<usize>, (FaultKind, u64)>, AllocError>
+        ensures { IfOk result (λ r. r ≡ read_file self.now path.now) }
+    {
+        match self.files.number(path) {
+            Some(number) => {
+                let kept = &self.kept[number];
+                as_read(alloc, number, &kept.loads)
+            }
+            None => {
+                let kept = read_file(alloc, path, "")?.kept;
+                as_read(alloc, self.files.len(), &kept.loads)
+            }
+        }
+    }
+}
