@@ -1,0 +1,23 @@
+-- What an action runs: how it is given, and what it may be.
+use Rattle.std.specs.Prelude.{ℕ, List, [], ◌∷◌, Option, Some, codes}
+use Rattle.values.specs.Shape.{Shape}
+use Rattle.values.specs.declared.value.Value.{Value}
+use Rattle.operations.specs.Arguments.{Given, Bound}
+use Rattle.operations.specs.Reading.{string_in}
+use Rattle.calls.specs.Parameters.{got_at}
+use Rattle.contexts.specs.Actions.{executable_in}
+use Rattle.target_actions.specs.declared.programs.Program.{Program}
+use Rattle.target_actions.specs.declared.programs.Program.TheVariants.{Executable, Command}
+
+abbrev pub parameter : Program → List ℕ
+parameter Executable = codes "executable"
+parameter Command = codes "command"
+
+abbrev pub program_in : Program → Shape → Option (List ℕ)
+program_in Executable s = executable_in s
+program_in Command s = string_in s
+
+-- what the parameters of a call get that has outputs and a word
+abbrev pub given_parts : Value → Value → Given → Bound
+given_parts outputs word g =
+    Some outputs ∷ Some word ∷ got_at 2 (codes "inputs") g ∷ got_at 3 (codes "arguments") g ∷ got_at 4 (codes "mnemonic") g ∷ []

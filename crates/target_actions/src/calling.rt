@@ -1,0 +1,40 @@
+//! A call of a method of `ctx.actions`.
+ghost use Rattle.std.specs.Prelude.{◌≡◌, Ok, MatchResult};
+ghost use Rattle.values.specs.Ticking.{FaultOr};
+ghost use Rattle.operations.specs.Arguments.{given};
+ghost use Rattle.contexts.specs.Actions.{method_call, declare_file, write, run, run_shell, run_of};
+
+use crate::declaring::declare_file;
+use crate::programs::Program;
+use crate::registering::write;
+use crate::running::run;
+use contexts::{ActionMethod, Work};
+use operations::Arguments;
+use std::alloc::Global;
+use values::{Broken, Heap, Value};
+use workspace::Label;
+
+/// What a method gives to the implementation of the target of a label, whose work it adds to.
+///
+/// # Errors
+///
+/// The first of `arity`, `type`, `place` and `key`, as `docs/PROFILE.md` says of calls of implementations.
+pub fn call_method(
+    alloc: Global,
+    label: &Label,
+    method: ActionMethod,
+    heap: &Heap,
+    arguments: &Arguments<'_>,
+    work: &mut Work,
+) -> Result<Value, Broken>
+    ensures { MatchResult result
+        (λ v. method_call label.now method heap.now (given arguments.now) work.old ≡ Ok (v, work.new))
+        (λ e. FaultOr (method_call label.now method heap.now (given arguments.now) work.old) e) }
+{
+    match method {
+        ActionMethod::DeclareFile => declare_file(alloc, label, heap, arguments, work),
+        ActionMethod::Write => write(alloc, heap, arguments, work),
+        ActionMethod::Run => run(alloc, Program::Executable, heap, arguments, work),
+        ActionMethod::RunShell => run(alloc, Program::Command, heap, arguments, work),
+    }
+}

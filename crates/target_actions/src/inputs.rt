@@ -1,0 +1,150 @@
+//! What else an action is given: inputs, words and a mnemonic.
+ghost use Rattle.std.specs.Prelude.{◌≡◌, ◌∷◌, [], Ok, Err, Some, None, MatchResult, option_copied, option_and_then};
+ghost use Rattle.std.specs.List.{list_all};
+ghost use Rattle.depsets.specs.Elements.{elements, all_of_type};
+ghost use Rattle.values.specs.Seeing.{seen, group_items};
+ghost use Rattle.values.specs.Shape.{shape};
+ghost use Rattle.values.specs.Ticking.{FaultOr};
+ghost use Rattle.operations.specs.Reading.{string_in, sequence_in};
+ghost use Rattle.operations.specs.States.{Gives};
+ghost use Rattle.contexts.specs.Actions.{inputs_in, shown_inputs, leaf_inputs, words_in, mnemonic_in, if_mnemonic, is_mnemonic, is_letter, file_in, files_from, depset_from};
+ghost use Rattle.operations.specs.Depsets.{all_in};
+ghost use Rattle.operations.specs.Instances.{only_files};
+
+use crate::parts::{files, put_strings};
+use actions::{Files, Inputs, Words};
+use depsets::{Depset, ElementType};
+use plain::Text;
+use state::{sequence_of, text_of};
+use std::alloc::Global;
+use values::{Broken, Group, Heap, Kind, Leaf, Seen, Value};
+
+/// The inputs of an argument: a sequence of Files, or a depset that is empty or of Files; no Files, where there is none.
+pub(crate) fn inputs_in(
+    alloc: Global,
+    heap: &Heap,
+    inputs: Option<&Value>,
+) -> Result<Inputs, Broken>
+    ensures { Gives (inputs_in heap.now (option_copied inputs.entry)) result }
+{
+    let Some(inputs) = inputs else {
+        return Ok(Inputs::Files(Files::new(alloc)));
+    };
+    match heap.see(inputs) {
+        Seen::List(items) => file_inputs(alloc, heap, items),
+        Seen::Tuple(items) => file_inputs(alloc, heap, items),
+        Seen::Leaf(leaf) => leaf_inputs(leaf),
+        _ => Err(Broken::Kind(Kind::Wrong)),
+    }
+}
+
+/// The Files that items are, or `type`.
+fn file_inputs(alloc: Global, heap: &Heap, items: Group<'_>) -> Result<Inputs, Broken>
+    ensures { Gives (files_from (all_in file_in heap.now (group_items items.entry))) result }
+{
+    match files(alloc, heap, items) {
+        Ok(files) => Ok(Inputs::Files(files)),
+        Err(broken) => Err(broken),
+    }
+}
+
+/// A depset that is empty or of Files, or `type`.
+fn leaf_inputs(leaf: &Leaf) -> Result<Inputs, Broken>
+    ensures { Gives (leaf_inputs leaf.now) result }
+{
+    match leaf {
+        Leaf::Depset(depset) => depset_inputs(depset),
+        _ => Err(Broken::Kind(Kind::Wrong)),
+    }
+}
+
+fn depset_inputs(depset: &Depset) -> Result<Inputs, Broken>
+    ensures { Gives (depset_from (only_files depset.now)) result }
+{
+    if !has_only_files(depset) {
+        return Err(Broken::Kind(Kind::Wrong));
+    }
+    let depset = depset.share()?;
+    Ok(Inputs::Depset(depset))
+}
+
+/// Whether a depset is empty or of Files.
+fn has_only_files(depset: &Depset) -> bool
+    ensures { result ≡ all_of_type ElementType.File (elements depset.now) }
+{
+    match depset.element_type() {
+        Some(ElementType::File) => true,
+        Some(_) => false,
+        None => true,
+    }
+}
+
+/// The words of an action: the first, and then the strings of an argument, which may be missing.
+pub(crate) fn words_in(
+    alloc: Global,
+    heap: &Heap,
+    word: &Text,
+    arguments: Option<&Value>,
+) -> Result<Words, Broken>
+    ensures { Gives (words_in heap.now word.now (option_copied arguments.entry)) result }
+{
+    let mut words = Words::new(alloc);
+    words.push(word.share()?)?;
+    let Some(arguments) = arguments else {
+        return Ok(words);
+    };
+    let Some(items) = sequence_of(&heap.see(arguments)) else {
+        return Err(Broken::Kind(Kind::Wrong));
+    };
+    match put_strings(heap, items, &mut words) {
+        Ok(()) => Ok(words),
+        Err(broken) => Err(broken),
+    }
+}
+
+/// The mnemonic of an argument, which may be missing; or `type`.
+pub(crate) fn mnemonic_in(
+    alloc: Global,
+    heap: &Heap,
+    mnemonic: Option<&Value>,
+) -> Result<Text, Broken>
+    ensures { Gives (mnemonic_in heap.now (option_copied mnemonic.entry)) result }
+{
+    let Some(mnemonic) = mnemonic else {
+        let text = Text::new(alloc, "Action")?;
+        return Ok(text);
+    };
+    let Some(text) = text_of(&heap.see(mnemonic)) else {
+        return Err(Broken::Kind(Kind::Wrong));
+    };
+    if !is_mnemonic(text) {
+        return Err(Broken::Kind(Kind::Wrong));
+    }
+    let text = text.share()?;
+    Ok(text)
+}
+
+/// Whether a text is one letter or more.
+fn is_mnemonic(text: &Text) -> bool
+    ensures { result ≡ is_mnemonic text.now }
+{
+    text.len() != 0 && are_letters(text.as_str().as_bytes())
+}
+
+/// Whether each byte is a letter.
+fn are_letters(bytes: &[u8]) -> bool
+    ensures { result ≡ list_all is_letter bytes.now }
+{
+    for byte in bytes {
+        if !is_letter(*byte) {
+            return false;
+        }
+    }
+    true
+}
+
+fn is_letter(byte: u8) -> bool
+    ensures { result ≡ is_letter byte }
+{
+    (65 <= byte && byte <= 90) || (97 <= byte && byte <= 122)
+}

@@ -1,0 +1,147 @@
+//! Actions that are registered, and `ctx.actions.write`.
+ghost use Rattle.std.specs.Prelude.{◌≡◌, ◌∷◌, [], Ok, Err, Some, None, MatchResult, IfOk, map, option_copied};
+ghost use Rattle.std.specs.List.{list_all};
+ghost use Rattle.values.specs.Ticking.{FaultOr};
+ghost use Rattle.operations.specs.Arguments.{given};
+ghost use Rattle.calls.specs.Parameters.{taken};
+ghost use Rattle.contexts.specs.Works.{is_among, repeats};
+ghost use Rattle.contexts.specs.Actions.{registered, write, write_with, written, write_parameters, file_write, file_in};
+ghost use Rattle.operations.specs.Reading.{string_in};
+ghost use Rattle.values.specs.Shape.{shape};
+
+use crate::parts::file_of;
+use actions::{Action, Files, Inputs, Words};
+use calls::{Parameter, check_arguments, got};
+use contexts::{DeclaredFiles, Work};
+use depsets::FileRef;
+use operations::Arguments;
+use plain::{Shared, Text};
+use state::text_of;
+use std::alloc::{AllocError, Global};
+use values::{Broken, Heap, Kind, Leaf, Value};
+
+/// Registers an action.
+///
+/// # Errors
+///
+/// `place`, where an output isn't declared; then `key`, where one stands there twice.
+pub(crate) fn registered(alloc: Global, action: Action, work: &mut Work) -> Result<Value, Broken>
+    ensures { MatchResult result (λ v. registered work.old action ≡ Ok (v, work.new))
+        (λ e. FaultOr (registered work.old action) e) }
+{
+    if !are_declared(action.outputs.as_slice(), &work.files) {
+        return Err(Broken::Kind(Kind::Place));
+    }
+    if repeats(alloc, action.outputs.as_slice())? {
+        return Err(Broken::Kind(Kind::Key));
+    }
+    if work.actions.push(action).is_err() {
+        return Err(Broken::NoMemory);
+    }
+    Ok(Value::Leaf(Leaf::None))
+}
+
+/// Whether each of the Files is declared.
+fn are_declared(files: &[Shared<FileRef>], declared: &DeclaredFiles) -> bool
+    ensures { result ≡ list_all (λ f. is_among f declared.now) files.now }
+{
+    for file in files {
+        if !declared.has(file) {
+            return false;
+        }
+    }
+    true
+}
+
+/// Whether a File stands there twice. They are found by hash, so many take no longer each than few.
+fn repeats(alloc: Global, files: &[Shared<FileRef>]) -> Result<bool, AllocError>
+    ensures { IfOk result (λ b. b ≡ repeats files.now) }
+{
+    let mut seen = DeclaredFiles::new(alloc);
+    for file in files {
+        if seen.has(file) {
+            return Ok(true);
+        }
+        seen.push(file.share()?)?;
+    }
+    Ok(false)
+}
+
+/// `ctx.actions.write(output, content)`.
+///
+/// # Errors
+///
+/// `arity`; `type`, where the output is no File or the content no string; then those of [`registered`].
+pub(crate) fn write(
+    alloc: Global,
+    heap: &Heap,
+    arguments: &Arguments<'_>,
+    work: &mut Work,
+) -> Result<Value, Broken>
+    ensures { MatchResult result
+        (λ v. write heap.now (given arguments.now) work.old ≡ Ok (v, work.new))
+        (λ e. FaultOr (write heap.now (given arguments.now) work.old) e) }
+{
+    let parameters = write_parameters();
+    if let Err(broken) = check_arguments(&parameters, arguments) {
+        return Err(broken);
+    }
+    match (got(arguments, 0, "output"), got(arguments, 1, "content")) {
+        (Some(output), Some(content)) => written(alloc, heap, output, content, work),
+        _ => Err(Broken::Kind(Kind::Arity)),
+    }
+}
+
+fn write_parameters() -> [Parameter<'static>; 2]
+    ensures { map taken result ≡ write_parameters }
+{
+    [
+        Parameter {
+            name: "output",
+            by_name: false,
+            may_miss: false,
+        },
+        Parameter {
+            name: "content",
+            by_name: false,
+            may_miss: false,
+        },
+    ]
+}
+
+/// The action that writes a content to an output.
+fn written(
+    alloc: Global,
+    heap: &Heap,
+    output: &Value,
+    content: &Value,
+    work: &mut Work,
+) -> Result<Value, Broken>
+    ensures { MatchResult result
+        (λ v. written work.old (file_in (shape heap.now output.now))
+        (string_in (shape heap.now content.now)) ≡ Ok (v, work.new))
+        (λ e. FaultOr (written work.old (file_in (shape heap.now output.now))
+        (string_in (shape heap.now content.now))) e) }
+{
+    match (file_of(&heap.see(output)), text_of(&heap.see(content))) {
+        (Some(file), Some(text)) => {
+            let action = file_write(alloc, file, text)?;
+            registered(alloc, action, work)
+        }
+        _ => Err(Broken::Kind(Kind::Wrong)),
+    }
+}
+
+fn file_write(alloc: Global, file: &Shared<FileRef>, content: &Text) -> Result<Action, AllocError>
+    ensures { IfOk result (λ a. a ≡ file_write file.now content.now) }
+{
+    let mut outputs = Files::new(alloc);
+    outputs.push(file.share()?)?;
+    Ok(Action {
+        mnemonic: Text::new(alloc, "FileWrite")?,
+        outputs,
+        inputs: Inputs::Files(Files::new(alloc)),
+        words: Words::new(alloc),
+        content: Some(content.share()?),
+    })
+}
