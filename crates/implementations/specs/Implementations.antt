@@ -1,0 +1,91 @@
+-- What an implementation has while it runs: the fields and items of the targets that it depends on, `ctx` and its parts, and the
+-- methods of `ctx.actions` (docs/PROFILE.md, "Rules of all calls" and "Fields").
+use Rattle.std.specs.Prelude.{ℕ, Bool, true, false, List, [], ◌∷◌, Option, Some, None, is_some, Result, Ok, Err, codes, bytes_eq, if◌then◌else◌}
+use Rattle.std.specs.List.{list_any}
+use Rattle.values.specs.declared.leaf.BuiltIn.{BuiltIn}
+use Rattle.values.specs.declared.leaf.BuiltIn.TheVariants as built_in
+use Rattle.values.specs.declared.leaf.Leaf.{Leaf}
+use Rattle.values.specs.declared.leaf.Leaf.TheVariants as plain
+use Rattle.values.specs.declared.leaf.Object.{Object}
+use Rattle.values.specs.declared.leaf.Object.TheVariants as object
+use Rattle.values.specs.declared.ticks.Kind.{Kind}
+use Rattle.values.specs.declared.ticks.Kind.TheVariants as fault
+use Rattle.values.specs.declared.value.Value.{Value}
+use Rattle.operations.specs.Arguments.{Given}
+use Rattle.language.specs.Place.{Does, Place}
+use Rattle.language.specs.declared.whole.Whole.{Whole}
+use Rattle.workspace.specs.Labels.{LabelParts}
+use Rattle.targets.specs.Checks.{Dependency}
+use Rattle.targets.specs.declared.target.Target.{Target}
+use Rattle.evaluation.specs.Runs.{OfTarget}
+use Rattle.contexts.specs.declared.method.ActionMethod.{ActionMethod}
+use Rattle.contexts.specs.declared.work.Work.{Work}
+use Rattle.contexts.specs.Offered.{item, offers}
+use Rattle.contexts.specs.Fields.{field}
+use Rattle.contexts.specs.Actions.{Working, method_named, method_call}
+
+-- `provider`, `rule` and the methods of `attr` are a module's, and a rule is called by a `BUILD` file
+abbrev pub built_in_refused : BuiltIn → Kind
+built_in_refused built_in.Provider = fault.Place
+built_in_refused built_in.Rule = fault.Place
+built_in_refused _ = fault.Wrong
+
+abbrev pub refused : Leaf → Kind
+refused (plain.BuiltIn b) = built_in_refused b
+refused (plain.Rule r) = fault.Place
+refused _ = fault.Wrong
+
+abbrev pub is_attr_method : List ℕ → Bool
+is_attr_method x =
+    list_any (bytes_eq x) (codes "string" ∷ codes "int" ∷ codes "bool" ∷ codes "string_list" ∷ codes "label" ∷ codes "label_list" ∷ [])
+
+abbrev pub object_has_method : Object → List ℕ → Bool
+object_has_method object.Attr x = is_attr_method x
+object_has_method object.ContextActions x = is_some (method_named x)
+object_has_method _ x = false
+
+-- nothing else has methods
+abbrev pub has_method : Leaf → List ℕ → Bool
+has_method (plain.Object o) x = object_has_method o x
+has_method _ x = false
+
+-- a method changes the work alone
+abbrev pub worked : Whole Work → Working → Result (Value × Whole Work) Kind
+worked w (Ok p) = Ok (p.0, record w { work = p.1 })
+worked w (Err k) = Err k
+
+abbrev pub action_call : LabelParts → Option ActionMethod → Given → Does Work Value
+action_call l (Some m) g w = worked w (method_call l m w.state.heap g w.work)
+action_call l None g w = Err fault.Name
+
+abbrev pub attr_refused : List ℕ → Kind
+attr_refused x = if is_attr_method x then fault.Place else fault.Name
+
+abbrev pub object_method : LabelParts → Object → List ℕ → Given → Does Work Value
+object_method l object.Attr x g w = Err (attr_refused x)
+object_method l object.ContextActions x g w = action_call l (method_named x) g w
+object_method l _ x g w = Err fault.Name
+
+abbrev pub call_method : LabelParts → Leaf → List ℕ → Given → Does Work Value
+call_method l (plain.Object o) x g w = object_method l o x g w
+call_method l _ x g w = Err fault.Name
+
+-- for the target of a label, with its dependencies and their outcomes
+abbrev pub implementation_place : LabelParts → Target → List Dependency → Place Work
+implementation_place l t ds = record {
+  call = λ c g w. Err (refused c);
+  has_method = has_method;
+  method = call_method l;
+  field = λ o x w. field t ds l o x;
+  item = λ n v w. item ds w.state.heap n v;
+  offers = λ n v w. offers ds w.state.heap n v;
+}
+
+-- what the call of an implementation brings: nothing of it depends on the modules that are known
+abbrev pub target_world : OfTarget Work
+target_world = record {
+  place = λ known. implementation_place;
+  first = record { files = []; actions = [] };
+  files = λ w. w.files;
+  actions = λ w. w.actions;
+}
