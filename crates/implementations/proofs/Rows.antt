@@ -1,10 +1,9 @@
 -- Worked calls, fields and items in an implementation, by computation.
-use Rattle.std.specs.Prelude.{◌≡◌, ℕ, true, false, List, [], ◌∷◌, None, Some, Ok, Err, refl, codes}
+use Rattle.std.specs.Prelude.{◌≡◌, ℕ, true, false, List, [], ◌∷◌, Some, Ok, Err, refl, codes}
 use Rattle.depsets.specs.declared.element.FileRef.{FileRef}
 use Rattle.values.specs.declared.leaf.BuiltIn.TheVariants as built_in
 use Rattle.values.specs.declared.leaf.ExportName.TheVariants as export
 use Rattle.values.specs.declared.leaf.FunctionRef.{FunctionRef}
-use Rattle.values.specs.declared.leaf.Leaf.{Leaf}
 use Rattle.values.specs.declared.leaf.Leaf.TheVariants as plain
 use Rattle.values.specs.declared.leaf.Object.TheVariants as object
 use Rattle.values.specs.declared.ticks.Kind.TheVariants as fault

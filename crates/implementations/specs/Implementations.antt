@@ -1,6 +1,6 @@
 -- What an implementation has while it runs: the fields and items of the targets that it depends on, `ctx` and its parts, and the
 -- methods of `ctx.actions` (docs/PROFILE.md, "Rules of all calls" and "Fields").
-use Rattle.std.specs.Prelude.{ℕ, Bool, true, false, List, [], ◌∷◌, Option, Some, None, is_some, Result, Ok, Err, codes, bytes_eq, if◌then◌else◌}
+use Rattle.std.specs.Prelude.{ℕ, Bool, false, List, [], ◌∷◌, Option, Some, None, is_some, Result, Ok, Err, codes, bytes_eq, if◌then◌else◌}
 use Rattle.std.specs.List.{list_any}
 use Rattle.values.specs.declared.leaf.BuiltIn.{BuiltIn}
 use Rattle.values.specs.declared.leaf.BuiltIn.TheVariants as built_in

@@ -93,7 +93,14 @@ impl<'a> Place for ImplementationPlace<'a> {
         owner: &Leaf,
         name: &Text,
     ) -> Result<Value, Broken> {
-        field(alloc, self.label, self.target, &self.dependencies, owner, name)
+        field(
+            alloc,
+            self.label,
+            self.target,
+            &self.dependencies,
+            owner,
+            name,
+        )
     }
 
     fn item(
@@ -103,15 +110,16 @@ impl<'a> Place for ImplementationPlace<'a> {
         target: usize,
         provider: &Value,
     ) -> Result<Value, Broken> {
-        item(alloc, &whole.state.heap, &self.dependencies, target, provider)
+        item(
+            alloc,
+            &whole.state.heap,
+            &self.dependencies,
+            target,
+            provider,
+        )
     }
 
-    fn offers(
-        &self,
-        whole: &Whole<Work>,
-        target: usize,
-        provider: &Value,
-    ) -> Result<bool, Broken> {
+    fn offers(&self, whole: &Whole<Work>, target: usize, provider: &Value) -> Result<bool, Broken> {
         offers(&whole.state.heap, &self.dependencies, target, provider)
     }
 }
@@ -131,7 +139,13 @@ fn call_method(
     match owner {
         Leaf::Object(Object::Attr) => Err(Broken::Kind(attr_refused(name.as_str()))),
         Leaf::Object(Object::ContextActions) => {
-            call_action(alloc, label, whole, ActionMethod::named(name.as_str()), arguments)
+            call_action(
+                alloc,
+                label,
+                whole,
+                ActionMethod::named(name.as_str()),
+                arguments,
+            )
         }
         _ => Err(Broken::Kind(Kind::Name)),
     }
