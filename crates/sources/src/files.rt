@@ -56,7 +56,8 @@ fn paths_of(alloc: Global, files: &[PathAndText]) -> Result<Vec<Text>, AllocErro
 impl Files {
     /// The files of a workspace.
     pub fn of(alloc: Global, workspace: &Workspace) -> Result<Files, AllocError>
-        ensures { IfOk result (IsPermutation workspace.now) }
+        ensures all { IfOk result (IsPermutation workspace.now) }
+        ensures ascending { IfOk result (λ f. ArePaths (paths_of f)) }
     {
         let mut files = Vec::with_capacity(alloc, workspace.count())?;
         add_files(&mut files, workspace.files())?;

@@ -10,3 +10,5 @@ mod labels;
 mod loads;
 mod shares;
 mod sources;
+
+pub use sources::Sources;

@@ -7,6 +7,7 @@ ghost use Rattle.meaning.specs.StatementCode.{code_of};
 ghost use Rattle.load_graph.specs.Paths.{ArePaths};
 ghost use Rattle.evaluation.specs.Runs.{program_at};
 ghost use Rattle.evaluation.specs.Workspaces.{linked_files, read_file};
+ghost use Rattle.machine.specs.LinkedView.{codes_of};
 ghost use Rattle.sources.specs.Kept.{as_read, kept_of};
 
 use crate::files::{Files, PathAndText};
@@ -15,6 +16,7 @@ use crate::shares::statements;
 use evaluation::TopNames;
 use lexer::FaultKind;
 use loading::FileRead;
+use machine::Linked;
 use plain::{Shared, Text};
 use std::alloc::{AllocError, Global};
 use std::marker::Model;
@@ -26,31 +28,35 @@ use workspace::Workspace;
 pub struct Sources {
     files: Files,
     kept: Vec<Kept>,
+    linked: Linked,
 }
 
 impl Model for Sources {
-    ghost use Rattle.std.specs.Prelude.{List, ◌≡◌};
+    ghost use Rattle.std.specs.Prelude.{List};
     ghost use Rattle.workspace.specs.Workspaces.{Pair};
-    ghost use Rattle.std.specs.Prelude.{map};
-    ghost use Rattle.sources.specs.Kept.{kept_of};
+    ghost use Rattle.machine.specs.LinkedView.{codes_of};
+    ghost use Rattle.sources.specs.Kept.{AreRead};
 
     ghost Value = { List Pair };
 
     ghost view = { λ s. s.files };
 
-    ghost invariant = { λ s. s.kept.items ≡ map kept_of s.files };
+    ghost invariant = { λ s. AreRead s.files s.kept.items (codes_of s.linked) };
 }
 
 /// Reads and compiles files.
-fn read_all(alloc: Global, files: &[PathAndText]) -> Result<Vec<Kept>, AllocError>
-    ensures kept { IfOk result (λ r. r.items ≡ map kept_of files.now) }
+fn read_all(alloc: Global, files: &[PathAndText]) -> Result<(Vec<Kept>, Linked), AllocError>
+    ensures kept { IfOk result (λ r. r.0.items ≡ map kept_of files.now) }
+    ensures codes { IfOk result (λ r. codes_of r.1 ≡ code_of (linked_files files.now)) }
 {
     let mut all = Vec::with_capacity(alloc, files.len())?;
+    let mut linked = Linked::new(alloc);
     for file in files {
         let done = read_file(alloc, &file.0, file.1.as_str())?;
         all.push(done.kept)?;
+        linked.add(done.code)?;
     }
-    Ok(all)
+    Ok((all, linked))
 }
 
 /// A file as loading sees it, under its number.
@@ -77,11 +83,16 @@ impl Sources {
     ///
     /// `AllocError` where memory was refused.
     pub fn of(alloc: Global, workspace: &Workspace) -> Result<Sources, AllocError>
-        ensures { IfOk result (IsPermutation workspace.now) }
+        ensures all { IfOk result (IsPermutation workspace.now) }
+        ensures ascending { IfOk result (λ s. ArePaths (paths_of s)) }
     {
         let files = Files::of(alloc, workspace)?;
-        let kept = read_all(alloc, files.as_slice())?;
-        Ok(Sources { files, kept })
+        let (kept, linked) = read_all(alloc, files.as_slice())?;
+        Ok(Sources {
+            files,
+            kept,
+            linked,
+        })
     }
 
     /// The paths of the files, in order.
@@ -97,6 +108,13 @@ impl Sources {
         ensures { result ≡ position (bytes_eq path.now) (paths_of self.now) }
     {
         self.files.number(path)
+    }
+
+    /// The codes of the files, by number. A file that has a syntax fault or isn't Starlark has that of an empty one.
+    pub fn linked(&self) -> &Linked
+        ensures { codes_of result.now ≡ code_of (linked_files self.now) }
+    {
+        &self.linked
     }
 
     /// The names of the top level of a file.

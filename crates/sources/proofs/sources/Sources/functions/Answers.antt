@@ -6,4 +6,4 @@ use Rattle.sources.proofs.sources.Sources.functions.Goals as goal
 pub returns : goal.returns
 returns c =
     ap (λ (k : KeptView). k.functions) c.kept.view_is
-    ∙ functions_are c.self.inside.files c.args.self.now c.self.inside.kept.items c.args.number c.self.view_is c.self.invariant c.requires.file c.index-kept.result.now c.index-kept.ensures
+    ∙ functions_are c.self.inside.files c.args.self.now c.self.inside.kept.items c.args.number c.self.view_is c.self.invariant.kept_are c.requires.file c.index-kept.result.now c.index-kept.ensures

@@ -12,7 +12,7 @@ returns-in-Some c =
     let n = c.in-Some.number in
     let at = sym c.in-Some.ensures.number in
     let loads = ap (λ (k : KeptView). k.loads) c.kept.view_is
-    ∙ loads_are fs fs c.self.inside.kept.items n refl c.self.invariant (number_low fs q n at) c.index-kept.result.now c.index-kept.ensures in
+    ∙ loads_are fs fs c.self.inside.kept.items n refl c.self.invariant.kept_are (number_low fs q n at) c.index-kept.result.now c.index-kept.ensures in
     let is = read_present fs q n c.kept.inside.loads at loads ∙ ap (λ x. read_file x q) c.self.view_is in
     subst (λ x. IfOk c.as_read.result (λ r. r ≡ x)) is c.as_read.ensures
 
