@@ -1,5 +1,5 @@
--- The methods of `ctx.actions` (Bazel documentation, "actions"; what each takes and refuses is docs/PROFILE.md, "Calls of
--- implementations"). They read the heap, and what they declare is the work.
+-- The methods of `ctx.actions` (Bazel documentation, "actions"; what each takes and refuses is docs/PROFILE.md, "Calls for files
+-- and actions"). They read the heap, and what they declare is the work.
 use Rattle.std.specs.Prelude.{ℕ, Bool, true, false, not, ◌&&◌, ◌||◌, nat_le, nat_eq, List, [], ◌∷◌, ◌++◌, length, Option, Some, None, option_and_then, Result, Ok, Err, codes, bytes_eq, if◌then◌else◌}
 use Rattle.std.specs.List.{list_all}
 use Rattle.depsets.specs.Own.{Own}
@@ -64,7 +64,8 @@ declared l w name =
 abbrev pub declare_file : LabelParts → List Cell → Given → Work → Working
 declare_file l h g w = then_give (argument (codes "name") g) (λ v. of_type (string_in (shape h v)) (declared l w))
 
--- ---- an action more: an output that isn't declared is `place`, and one that stands there twice is `key`
+-- ---- an action more: an output that isn't among the declared Files is `place`, as each File is whose owner is another label;
+-- and one that stands there twice is `key`
 
 abbrev pub with_action : Work → Action → Work
 with_action w a = record w { actions = w.actions ++ a ∷ [] }

@@ -18,7 +18,7 @@ use workspace::Label;
 ///
 /// # Errors
 ///
-/// The first of `arity`, `type`, `place` and `key`, as `docs/PROFILE.md` says of calls of implementations.
+/// The first of `arity`, `type`, `place` and `key`, as `docs/PROFILE.md` says of calls for files and actions.
 pub fn call_method(
     alloc: Global,
     label: &Label,
