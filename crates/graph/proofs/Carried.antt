@@ -22,7 +22,7 @@ use Rattle.graph.proofs.Rows.{from_test, to_test, named_in}
 
 -- ---- lists of numbers, and what they name
 
-map_same : {X : Type 0} (f g : ℕ → X) (ns : List ℕ) → ((n : ℕ) → has ns n ≡ true → f n ≡ g n) → map f ns ≡ map g ns
+pub map_same : {X : Type 0} (f g : ℕ → X) (ns : List ℕ) → ((n : ℕ) → has ns n ≡ true → f n ≡ g n) → map f ns ≡ map g ns
 map_same f g [] same = refl
 map_same f g (n ∷ ns) same =
     let here : f n ≡ g n = same n (has-head n ns) in
@@ -196,6 +196,7 @@ pub graph_of_labels : (needs : LabelParts → List LabelParts) (asked given : Li
 graph_of_labels needs asked given same numbers rows numbered whole origin edges new is_graph labels are =
     subst (λ ls. IsGraphOf needs ls (record { labels = labels; edges = edges })) same (record {
       nodes = all_reached same_label same_label-decides no_label needs asked numbers rows numbered whole origin edges.deps new is_graph labels are;
+      graph = is_graph;
       size = same_size same_label same_label-decides no_label needs asked numbers rows numbered whole origin edges.deps new is_graph labels are;
       deps = names same_label same_label-decides no_label needs asked numbers rows numbered whole origin edges.deps new is_graph labels are;
       cyclic = cyclic_named same_label same_label-decides no_label needs asked numbers rows numbered whole origin edges.deps new is_graph labels are;

@@ -1,3 +1,4 @@
 pub mod Growth
 pub mod Rows
 pub mod Carried
+pub mod Outcomes

@@ -7,6 +7,7 @@
 
 mod dependencies;
 mod graph;
+pub mod laws;
 mod node;
 mod numbers;
 mod reached;
