@@ -99,7 +99,10 @@ pub(crate) fn load<L: Link, W>(
     ensures { Says (of_state (load (L.linked linked.now) file from.now name.now) whole.now) result
         whole.now }
 {
-    shared(linked.asked(file, from, name))
+    match linked.asked(file, from, name) {
+        Ok(value) => shared(value),
+        Err(_) => Err(Broken::NoMemory),
+    }
 }
 
 /// The function that a `def` makes, with the values of its defaults, of which the first is at the top. A number that is

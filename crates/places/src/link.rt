@@ -1,9 +1,10 @@
 //! The files that are linked with the one that is evaluated.
-ghost use Rattle.std.specs.Prelude.{◌≡◌};
+ghost use Rattle.std.specs.Prelude.{◌≡◌, IfOk};
 ghost use Rattle.values.specs.Seeing.{option_value};
 ghost use Rattle.operations.specs.Names.{Linked};
 
 use plain::Text;
+use std::alloc::AllocError;
 use values::{Item, Value};
 
 /// What is known of the files that are linked. Files and functions are numbers; a number that no file has is none.
@@ -20,6 +21,11 @@ pub trait Link {
             (record { «module» = file; number = number }) };
 
     /// What a load of a file asks for, by the text of the label and the name.
-    fn asked(&self, file: usize, label: &Text, name: &Text) -> Option<Item<'_>>
-        ensures { option_value result ≡ (linked self.now).asked file label.now name.now };
+    ///
+    /// # Errors
+    ///
+    /// `AllocError` where memory for the path that the label spells was refused.
+    fn asked(&self, file: usize, label: &Text, name: &Text) -> Result<Option<Item<'_>>, AllocError>
+        ensures { IfOk result
+            (λ v. option_value v ≡ (linked self.now).asked file label.now name.now) };
 }

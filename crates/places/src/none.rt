@@ -6,7 +6,7 @@ use crate::{Link, Place};
 use language::Whole;
 use operations::Arguments;
 use plain::Text;
-use std::alloc::Global;
+use std::alloc::{AllocError, Global};
 use values::{Broken, Item, Kind, Leaf, Value};
 
 /// No files are linked: no name is known, and no load gives anything.
@@ -24,8 +24,13 @@ impl Link for NoFiles {
         &[]
     }
 
-    fn asked(&self, _file: usize, _label: &Text, _name: &Text) -> Option<Item<'_>> {
-        None
+    fn asked(
+        &self,
+        _file: usize,
+        _label: &Text,
+        _name: &Text,
+    ) -> Result<Option<Item<'_>>, AllocError> {
+        Ok(None)
     }
 }
 
