@@ -122,6 +122,13 @@ impl Label {
         }
     }
 
+    /// Says that package and name are those of a legal label, as they are of every label. It does nothing.
+    pub fn legal(&self)
+        ensures { is_label self.now ≡ true }
+    {
+        let _ = &self.text;
+    }
+
     /// Its package, empty for the root package.
     pub fn package(&self) -> &str
         ensures { result.now ≡ self.now.«package» }
