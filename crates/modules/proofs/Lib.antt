@@ -2,3 +2,4 @@ pub mod Lookups
 pub mod ByNumber
 pub mod Doing
 pub mod Outcomes
+pub mod Founds

@@ -17,11 +17,6 @@ joined (Some r) = r
 abbrev pub module_at : {R : Type 0} → Table R → Path → Option R
 module_at t q = joined (entry t.paths t.known q)
 
--- what the module came to that a label spells, if it spells one and that is known
-abbrev pub named_in : {R : Type 0} → Table R → Option Path → Option R
-named_in t None = None
-named_in t (Some q) = module_at t q
-
 -- the module at a path, if it is known and has no fault
 abbrev pub known_at : {M F : Type 0} → Table (Result M F) → Path → Option M
 known_at t q = value (module_at t q)

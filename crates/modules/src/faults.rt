@@ -1,10 +1,10 @@
 //! Why a load statement fails.
 ghost use Rattle.std.specs.Prelude.{◌≡◌, None, Some, IfOk, MatchOption};
 ghost use Rattle.loading.specs.Loads.{is_private, names_fault, module_fault, loads_fault};
-ghost use Rattle.modules.specs.Tables.{module_at, named_in};
+ghost use Rattle.modules.specs.Found.{found_seen, without_fault, named_by};
 
 use crate::evaluate::Evaluate;
-use crate::known::Known;
+use crate::found::{Find, Found};
 use loading::{LoadFaultKind, LoadStatement, Placed};
 use plain::Text;
 use std::alloc::AllocError;
@@ -56,50 +56,46 @@ fn names_fault<T, M, S: Drop, K: Drop, E: Evaluate<T, M, S, K>>(
     Ok(None)
 }
 
-/// What the module came to that a statement names, if there is one.
-fn loaded<'k, M, S, K>(
-    known: &'k Known<'_, M, S, K>,
-    load: &LoadStatement,
-) -> Option<&'k Result<M, Placed<LoadFaultKind<S, K>>>>
-    ensures { MatchOption result (named_in known.now load.now.target ≡ None)
-        (λ r. named_in known.now load.now.target ≡ Some r.now) }
+/// What is found where a statement's label leads.
+fn named<'f, M, S, K, F: Find<M, S, K>>(modules: &'f F, load: &LoadStatement) -> Found<'f, M>
+    ensures { found_seen result ≡ without_fault (named_by (F.at modules.now) load.now.target) }
 {
     match load.target() {
-        Some(path) => known.module_at(path),
-        None => None,
+        Some(path) => modules.found(path),
+        None => Found::Missing,
     }
 }
 
 /// The fault of a load statement.
-fn load_fault<T, M, S: Drop, K: Drop, E: Evaluate<T, M, S, K>>(
+fn load_fault<T, M, S: Drop, K: Drop, E: Evaluate<T, M, S, K>, F: Find<M, S, K>>(
     evaluator: &E,
-    known: &Known<'_, M, S, K>,
+    modules: &F,
     path: &Text,
     load: &LoadStatement,
 ) -> Result<Option<Placed<LoadFaultKind<S, K>>>, AllocError>
     ensures { let globals = (E.meaning evaluator.now).globals in
-        let at = named_in known.now load.now.target in
+        let at = named_by (F.at modules.now) load.now.target in
         IfOk result (λ f. f ≡ module_fault globals path.now load.now at) }
 {
-    match loaded(known, load) {
-        None => Ok(Some(fault(LoadFaultKind::MissingFile, path, load.line())?)),
-        Some(Err(_)) => Ok(Some(fault(LoadFaultKind::LoadedModuleFailed, path, load.line())?)),
-        Some(Ok(value)) => names_fault(evaluator, path, load.line(), load.asked(), value),
+    match named::<M, S, K, F>(modules, load) {
+        Found::Missing => Ok(Some(fault(LoadFaultKind::MissingFile, path, load.line())?)),
+        Found::Failed => Ok(Some(fault(LoadFaultKind::LoadedModuleFailed, path, load.line())?)),
+        Found::Module(value) => names_fault(evaluator, path, load.line(), load.asked(), value),
     }
 }
 
 /// The fault of the first load statement that has one.
-pub(crate) fn loads_fault<T, M, S: Drop, K: Drop, E: Evaluate<T, M, S, K>>(
+pub(crate) fn loads_fault<T, M, S: Drop, K: Drop, E: Evaluate<T, M, S, K>, F: Find<M, S, K>>(
     evaluator: &E,
-    known: &Known<'_, M, S, K>,
+    modules: &F,
     path: &Text,
     loads: &[LoadStatement],
 ) -> Result<Option<Placed<LoadFaultKind<S, K>>>, AllocError>
     ensures { let globals = (E.meaning evaluator.now).globals in
-        IfOk result (λ f. f ≡ loads_fault globals path.now (module_at known.now) loads.now) }
+        IfOk result (λ f. f ≡ loads_fault globals path.now (F.at modules.now) loads.now) }
 {
     for load in loads {
-        if let Some(fault) = load_fault(evaluator, known, path, load)? {
+        if let Some(fault) = load_fault(evaluator, modules, path, load)? {
             return Ok(Some(fault));
         }
     }

@@ -3,6 +3,7 @@
 
 mod evaluate;
 mod faults;
+mod found;
 mod known;
 pub mod laws;
 mod load;

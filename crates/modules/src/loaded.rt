@@ -1,14 +1,19 @@
 //! Loading a workspace.
 ghost use Rattle.std.specs.Prelude.{◌≡◌, None, Some, IfOk, MatchOption};
 ghost use Rattle.std.specs.List.Sorted.{IsPermutation};
+ghost use Rattle.loading.specs.Loads.{loads_fault};
+ghost use Rattle.loading.specs.Modules.{Sources, any_module};
 ghost use Rattle.load_graph.specs.Paths.{ArePaths, module_paths};
 ghost use Rattle.modules.specs.Evaluation.{sources};
 ghost use Rattle.modules.specs.Modules.{module_in, modules_of};
 
 use crate::evaluate::Evaluate;
+use crate::faults::loads_fault;
+use crate::found::{Find, Found};
 use crate::load::{links, load_each, read_all};
 use crate::sorting::{FileFault, sorted_out};
 use load_graph::{Paths, Plan};
+use loading::{LoadFaultKind, LoadStatement, Placed};
 use plain::Text;
 use std::alloc::{AllocError, Global};
 use std::marker::Model;
@@ -33,6 +38,22 @@ impl<M, S, K> Model for Modules<M, S, K> {
     ghost invariant = { λ m. length m.values.items ≡ length m.paths };
 }
 
+impl<M, S, K> Find<M, S, K> for Modules<M, S, K> {
+    ghost use Rattle.modules.specs.Found.{found_in};
+
+    ghost at = { found_in };
+
+    fn found(&self, path: &Text) -> Found<'_, M> {
+        match self.paths.find(path) {
+            Some(n) => match &self.values[n.number()] {
+                Some(value) => Found::Module(value),
+                None => Found::Failed,
+            },
+            None => Found::Missing,
+        }
+    }
+}
+
 impl<M, S, K> Modules<M, S, K> {
     /// The module at a path: none where it has a fault, or no module is there.
     pub fn module(&self, path: &Text) -> Option<&M>
@@ -43,6 +64,27 @@ impl<M, S, K> Modules<M, S, K> {
             Some(n) => self.values[n.number()].as_ref(),
             None => None,
         }
+    }
+
+    /// The fault of the first of these load statements that has one, in a file that no module loads.
+    ///
+    /// # Errors
+    ///
+    /// `AllocError` where memory was refused.
+    pub fn load_fault<T, E: Evaluate<T, M, S, K>>(
+        &self,
+        evaluator: &E,
+        path: &Text,
+        loads: &[LoadStatement],
+    ) -> Result<Option<Placed<LoadFaultKind<S, K>>>, AllocError>
+    where
+        S: Drop,
+        K: Drop,
+        ensures { (w : Sources T M S K) → self.now ≡ modules_of w
+            → w.globals ≡ (E.meaning evaluator.now).globals
+            → IfOk result (λ f. f ≡ loads_fault w.globals path.now (any_module w) loads.now) }
+    {
+        loads_fault(evaluator, self, path, loads)
     }
 
     /// The modules that have a fault, in ascending order of their paths.
