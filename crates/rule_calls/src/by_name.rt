@@ -1,5 +1,5 @@
 //! The targets of a package.
-ghost use Rattle.std.specs.Prelude.{◌≡◌, ◌++◌, ◌∷◌, [], true, false, OnOk, OnErr, option_copied};
+ghost use Rattle.std.specs.Prelude.{◌≡◌, ◌<◌, ◌++◌, ◌∷◌, [], true, false, None, Some, length, slice_get, MatchOption, OnOk, OnErr, option_copied};
 ghost use Rattle.targets.specs.RuleCalls.{has_declared};
 ghost use Rattle.targets.specs.Resolving.{target_with};
 ghost use Rattle.rule_calls.specs.Packages.{are_named};
@@ -30,10 +30,11 @@ impl Model for PackageTargets {
     ghost invariant = { λ d. are_named d.«package» d.by_name.entries ≡ true };
 }
 
-/// A name, by which a target is found.
+/// A name, by which what has it is found in a table by text.
 #[derive(Clone, Copy)]
-struct Name<'a> {
-    text: &'a str,
+pub struct Name<'a> {
+    /// Its bytes.
+    pub text: &'a str,
 }
 
 impl<'a> PartialEq for Name<'a> {
@@ -114,6 +115,37 @@ impl PackageTargets {
         } else {
             None
         }
+    }
+
+    /// The target of a label and its place among those that the package has declared, from 0, if it has declared it.
+    pub fn find(&self, label: &Label) -> Option<(usize, &Target)>
+        ensures { MatchOption result (target_with label.now self.now.targets ≡ None)
+            (λ r. (target_with label.now self.now.targets ≡ Some r.1.now)
+            × (slice_get self.now.targets r.0 ≡ Some r.1.now)) }
+    {
+        if label.package() == self.package.as_str() {
+            match self.by_name.get_full(Name { text: label.name() }) {
+                Some((place, _, target)) => Some((place, target)),
+                None => None,
+            }
+        } else {
+            None
+        }
+    }
+
+    /// How many targets the package has declared.
+    pub fn len(&self) -> usize
+        ensures { result ≡ length self.now.targets }
+    {
+        self.by_name.len()
+    }
+
+    /// The target at a place.
+    pub fn target(&self, place: usize) -> &Target
+        requires { place < length self.now.targets }
+        ensures { slice_get self.now.targets place ≡ Some result.now }
+    {
+        &self.by_name[place]
     }
 
     /// Whether the package has declared a label.

@@ -16,5 +16,5 @@ mod reading;
 mod repeats;
 mod typing;
 
-pub use by_name::PackageTargets;
+pub use by_name::{Name, PackageTargets};
 pub use calling::{call_rule, declare_target};
