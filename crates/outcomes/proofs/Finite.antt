@@ -10,7 +10,7 @@ use Rattle.targets.specs.Resolving.{Named, target, source_file, failed_package, 
 use Rattle.targets.specs.declared.target.Target.{Target}
 use Rattle.targets.proofs.Facts.{cases_of, none_in, in_split, or_left, or_right, same_label-own}
 use Rattle.targets.proofs.NamedTargets.{is_named}
-use Rattle.outcomes.specs.Workspaces.{Workspace, IsSound, declared_in, declared, dependencies}
+use Rattle.outcomes.specs.Workspaces.{Workspace, AllAreListed, declared_in, declared, dependencies}
 
 -- some list of a flat_map has one that passes
 any_within : {A B : Type 0} (p : B → Bool) (f : A → List B) (q : A → Bool) → ((x : A) → q x ≡ true → list_any p (f x) ≡ true) → (xs : List A) → list_any q xs ≡ true → list_any p (flat_map f xs) ≡ true
@@ -28,7 +28,7 @@ declared_there (u ∷ us) t c = elim (in_split u us t c) [
   | inr later ↦ or_right (same_label t.label u.label) (list_any (same_label t.label) (map (λ v. v.label) us)) (declared_there us t later)
 ]
 
-module _ (w : Workspace) (sound : IsSound w) where
+module _ (w : Workspace) (listed : AllAreListed w) where
   of_target : (l : LabelParts) (t : Target) → named w.paths w.package_at l ≡ target t → list_any (same_label l) (declared w) ≡ true
   of_target l t is =
       let n = is_named w.paths w.package_at l t is in
@@ -36,7 +36,7 @@ module _ (w : Workspace) (sound : IsSound w) where
       any_within (same_label l) (λ p. declared_in (w.package_at p)) (bytes_eq l.«package»)
       (λ p same. subst (λ q. list_any (same_label l) (declared_in q) ≡ true) (sym n.declared.1 ∙ ap w.package_at ((bytes_eq-Decides l.«package» p).0 same))
       (subst (λ (m : LabelParts). list_any (same_label m) (map (λ u. u.label) ts) ≡ true) n.its (declared_there ts t n.declared.2)))
-      w.packages (sound.listed l.«package» ts n.declared.1)
+      w.packages (listed l.«package» ts n.declared.1)
 
   -- what has dependencies is a declared target
   pub finite : (l d : LabelParts) → Contains (dependencies w l) d → list_any (same_label l) (declared w) ≡ true

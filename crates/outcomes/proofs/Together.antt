@@ -18,7 +18,7 @@ use Rattle.targets.specs.declared.outcome.Outcome.{Outcome}
 use Rattle.targets.specs.declared.target.Target.{Target}
 use Rattle.targets.proofs.Facts.{head_in, tail_in, same_label-decides}
 use Rattle.outcomes.specs.Found.{id_of, owner_of, has_depset, gave, IsMadeBy}
-use Rattle.outcomes.specs.Workspaces.{Workspace, IsSound, ImplementsWell, IfGiven, handed, dependencies, declared, cycle_of, step_of, outcome_of, graph}
+use Rattle.outcomes.specs.Workspaces.{Workspace, AllAreListed, IsSound, ImplementsWell, IfGiven, handed, dependencies, declared, cycle_of, step_of, outcome_of, graph}
 use Rattle.outcomes.proofs.Finite.{finite}
 use Rattle.outcomes.proofs.Kept.{IfMade, IfCalled, step_kept}
 use Rattle.outcomes.proofs.Kept as kept
@@ -52,10 +52,11 @@ made_same o S T r to from m = record {
     back d (inl g) = inl (from d g)
     back d (inr i) = inr i
 
-module _ (w : Workspace) (sound : IsSound w) where
-  pub are_outcomes : AreOutcomes (dependencies w) (cycle_of w) (step_of w) (outcome_of w)
-  are_outcomes = outcome_keeps (dependencies w) same_label same_label-decides (declared w) (length (declared w)) (omega arith) (finite w sound) (cycle_of w) (step_of w)
+pub are_outcomes : (w : Workspace) → AllAreListed w → AreOutcomes (dependencies w) (cycle_of w) (step_of w) (outcome_of w)
+are_outcomes w listed =
+    outcome_keeps (dependencies w) same_label same_label-decides (declared w) (length (declared w)) (omega arith) (finite w listed) (cycle_of w) (step_of w)
 
+module _ (w : Workspace) (sound : IsSound w) where
   module _ (well : ImplementsWell w) where
     abbrev out : LabelParts → Outcome
     out = outcome_of w
@@ -109,7 +110,7 @@ module _ (w : Workspace) (sound : IsSound w) where
     illegal_bare : (t : LabelParts) → is_label t ≡ false → (Cyclic (dependencies w) t → ⊥) → (d : Set) → has_depset (out t) d → ⊥
     illegal_bare t not apart d i =
         let r : named w.paths w.package_at t ≡ nothing = at (is_label t) not in
-        let o = are_outcomes.stepped t apart ∙ ap (λ q. step w.implement t q (map out (dependencies w t))) r in
+        let o = (are_outcomes w sound.listed).stepped t apart ∙ ap (λ q. step w.implement t q (map out (dependencies w t))) r in
         subst (λ q. has_depset q d) o i
       where
         at : (b : _) → b ≡ false → ◌≡◌ {A = Named} (elim b [ true ↦ named_in w.paths w.package_at t (w.package_at t.«package») | false ↦ nothing ]) nothing
@@ -117,7 +118,7 @@ module _ (w : Workspace) (sound : IsSound w) where
         at false e = refl
 
     other : (t : LabelParts) → (Cyclic (dependencies w) t → ⊥) → (b : Bool) → is_label t ≡ b → ((is_label t ≡ true) × Keeps (graph w) t) ⊎ ((d : Set) → has_depset (out t) d → ⊥)
-    other t not true legal = inl (legal, λ a f. is_kept t a f (are_outcomes.stepped t not))
+    other t not true legal = inl (legal, λ a f. is_kept t a f ((are_outcomes w sound.listed).stepped t not))
     other t not false illegal = inr (λ d i. illegal_bare t illegal not d i)
 
     each : EachKeeps (graph w)
@@ -125,12 +126,12 @@ module _ (w : Workspace) (sound : IsSound w) where
       names = texts_apart;
       base_coherent = sound.coherent;
       base_apart = sound.apart;
-      cyclic = λ t c d i. subst (λ q. has_depset q d) (are_outcomes.cyclic t c) i;
+      cyclic = λ t c d i. subst (λ q. has_depset q d) ((are_outcomes w sound.listed).cyclic t c) i;
       others = λ t not. other t not (is_label t) refl;
     }
 
     pub outcomes_together : AllCoherent (graph w)
-    outcomes_together = all_together (graph w) each same_label same_label-decides (declared w) (finite w sound)
+    outcomes_together = all_together (graph w) each same_label same_label-decides (declared w) (finite w sound.listed)
 
     pub outcomes_fit : (t : LabelParts) → is_label t ≡ true → Fits (graph w) t (map out (dependencies w t))
     outcomes_fit = handed_fits (graph w) outcomes_together

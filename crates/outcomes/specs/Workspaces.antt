@@ -86,8 +86,12 @@ module _ (w : Workspace) where
       (l : LabelParts) (t : Target) (ds : List Dependency) → AreCoherent id_of owner_of (handed ds) → AreFresh id_of owner_of (label_text l) (handed ds)
       → IfGiven (label_text l) (handed ds) (w.implement l t ds)
 
-  -- The packages are all that declare targets; the modules' depsets are coherent, and no label owns one: a module owns by its path.
+  -- the packages are all that declare targets
+  abbrev pub AllAreListed : Type 0
+  AllAreListed = (p : List ℕ) (ts : List Target) → w.package_at p ≡ declaring ts → list_any (bytes_eq p) w.packages ≡ true
+
+  -- so they are; the modules' depsets are coherent, and no label owns one: a module owns by its path
   pub record IsSound : Type 0 where
-    pub listed : (p : List ℕ) (ts : List Target) → w.package_at p ≡ declaring ts → list_any (bytes_eq p) w.packages ≡ true
+    pub listed : AllAreListed
     pub coherent : AreCoherent id_of owner_of of_modules
     pub apart : (l : LabelParts) → is_label l ≡ true → AreFresh id_of owner_of (label_text l) of_modules
