@@ -1,0 +1,3 @@
+pub mod Given
+pub mod Ran
+pub mod Target

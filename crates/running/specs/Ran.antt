@@ -1,0 +1,23 @@
+-- What a run came to, with its faults placed by path.
+use Rattle.std.specs.Prelude.{List, Result, Ok, Err}
+use Rattle.meaning.specs.Outcome.{Fault, Final}
+use Rattle.values.specs.declared.ticks.Kind.{Kind}
+use Rattle.values.specs.declared.value.Value.{Value}
+use Rattle.language.specs.declared.whole.Whole.{Whole}
+use Rattle.loading.specs.Loads.{Path}
+use Rattle.loading.specs.declared.faults.Placed.{Placed}
+use Rattle.evaluation.specs.Worlds.{path_at}
+
+-- a fault stands in a file, by its path
+abbrev pub by_path : List Path → Fault Kind → Placed Kind
+by_path paths f = record { kind = f.kind; path = path_at paths f.file; line = f.line }
+
+-- a value with the state after it, or a fault
+abbrev pub ran : {W : Type 0} → List Path → Final (Whole W) Value Kind → Result (Value × Whole W) (Placed Kind)
+ran paths (Ok r) = Ok r
+ran paths (Err f) = Err (by_path paths f)
+
+-- of a top level its value isn't used
+abbrev pub top_ran : {W : Type 0} → List Path → Final (Whole W) Value Kind → Result (Whole W) (Placed Kind)
+top_ran paths (Ok r) = Ok r.1
+top_ran paths (Err f) = Err (by_path paths f)

@@ -1,0 +1,32 @@
+//! The end of a module's run.
+ghost use Rattle.std.specs.Prelude.{◌≡◌, IfOk};
+ghost use Rattle.evaluation.specs.Runs.{module_ended};
+
+use crate::setting::TopFile;
+use endings::end_module;
+use evaluation::{Made, Module};
+use loading::Ending;
+use operations::State;
+use std::alloc::{AllocError, Global};
+use values::Kind;
+
+/// What the module of a file comes to whose top level ended in this state, and that made this: what it hands on, once it is
+/// frozen and named. (No run changes the number of its file; it is set here, so that nothing rests on that.)
+///
+/// # Errors
+///
+/// `AllocError` where memory was refused.
+pub fn end_run(
+    alloc: Global,
+    file: &TopFile<'_>,
+    state: State,
+    made: Made,
+) -> Result<Result<Module, Ending<Kind>>, AllocError>
+    ensures { IfOk result (λ r. r ≡ module_ended file.now.path.now file.now.number
+        file.now.names.now state made) }
+{
+    let names = file.names.share()?;
+    let mut state = state;
+    state.file = file.number;
+    end_module(alloc, file.path, names, state, made)
+}

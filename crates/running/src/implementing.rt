@@ -1,0 +1,96 @@
+//! Calls of implementations.
+ghost use Rattle.std.specs.Prelude.{◌≡◌, Ok, Err, IfOk, MatchResult, length};
+ghost use Rattle.meaning.specs.Functions.{Files};
+ghost use Rattle.meaning.specs.Calls.{function_meaning};
+ghost use Rattle.meaning.specs.StatementCode.{code_of};
+ghost use Rattle.language.specs.Language.{language, function_id};
+ghost use Rattle.machine.specs.LinkedView.{codes_of};
+ghost use Rattle.machine.specs.CallView.{arguments_seen};
+ghost use Rattle.frames.specs.Answers.{id_seen};
+ghost use Rattle.evaluation.specs.Runs.{state_of_target};
+ghost use Rattle.running.specs.Ran.{ran};
+ghost use Rattle.running.specs.Target.{context_alone};
+
+use crate::beginning::first_of_target;
+use crate::setting::Setting;
+use crate::top::run;
+use frames::{FunctionId, Stack};
+use language::Whole;
+use loading::Placed;
+use machine::{Arguments, Start};
+use places::{Link, Place};
+use std::alloc::{AllocError, Global};
+use values::{Kind, Leaf, MadeId, Object, Value};
+use workspace::Label;
+
+/// A function's number among all.
+fn function_id(id: MadeId) -> FunctionId
+    ensures { id_seen result ≡ function_id id }
+{
+    FunctionId {
+        file: id.module as usize,
+        number: id.number as usize,
+    }
+}
+
+/// `ctx` alone.
+fn with_context(alloc: Global) -> Result<Arguments<'static>, AllocError>
+    ensures { IfOk result (λ a. arguments_seen a ≡ context_alone) }
+{
+    let mut items = Stack::new(alloc);
+    items.push(Value::Leaf(Leaf::Object(Object::Context)))?;
+    Ok(Arguments {
+        items,
+        names: &[],
+        named: Stack::new(alloc),
+    })
+}
+
+/// Calls a function with `ctx` alone, at the line of its `def`.
+fn call<L: Link, P: Place>(
+    setting: &Setting<'_, L, P>,
+    id: MadeId,
+    whole: &mut Whole<P::Work>,
+) -> Result<Result<Value, Placed<Kind>>, AllocError>
+    ensures { (files : Files) → codes_of setting.now.codes.now ≡ code_of files
+        → (let meant = ran setting.now.paths.now (function_meaning
+        (language (L.linked setting.now.linked.now) (P.place setting.now.place.now)) files
+        (function_id id) context_alone whole.old) in
+        IfOk result (λ r. MatchResult r (λ v. meant ≡ Ok (v, whole.new)) (λ p. meant ≡ Err p))) }
+{
+    let arguments = with_context(setting.alloc)?;
+    run(setting, Start::Function(function_id(id), arguments), whole)
+}
+
+/// Calls the function that implements a target's rule, with `ctx` alone, from the beginning of the target: the value that it
+/// returned and the state after it, with the work of its place, or its fault. A fault of the call itself stands at the `def`.
+///
+/// # Errors
+///
+/// `AllocError` where memory was refused.
+pub fn call_implementation<L: Link, P: Place>(
+    setting: &Setting<'_, L, P>,
+    label: &Label,
+    id: MadeId,
+    work: P::Work,
+) -> Result<Result<(Value, Box<Whole<P::Work>>), Placed<Kind>>, AllocError>
+where
+    P::Work: Drop,
+    ensures { (files : Files) → codes_of setting.now.codes.now ≡ code_of files
+        → (let meant = ran setting.now.paths.now (function_meaning
+        (language (L.linked setting.now.linked.now) (P.place setting.now.place.now)) files
+        (function_id id) context_alone
+        (record {
+          state = state_of_target setting.now.limit label.now
+              (length setting.now.paths.now);
+          work = work;
+        })) in
+        IfOk result (λ r. MatchResult r (λ c. meant ≡ Ok (c.0, c.1.value))
+        (λ p. meant ≡ Err p))) }
+{
+    let mut whole = first_of_target(setting, label, work)?;
+    match call(setting, id, &mut whole)? {
+        Ok(value) => Ok(Ok((value, whole))),
+        Err(placed) => Ok(Err(placed)),
+    }
+}

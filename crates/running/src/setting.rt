@@ -1,0 +1,34 @@
+//! What runs.
+
+use evaluation::TopNames;
+use language_calls::DefaultInfo;
+use machine::Linked;
+use plain::{Shared, Text};
+use std::alloc::Global;
+
+/// What a run stands in.
+#[derive(Drop)]
+pub struct Setting<'a, L, P> {
+    pub alloc: Global,
+    /// What is known of the linked files.
+    pub linked: &'a L,
+    pub place: &'a P,
+    pub default_info: &'a DefaultInfo,
+    /// The codes of all files, by number.
+    pub codes: &'a Linked,
+    /// Their paths, by number.
+    pub paths: &'a [Text],
+    /// How many ticks a run has.
+    pub limit: u64,
+}
+
+/// A file whose top level is run.
+#[derive(Drop)]
+pub struct TopFile<'a> {
+    pub path: &'a Text,
+    pub number: u32,
+    /// The names that its top level binds.
+    pub names: &'a Shared<TopNames>,
+    /// How many functions it has; its top level is one of them.
+    pub functions: usize,
+}

@@ -1,0 +1,103 @@
+//! Runs, and what they come to.
+ghost use Rattle.std.specs.Prelude.{◌≡◌, Ok, Err, IfOk, MatchResult, slice_index_or, []};
+ghost use Rattle.meaning.specs.Functions.{Files};
+ghost use Rattle.meaning.specs.Calls.{top_meaning};
+ghost use Rattle.meaning.specs.StatementCode.{code_of};
+ghost use Rattle.frames.specs.Seen.{fault_seen};
+ghost use Rattle.language.specs.Language.{language};
+ghost use Rattle.machine.specs.LinkedView.{codes_of};
+ghost use Rattle.machine.specs.StartView.{meaning_of};
+ghost use Rattle.evaluation.specs.Worlds.{path_at};
+ghost use Rattle.evaluation.specs.Runs.{program_at, state_of_file};
+ghost use Rattle.running.specs.Given.{AreOf};
+ghost use Rattle.running.specs.Ran.{by_path, ran, top_ran};
+
+use crate::beginning::first_of_file;
+use crate::setting::{Setting, TopFile};
+use evaluator::World;
+use frames::{Fault, Stop};
+use language::Whole;
+use loading::Placed;
+use machine::{Start, execute};
+use places::{Link, Place};
+use plain::Text;
+use std::alloc::{AllocError, Global};
+use values::{Kind, Value};
+
+/// The path of the file of a number; a number that no file has stands for the empty text.
+fn path_at(alloc: Global, paths: &[Text], file: usize) -> Result<Text, AllocError>
+    ensures { IfOk result (λ t. t ≡ path_at paths.now file) }
+{
+    match paths.get(file) {
+        Some(path) => path.share(),
+        None => Text::new(alloc, ""),
+    }
+}
+
+/// A fault in a file, by the file's path.
+fn by_path(alloc: Global, paths: &[Text], fault: Fault) -> Result<Placed<Kind>, AllocError>
+    ensures { IfOk result (λ p. p ≡ by_path paths.now (fault_seen fault)) }
+{
+    let Fault { kind, file, line } = fault;
+    Ok(Placed {
+        kind,
+        path: path_at(alloc, paths, file)?,
+        line: line as u64,
+    })
+}
+
+/// Runs what starts there, in a state.
+pub(crate) fn run<L: Link, P: Place>(
+    setting: &Setting<'_, L, P>,
+    start: Start<'_>,
+    whole: &mut Whole<P::Work>,
+) -> Result<Result<Value, Placed<Kind>>, AllocError>
+    ensures { (files : Files) → codes_of setting.now.codes.now ≡ code_of files
+        → (let meant = ran setting.now.paths.now (meaning_of
+        (language (L.linked setting.now.linked.now) (P.place setting.now.place.now)) files
+        start.entry whole.old) in
+        IfOk result (λ r. MatchResult r (λ v. meant ≡ Ok (v, whole.new)) (λ p. meant ≡ Err p))) }
+{
+    let world = World {
+        alloc: setting.alloc,
+        linked: setting.linked,
+        place: setting.place,
+        default_info: setting.default_info,
+    };
+    match execute(&world, setting.codes, start, whole) {
+        Ok(value) => Ok(Ok(value)),
+        Err(Stop::Fault(fault)) => Ok(Err(by_path(setting.alloc, setting.paths, fault)?)),
+        Err(Stop::NoMemory) => Err(AllocError),
+    }
+}
+
+/// Runs the top level of a file, from its beginning: the state after it, with the work of its place, or its fault.
+///
+/// # Errors
+///
+/// `AllocError` where memory was refused.
+pub fn run_top<L: Link, P: Place>(
+    setting: &Setting<'_, L, P>,
+    file: &TopFile<'_>,
+    work: P::Work,
+) -> Result<Result<Box<Whole<P::Work>>, Placed<Kind>>, AllocError>
+where
+    P::Work: Drop,
+    ensures { (files : Files) → codes_of setting.now.codes.now ≡ code_of files
+        → AreOf files file.now.number file.now.names.now file.now.functions
+        → (let meant = top_ran setting.now.paths.now (top_meaning
+        (language (L.linked setting.now.linked.now) (P.place setting.now.place.now)) files
+        file.now.number
+        (record {
+          state = state_of_file setting.now.limit file.now.path.now file.now.number
+              (program_at files file.now.number);
+          work = work;
+        })) in
+        IfOk result (λ r. MatchResult r (λ b. meant ≡ Ok b.value) (λ p. meant ≡ Err p))) }
+{
+    let mut whole = first_of_file(setting, file, work)?;
+    match run(setting, Start::TopLevel(file.number as usize), &mut whole)? {
+        Ok(_) => Ok(Ok(whole)),
+        Err(placed) => Ok(Err(placed)),
+    }
+}
