@@ -1,0 +1,4 @@
+pub mod Builds
+pub mod Kept
+pub mod Loading
+pub mod Tops

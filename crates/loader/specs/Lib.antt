@@ -1,0 +1,4 @@
+pub mod Places
+pub mod Files
+pub mod Loaded
+pub mod Tops

@@ -1,0 +1,29 @@
+-- The places of the evaluations of files, each with its work: what a module declares, and what a `BUILD` file declares. That of
+-- an implementation is `implementations`'.
+use Rattle.std.specs.Prelude.{List, []}
+use Rattle.workspace.specs.FileKinds.{package_of}
+use Rattle.loading.specs.Loads.{Path}
+use Rattle.declarations.specs.declared.table.Declarations.{Declarations}
+use Rattle.rule_calls.specs.Packages.{Declared}
+use Rattle.file_places.specs.ModulePlace.{module_place, made_of}
+use Rattle.file_places.specs.BuildPlace.{build_place}
+use Rattle.evaluation.specs.Runs.{OfModule, OfBuild}
+use Rattle.linking.specs.MadeBefore.{attribute_at, rule_of}
+
+-- ---- modules
+
+abbrev pub nothing_declared : Declarations
+nothing_declared = record { providers = 0; rules = []; attributes = [] }
+
+abbrev pub of_module : OfModule Declarations
+of_module = record { place = λ known. module_place (attribute_at known); first = nothing_declared; made = made_of }
+
+-- ---- BUILD files
+
+-- the package of a BUILD file, before it has declared anything
+abbrev pub no_targets : Path → Declared
+no_targets path = record { «package» = package_of path; targets = [] }
+
+-- in a workspace with files of these paths
+abbrev pub of_build : List Path → OfBuild Declared
+of_build paths = record { place = λ known path. build_place (rule_of paths known); first = no_targets; declared = λ d. d.targets }
