@@ -1,0 +1,3 @@
+pub mod After
+pub mod Lists
+pub mod Steps

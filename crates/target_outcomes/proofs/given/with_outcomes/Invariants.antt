@@ -1,0 +1,8 @@
+use Rattle.std.proofs.Common.{◌≡◌, ◌++◌, drop, map}
+use Rattle.targets.specs.Steps.{with_outcomes}
+use Rattle.analysis.specs.Seen.{dependencies_seen}
+use Rattle.target_outcomes.proofs.given.with_outcomes.Given as goal
+
+abbrev pub invariant-loop-place : goal.invariant-loop-place
+invariant-loop-place l =
+    dependencies_seen l.given.items ++ with_outcomes (drop l.place l.labels) (map (λ r. r.now) (drop l.place l.outcomes)) ≡ with_outcomes l.labels (map (λ r. r.now) l.outcomes)

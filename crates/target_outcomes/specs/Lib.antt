@@ -1,0 +1,2 @@
+pub mod Implementing
+pub mod Seen

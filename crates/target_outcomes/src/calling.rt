@@ -1,0 +1,101 @@
+//! Calls of implementations.
+ghost use Rattle.std.specs.Prelude.{◌≡◌, [], IfOk, length};
+ghost use Rattle.meaning.specs.Functions.{Files as Codes};
+ghost use Rattle.meaning.specs.Calls.{function_meaning};
+ghost use Rattle.meaning.specs.StatementCode.{code_of};
+ghost use Rattle.operations.specs.Instances.{default_info};
+ghost use Rattle.language.specs.Language.{language, function_id};
+ghost use Rattle.machine.specs.LinkedView.{codes_of};
+ghost use Rattle.analysis.specs.Seen.{dependencies_seen};
+ghost use Rattle.evaluation.specs.Runs.{state_of_target, target_after};
+ghost use Rattle.implementations.specs.Implementations.{implementation_place, target_world};
+ghost use Rattle.running.specs.Target.{context_alone};
+ghost use Rattle.target_outcomes.specs.Implementing.{implement};
+ghost use Rattle.target_outcomes.specs.Seen.{Implements};
+
+use crate::returning::{Implemented, returned};
+use analysis::Dependency;
+use contexts::Work;
+use evaluation::Module;
+use implementations::ImplementationPlace;
+use lexer::FaultKind;
+use linking::{Files, Loaded};
+use loader::LoadedFiles;
+use loading::Placed;
+use places::Link;
+use plain::Shared;
+use running::{Setting, call_implementation};
+use std::alloc::{AllocError, Global};
+use targets::Target;
+use values::{FunctionRef, Kind, Provider};
+use workspace::Label;
+
+/// Calls a function with `ctx` alone, in a place where nothing was done.
+fn call<L: Link>(
+    setting: &Setting<'_, L, ImplementationPlace<'_>>,
+    label: &Label,
+    function: &FunctionRef,
+) -> Result<Result<Implemented, Placed<Kind>>, AllocError>
+    ensures { let place = setting.now.place.now in
+        (files : Codes) → codes_of setting.now.codes.now ≡ code_of files
+        → IfOk result (Implements (target_after setting.now.limit files setting.now.paths.now
+        target_world function.now (function_meaning
+        (language (L.linked setting.now.linked.now)
+        (implementation_place place.label.now place.target.now place.dependencies)) files
+        (function_id function.now.id) context_alone
+        (record {
+          state = state_of_target setting.now.limit label.now
+              (length setting.now.paths.now);
+          work = record { files = []; actions = [] };
+        })))) }
+{
+    let work = Work::new(setting.alloc);
+    match call_implementation(setting, label, function.id, work)? {
+        Ok(called) => returned(
+            setting.alloc,
+            setting.codes,
+            setting.paths,
+            function,
+            called,
+        ),
+        Err(placed) => Ok(Err(placed)),
+    }
+}
+
+/// The call of the implementation of the rule of a label's target, with its dependencies: what it gave, or its fault.
+pub(crate) fn implement(
+    alloc: Global,
+    files: &LoadedFiles,
+    info: &Shared<Provider>,
+    label: &Label,
+    target: &Target,
+    dependencies: &[Dependency<'_>],
+) -> Result<Result<Implemented, Placed<Kind>>, AllocError>
+    requires { info.now ≡ default_info }
+    ensures { IfOk result (Implements (implement files.now.files files.now.limit label.now
+        target.now (dependencies_seen dependencies.now))) }
+{
+    modules::laws::modules_are_found_by_path::<usize, Module, FaultKind, Kind>();
+    let place = ImplementationPlace::new(alloc, label, target, dependencies, info)?;
+    let paths = files.paths();
+    let modules = files.modules();
+    let sources = files.sources();
+    let known = Loaded { modules };
+    let linked = Files {
+        alloc,
+        paths,
+        known: &known,
+    };
+    let setting = Setting {
+        alloc,
+        linked: &linked,
+        place: &place,
+        default_info: files.default_info(),
+        codes: sources.linked(),
+        paths,
+        limit: files.limit(),
+    };
+    let rule = target.rule.get();
+    let function = rule.implementation.get();
+    call(&setting, label, function)
+}

@@ -1,0 +1,38 @@
+//! Source files.
+ghost use Rattle.std.specs.Prelude.{◌≡◌, IfOk};
+ghost use Rattle.workspace.specs.Labels.{label_path, label_text};
+
+use depsets::FileRef;
+use plain::{Shared, Text};
+use std::alloc::{AllocError, Global};
+use targets::Outcome;
+use workspace::Label;
+
+/// The path of the file that a label names.
+fn path_of(alloc: Global, label: &Label) -> Result<Text, AllocError>
+    ensures { IfOk result (λ t. t ≡ label_path label.now) }
+{
+    if label.package().is_empty() {
+        return Text::new(alloc, label.name());
+    }
+    let package = label.package();
+    let name = label.name();
+    Text::from_string(format!(in alloc; "{package}/{name}")?)
+}
+
+/// The outcome of a label that names a source file: the File at its path, which the label owns.
+///
+/// # Errors
+///
+/// `AllocError` where memory was refused.
+pub fn source_outcome(alloc: Global, label: &Label) -> Result<Outcome, AllocError>
+    ensures { IfOk result (λ o. o ≡ Outcome.Source (record {
+      path = label_path label.now;
+      owner = label_text label.now;
+    })) }
+{
+    let path = path_of(alloc, label)?;
+    let owner = Text::new(alloc, label.text())?;
+    let file = Shared::new(alloc, FileRef { path, owner })?;
+    Ok(Outcome::Source(file))
+}
