@@ -1,0 +1,3 @@
+pub mod Tables
+pub mod Files
+pub mod Names

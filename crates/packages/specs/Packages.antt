@@ -1,0 +1,45 @@
+-- What the packages of a workspace have (Bazel documentation, "Packages"; that a package fails whole is this project's own).
+use Rattle.std.specs.Prelude.{◌≡◌, ◌&&◌, true, ℕ, List, [], ◌∷◌, map, Option, Some, None, Result, Ok, Err, bytes_eq}
+use Rattle.std.specs.List.{filter, list_any}
+use Rattle.lexer.specs.declared.fault.FaultKind.{FaultKind}
+use Rattle.values.specs.declared.ticks.Kind.{Kind}
+use Rattle.workspace.specs.FileKinds.{is_build_file, package_of}
+use Rattle.workspace.specs.Labels.{LabelParts}
+use Rattle.workspace.specs.Workspaces.{Pair, paths_of}
+use Rattle.loading.specs.Loads.{Path, LoadFault}
+use Rattle.targets.specs.Resolving.{Package, no_build_file, faulty, declaring, dependencies}
+use Rattle.targets.specs.declared.target.Target.{Target}
+use Rattle.loader.specs.Files.{build_at}
+
+-- what each of these targets depends on
+abbrev pub all_dependencies : List Target → List (List LabelParts)
+all_dependencies ts = map dependencies ts
+
+-- the first of these, if there is one
+abbrev pub first : {A : Type 0} → List A → Option A
+first [] = None
+first (a ∷ later) = Some a
+
+-- the BUILD file of a package, among files of these paths
+abbrev pub build_file_of : List Path → List ℕ → Option Path
+build_file_of paths p = first (filter (λ q. is_build_file q && bytes_eq p (package_of q)) paths)
+
+abbrev pub package_with : Result (List Target) (LoadFault FaultKind Kind) → Package
+package_with (Ok ts) = declaring ts
+package_with (Err f) = faulty
+
+-- the files of a workspace, in ascending order of their paths, and how many ticks each evaluation may use
+module _ (files : List Pair) (limit : ℕ) where
+  abbrev pub package_of_file : Option Path → Package
+  package_of_file None = no_build_file
+  package_of_file (Some path) = package_with (build_at files limit path)
+
+  abbrev pub package_at : List ℕ → Package
+  package_at p = package_of_file (build_file_of (paths_of files) p)
+
+  abbrev pub packages : List (List ℕ)
+  packages = map package_of (filter is_build_file (paths_of files))
+
+  -- what declares targets is a package of the workspace
+  abbrev pub AreListed : Type 0
+  AreListed = (p : List ℕ) (ts : List Target) → package_at p ≡ declaring ts → list_any (bytes_eq p) packages ≡ true

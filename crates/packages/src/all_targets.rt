@@ -1,0 +1,175 @@
+//! All targets of a workspace.
+ghost use Rattle.std.specs.Prelude.{◌≡◌, IfOk};
+ghost use Rattle.std.specs.List.{list_any};
+ghost use Rattle.std.specs.Str.{bytes_eq};
+ghost use Rattle.workspace.specs.Labels.{label_path};
+ghost use Rattle.workspace.specs.Workspaces.{paths_of};
+ghost use Rattle.targets.specs.Resolving.{named};
+ghost use Rattle.loader.specs.Files.{faults};
+ghost use Rattle.packages.specs.Packages.{package_at};
+ghost use Rattle.packages.specs.Seen.{AreItsOwn, HasDependencies, found_named, named_seen};
+
+use crate::building::{Declared, declare_all};
+use crate::kept::Package;
+use crate::resolved::Named;
+use graph::Dependencies;
+use indexmap::IndexMap;
+use lexer::FaultKind;
+use loader::LoadedFiles;
+use modules::FileFault;
+use plain::{Shared, Text};
+use rule_calls::Name;
+use std::alloc::{AllocError, Global};
+use std::marker::Model;
+use targets::Target;
+use values::Kind;
+use workspace::Label;
+
+/// A workspace whose `BUILD` files were evaluated, each once.
+#[derive(Drop)]
+pub struct Targets {
+    alloc: Global,
+    files: LoadedFiles,
+    packages: IndexMap<Text, Package>,
+    faults: Vec<FileFault<FaultKind, Kind>>,
+}
+
+impl Model for Targets {
+    ghost use Rattle.loader.specs.Loaded.{LoadedView};
+    ghost use Rattle.packages.specs.Kept.{AreAll};
+
+    ghost Value = { LoadedView };
+
+    ghost view = { λ t. t.files };
+
+    ghost invariant = { λ t.
+        AreAll t.files.files t.files.limit t.packages.entries t.faults.items };
+}
+
+/// What a label names, but that a source file isn't looked for.
+pub(crate) enum Declaration<'a> {
+    /// A declared target, with what it depends on.
+    Target(&'a Target, &'a [Shared<Label>]),
+    /// No target, in a package that declares others or none.
+    Undeclared,
+    /// The package's `BUILD` file failed.
+    FailedPackage,
+    /// The package has no `BUILD` file.
+    NoPackage,
+}
+
+/// The path of the file that a label names.
+fn path_of(alloc: Global, label: &Label) -> Result<Text, AllocError>
+    ensures { IfOk result (λ t. t ≡ label_path label.now) }
+{
+    if label.package().is_empty() {
+        Text::new(alloc, label.name())
+    } else {
+        Text::from_string(format!(in alloc; "{}/{}", label.package(), label.name())?)
+    }
+}
+
+/// Whether a workspace has a file of a label's path.
+fn is_file(alloc: Global, files: &LoadedFiles, label: &Label) -> Result<bool, AllocError>
+    ensures { let path = label_path label.now in
+        IfOk result (λ b. b ≡ list_any (bytes_eq path) (paths_of files.now.files)) }
+{
+    let path = path_of(alloc, label)?;
+    Ok(files.sources().number(&path).is_some())
+}
+
+impl Targets {
+    /// Evaluates each `BUILD` file of a workspace, in the order of their paths.
+    ///
+    /// # Errors
+    ///
+    /// `AllocError` where memory was refused.
+    pub fn declare(alloc: Global, files: LoadedFiles) -> Result<Targets, AllocError>
+        ensures { IfOk result (λ t. t ≡ files) }
+    {
+        let Declared { packages, faults } = declare_all(alloc, &files)?;
+        Ok(Targets {
+            alloc,
+            files,
+            packages,
+            faults,
+        })
+    }
+
+    /// The files, and the modules among them.
+    pub fn files(&self) -> &LoadedFiles
+        ensures { result.now ≡ self.now }
+    {
+        &self.files
+    }
+
+    /// The files that fail, and why: modules and `BUILD` files, in ascending order of their paths.
+    pub fn faults(&self) -> &[FileFault<FaultKind, Kind>]
+        ensures { result.now ≡ faults self.now.files self.now.limit }
+    {
+        &self.faults
+    }
+
+    /// The declaration of a label.
+    fn find(&self, label: &Label) -> Declaration<'_>
+        ensures named { let packages = package_at self.now.files self.now.limit in
+            found_named (paths_of self.now.files) packages label.now result
+            ≡ named (paths_of self.now.files) packages label.now }
+        ensures dependencies { AreItsOwn result }
+    {
+        label.legal();
+        match self.packages.get(Name {
+            text: label.package(),
+        }) {
+            Some(Package::Declared(targets)) => match targets.find(label) {
+                Some((target, dependencies)) => Declaration::Target(target, dependencies),
+                None => Declaration::Undeclared,
+            },
+            Some(Package::Failed) => Declaration::FailedPackage,
+            None => Declaration::NoPackage,
+        }
+    }
+
+    /// What a label names: a target that its package declares, else a source file of its path. Memory is used only to look
+    /// for the file.
+    ///
+    /// # Errors
+    ///
+    /// `AllocError` where memory was refused.
+    pub fn named(&self, label: &Label) -> Result<Named<'_>, AllocError>
+        ensures named { IfOk result (λ n. named_seen n ≡ named (paths_of self.now.files)
+            (package_at self.now.files self.now.limit) label.now) }
+        ensures dependencies { IfOk result (λ n. HasDependencies n) }
+    {
+        match self.find(label) {
+            Declaration::Target(target, dependencies) => Ok(Named::Target {
+                target,
+                dependencies,
+            }),
+            Declaration::Undeclared => {
+                if is_file(self.alloc, &self.files, label)? {
+                    Ok(Named::SourceFile)
+                } else {
+                    Ok(Named::Nothing)
+                }
+            }
+            Declaration::FailedPackage => Ok(Named::FailedPackage),
+            Declaration::NoPackage => Ok(Named::Nothing),
+        }
+    }
+}
+
+impl Dependencies for Targets {
+    ghost use Rattle.workspace.specs.Workspaces.{paths_of};
+    ghost use Rattle.targets.specs.Resolving.{needs};
+    ghost use Rattle.packages.specs.Packages.{package_at};
+
+    ghost needs = { λ t. needs (paths_of t.files) (package_at t.files t.limit) };
+
+    fn deps(&self, label: &Label) -> &[Shared<Label>] {
+        match self.find(label) {
+            Declaration::Target(_, dependencies) => dependencies,
+            Declaration::Undeclared | Declaration::FailedPackage | Declaration::NoPackage => &[],
+        }
+    }
+}
