@@ -1,0 +1,4 @@
+pub mod Crossing
+pub mod Ordered
+pub mod Labelled
+pub mod Told

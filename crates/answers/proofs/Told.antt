@@ -1,0 +1,59 @@
+-- What a report tells is the answer.
+use Rattle.std.proofs.Common.{◌≡◌, ◌∙◌, ◌↔◌, ℕ, List, [], ◌∷◌, map, All, Contains, Result, Ok, Err, IfOk, sym, ap, subst, refl}
+use Rattle.std.specs.Prelude.{string_bytes}
+use Rattle.depsets.specs.Listed.{walked}
+use Rattle.lexer.specs.declared.fault.FaultKind.{FaultKind}
+use Rattle.values.specs.declared.ticks.Kind.{Kind}
+use Rattle.modules.specs.declared.sorting.FileFault.{FileFault}
+use Rattle.reporting.specs.declared.made.Report.{Report}
+use Rattle.loader.specs.Loaded.{AreFilesOf}
+use Rattle.answers.specs.Reports.{Reports}
+use Rattle.std.proofs.lemmas.List.Elements.{All-map}
+use Rattle.actions.specs.Clashes.{AreAscending}
+use Rattle.workspace.specs.Labels.{LabelParts, label_text}
+use Rattle.workspace.specs.Workspaces.{Pair}
+use Rattle.graph.specs.Graphs.{GraphView, IsGraphOf}
+use Rattle.targets.specs.declared.outcome.Outcome.{Outcome}
+use Rattle.outcomes.specs.Workspaces.{Workspace, dependencies, outcome_of}
+use Rattle.pool.specs.Gathered.{GatheredView, outcome_in}
+use Rattle.reporting.specs.Answers.{Node, is_loud, report_text}
+use Rattle.loader.specs.Files.{faults}
+use Rattle.answers.specs.Outcomes.{evaluated}
+use Rattle.answers.specs.Answers.{Answer, IsAnswerOf}
+use Rattle.answers.specs.Ordered.{Entry, AreInOrder}
+use Rattle.answers.specs.Nodes.{AreOutcomesOf, node_of, nodes_of}
+use Rattle.answers.proofs.Ordered.{map_twice}
+
+module _ (files : List Pair) (limit : ℕ) (asked : List LabelParts) (g : GraphView) (r : GatheredView Outcome) (es : List Entry)
+    (is : IsGraphOf (dependencies (evaluated files limit)) asked g) (order : AreInOrder g.labels es) (found : AreOutcomesOf (evaluated files limit) g.labels r) where
+  labels_told : map (λ (n : Node). n.label) (nodes_of r es) ≡ map (λ (e : Entry). e.0) es
+  labels_told = map_twice (node_of r) (λ (n : Node). n.label) es
+
+  texts_told : map (λ (n : Node). label_text n.label) (nodes_of r es) ≡ map (λ (e : Entry). label_text e.0) es
+  texts_told = map_twice (node_of r) (λ (n : Node). label_text n.label) es
+
+  abbrev pub answer : Answer
+  answer = record { faults = faults files limit; nodes = nodes_of r es }
+
+  pub answers : IsAnswerOf files limit asked (record { faults = faults files limit; nodes = nodes_of r es })
+  answers = record {
+    faults = refl;
+    reached = λ l. (
+      λ h. (is.nodes.all l).0 ((order.all l).0 (subst (λ ls. Contains ls l) labels_told h)),
+      λ h. subst (λ ls. Contains ls l) (sym labels_told) ((order.all l).1 ((is.nodes.all l).1 h)),
+    );
+    ordered = subst AreAscending (sym texts_told) order.ordered;
+    outcomes =
+        All-map (λ (n : Node). n.outcome ≡ outcome_of (evaluated files limit) n.label) (node_of r) es
+        (λ k d low. let at = order.numbered k d low in found _ at.0 ∙ ap (outcome_of (evaluated files limit)) at.1);
+  }
+
+  pub reports : {E : Type 0} (workspace : List Pair) (fs : List (FileFault FaultKind Kind)) (ns : List Node) (result : Result Report E) → AreFilesOf workspace files → fs ≡ faults files limit → ns ≡ nodes_of r es
+      → IfOk result (λ m. string_bytes m.text ≡ report_text walked fs ns) → IfOk result (λ m. m.loud ≡ is_loud fs ns) → IfOk result (Reports walked workspace asked limit)
+  reports workspace fs ns (Err e) are ef en t l = t
+  reports workspace fs ns (Ok m) are ef en t l = record {
+    answer = record { faults = faults files limit; nodes = nodes_of r es };
+    answers = record { files = files; are_files = are; answers = answers };
+    told = t ∙ ap (λ f. report_text walked f ns) ef ∙ ap (report_text walked (faults files limit)) en;
+    loud = l ∙ ap (λ f. is_loud f ns) ef ∙ ap (is_loud (faults files limit)) en;
+  }

@@ -1,0 +1,44 @@
+-- The answer to a request for labels: what a report of a workspace says (docs/REPORT.md, "The report"; this project's own).
+use Rattle.std.specs.Prelude.{◌≡◌, ◌↔◌, ℕ, Bool, List, map, Contains, All}
+use Rattle.depsets.specs.Own.{Own}
+use Rattle.depsets.specs.Rose.{Rose}
+use Rattle.depsets.specs.declared.element.Element.{Element}
+use Rattle.lexer.specs.declared.fault.FaultKind.{FaultKind}
+use Rattle.values.specs.declared.ticks.Kind.{Kind}
+use Rattle.actions.specs.Clashes.{AreAscending}
+use Rattle.workspace.specs.Labels.{LabelParts, label_text}
+use Rattle.workspace.specs.Workspaces.{Pair}
+use Rattle.modules.specs.declared.sorting.FileFault.{FileFault}
+use Rattle.graph.specs.Reached.{IsReached}
+use Rattle.outcomes.specs.Workspaces.{dependencies, outcome_of}
+use Rattle.reporting.specs.Answers.{Node, report_text, is_loud}
+use Rattle.loader.specs.Files.{faults}
+use Rattle.loader.specs.Loaded.{AreFilesOf}
+use Rattle.answers.specs.Outcomes.{evaluated}
+
+-- the files that fail, and the labels that are reached, each with what becomes of it
+pub record Answer : Type 0 where
+  pub faults : List (FileFault FaultKind Kind)
+  pub nodes : List Node
+
+-- whether it has a file that failed, a target that failed or a conflict
+abbrev pub is_loud_answer : Answer → Bool
+is_loud_answer a = is_loud a.faults a.nodes
+
+-- The bytes of its report: the files that failed, the labels, and the conflicts of their actions. A depset is told by a listing.
+abbrev pub answer_text : (Rose Own → List Element) → Answer → List ℕ
+answer_text listing a = report_text listing a.faults a.nodes
+
+-- The answer to these labels: of the files of a workspace, in ascending order of their paths, where each evaluation may use so
+-- many ticks. All files that fail, by path; each label that is reached, once and in the order of their texts, with what becomes of it.
+pub record IsAnswerOf (files : List Pair) (limit : ℕ) (labels : List LabelParts) (a : Answer) : Type 0 where
+  pub faults : a.faults ≡ faults files limit
+  pub reached : (l : LabelParts) → Contains (map (λ n. n.label) a.nodes) l ↔ IsReached (dependencies (evaluated files limit)) labels l
+  pub ordered : AreAscending (map (λ n. label_text n.label) a.nodes)
+  pub outcomes : All (λ n. n.outcome ≡ outcome_of (evaluated files limit) n.label) a.nodes
+
+-- the answer to labels of a workspace, whose files stand in any order
+pub record IsAnswer (workspace : List Pair) (limit : ℕ) (labels : List LabelParts) (a : Answer) : Type 0 where
+  pub files : List Pair
+  pub are_files : AreFilesOf workspace files
+  pub answers : IsAnswerOf files limit labels a

@@ -1,0 +1,5 @@
+pub mod Outcomes
+pub mod Answers
+pub mod Ordered
+pub mod Nodes
+pub mod Reports

@@ -1,0 +1,104 @@
+//! The report on labels of a workspace.
+ghost use Rattle.std.specs.Prelude.{◌≡◌, ◌<◌, List, IfOk, Err, length, map};
+ghost use Rattle.depsets.specs.Listed.{walked};
+ghost use Rattle.std.specs.List.{All};
+ghost use Rattle.workspace.specs.Labels.{LabelParts};
+ghost use Rattle.workspace.specs.Workspaces.{Pair};
+ghost use Rattle.reporting.specs.Seen.{nodes_seen};
+ghost use Rattle.loader.specs.Loaded.{AreFilesOf};
+ghost use Rattle.graph.specs.Graphs.{IsGraphOf};
+ghost use Rattle.outcomes.specs.Workspaces.{dependencies};
+ghost use Rattle.answers.specs.Nodes.{AreOutcomesOf, nodes_of};
+ghost use Rattle.answers.specs.Ordered.{entry_seen, AreInOrder};
+ghost use Rattle.answers.specs.Outcomes.{evaluated};
+ghost use Rattle.answers.specs.Reports.{IsTooMany, Reports};
+
+use crate::found::found;
+use crate::order::{Entry, by_label};
+use crate::refused::{NoReport, without_graph};
+use edges::NodeId;
+use graph::Graph;
+use loader::LoadedFiles;
+use packages::Targets;
+use pool::{Gate, Gathered};
+use reporting::{Node, Report, make_report};
+use std::alloc::{AllocError, Global};
+use std::sync::Wait;
+use std::thread::Threads;
+use targets::Outcome;
+use workspace::{Label, Workspace};
+
+/// How many labels an answer has at most. (This project's own limit.)
+pub const NODE_LIMIT: usize = 1_048_576;
+
+/// These labels, each with what was found of its node.
+fn nodes_of<'a>(
+    alloc: Global,
+    found: &'a Gathered<Outcome>,
+    entries: &[Entry<'a>],
+) -> Result<Vec<Node<'a>>, AllocError>
+    requires within { All (λ e. e.1 < found.now.nodes) entries.now }
+    ensures { IfOk result
+        (λ v. nodes_seen v.items ≡ nodes_of found.now (map entry_seen entries.now)) }
+{
+    let mut nodes = Vec::with_capacity(alloc, entries.len())?;
+    for (label, number) in entries {
+        nodes.push(Node {
+            label,
+            outcome: found.outcome(NodeId::of(*number)),
+        })?;
+    }
+    Ok(nodes)
+}
+
+/// The report of what was found of the nodes of a graph.
+fn told(
+    alloc: Global,
+    targets: &Targets,
+    graph: &Graph,
+    found: &Gathered<Outcome>,
+) -> Result<Report, AllocError>
+    requires nodes { found.now.nodes ≡ length graph.now.labels }
+    ensures { let w = evaluated targets.now.files targets.now.limit in
+        (workspace : List Pair) (asked : List LabelParts) → AreFilesOf workspace targets.now.files
+        → IsGraphOf (dependencies w) asked graph.now → AreOutcomesOf w graph.now.labels found.now
+        → IfOk result (Reports walked workspace asked targets.now.limit) }
+{
+    let entries = by_label(alloc, graph)?;
+    let nodes = nodes_of(alloc, found, &entries)?;
+    make_report(alloc, targets.faults(), &nodes)
+}
+
+/// The report on labels of a workspace and on all that they depend on, where each evaluation may use so many ticks.
+///
+/// `rt` is the permission to start threads and to wait. The labels are analysed by so many workers in threads of their own,
+/// which have ended when this returns; what the report says depends on none of them. The gate is called round each label,
+/// by the worker that analyses it. Files are read and evaluated, and the report is written, by the thread that calls.
+///
+/// # Errors
+///
+/// `TooMany` only where more than [`NODE_LIMIT`] labels are reached; `NoMemory` where memory was refused, and `NoThread` where a
+/// thread was refused.
+pub fn report_on<R: Threads + Wait + Sync, G: Gate>(
+    rt: &R,
+    alloc: Global,
+    workspace: &Workspace,
+    labels: &[Label],
+    workers: usize,
+    limit: u64,
+    gate: &G,
+) -> Result<Report, NoReport>
+    requires workers { (0 < workers) × (workers < 65) }
+    ensures report { IfOk result (Reports walked workspace.now labels.now limit) }
+    ensures many { result ≡ Err NoReport.TooMany
+        → IsTooMany workspace.now labels.now limit NODE_LIMIT }
+{
+    let files = LoadedFiles::of(alloc, workspace, limit)?;
+    let targets = Targets::declare(alloc, files)?;
+    let graph = match Graph::of(alloc, &targets, labels, NODE_LIMIT) {
+        Ok(graph) => graph,
+        Err(refused) => return Err(without_graph(refused)),
+    };
+    let found = found(rt, alloc, &targets, &graph, workers, gate)?;
+    Ok(told(alloc, &targets, &graph, &found)?)
+}
