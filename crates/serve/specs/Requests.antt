@@ -2,11 +2,13 @@
 -- (docs/REPORT.md; this project's own choice).
 use Rattle.std.specs.Prelude.{◌≡◌, ◌<◌, ◌⊎◌, ℕ, Bool, List, Option, Some, length}
 use Rattle.std.specs.Io.KnownBytes.{Appends, Consumes, IsAtEnd}
-use Rattle.report.specs.Answer.{Answer, answer_text, is_loud}
+use Rattle.depsets.specs.Listed.{walked}
 use Rattle.request.specs.Asked.{Asked, asked}
 use Rattle.devices.specs.Devices.{WritesBeginning}
 use Rattle.request.specs.Input.{Spells, input_limit}
-use Rattle.forms.specs.Served.{Answers, IsLater}
+use Rattle.answers.specs.Answers.{Answer, IsAnswer, answer_text, is_loud_answer}
+use Rattle.answers.specs.Reports.{IsTooMany}
+use Rattle.answers.specs.declared.report.TheConstants.{NODE_LIMIT}
 use Rattle.workspace.specs.Workspaces.{Pair}
 
 -- the words ask for this
@@ -19,29 +21,29 @@ pub record IsAnswered (words : List (List ℕ)) (input : List ℕ) (answer : Ans
   pub workspace : List Pair
   pub words_part : AsksFor words asked
   pub input_part : Spells input workspace
-  pub answers : Answers workspace asked.labels asked.steps answer
+  pub answers : IsAnswer workspace asked.steps asked.labels answer
 
 -- words and input make a request, the bytes of its answer were written and nothing else, and `loud` says whether the
 -- answer has a load fault, a failed target or a conflict
 pub record WritesAnswer (words : List (List ℕ)) (input : List ℕ) (old new : Option (List ℕ)) (loud : Bool) : Type 0 where
   pub answer : Answer
   pub answered : IsAnswered words input answer
-  pub written : Appends old new (answer_text answer)
-  pub is_loud : loud ≡ is_loud answer
+  pub written : Appends old new (answer_text walked answer)
+  pub is_loud : loud ≡ is_loud_answer answer
 
 -- words and input make a request, and a beginning of its answer was written, perhaps none of it and perhaps all
 pub record BeginsAnswer (words : List (List ℕ)) (input : List ℕ) (old new : Option (List ℕ)) : Type 0 where
   pub answer : Answer
   pub answered : IsAnswered words input answer
-  pub written : WritesBeginning old new (answer_text answer)
+  pub written : WritesBeginning old new (answer_text walked answer)
 
--- words and input make a request that isn't of a form that is served
-pub record IsUnserved (words : List (List ℕ)) (input : List ℕ) : Type 0 where
+-- words and input make a request, and more labels are reached than an answer has
+pub record AsksTooMany (words : List (List ℕ)) (input : List ℕ) : Type 0 where
   pub asked : Asked
   pub workspace : List Pair
   pub words_part : AsksFor words asked
   pub input_part : Spells input workspace
-  pub unserved : IsLater workspace asked.labels asked.steps
+  pub many : IsTooMany workspace asked.labels asked.steps NODE_LIMIT
 
 abbrev pub SpellsNothing : List ℕ → Type 0
 SpellsNothing input = (workspace : List Pair) → Spells input workspace → ⊥

@@ -5,10 +5,10 @@
 //! alone, of a workspace in memory; [`closing`] says how the program ends.
 #![tactic(auto)]
 
-mod analysis;
+mod analysing;
 mod serving;
 mod stops;
 
-pub use analysis::analyse;
+pub use analysing::analyse;
 pub use serving::serve;
 pub use stops::{AnalyseStop, ServeStop, closing};

@@ -4,14 +4,14 @@ ghost use Rattle.std.specs.Prelude.{◌≡◌, ◌≢◌, ◌⊎◌, ◌≤◌, 
 ghost use Rattle.std.specs.Io.KnownBytes.{IsAtEnd};
 ghost use Rattle.devices.specs.Devices.{Failed};
 ghost use Rattle.request.specs.Asked.{Asked, asked, asked_by};
-ghost use Rattle.serve.specs.Requests.{AsksFor, BeginsAnswer, IsUnserved, OfWholeInput, RefusesInput, SpellsNothing, WritesAnswer};
-ghost use Rattle.serve.specs.RequestReports.{IsOfReport, ReportsInput, UnservedInput};
+ghost use Rattle.serve.specs.Requests.{AsksFor, AsksTooMany, BeginsAnswer, OfWholeInput, RefusesInput, SpellsNothing, WritesAnswer};
+ghost use Rattle.serve.specs.RequestReports.{IsOfReport, ReportsInput, TooManyInput};
 
 use crate::stops::ServeStop;
+use answers::{NoReport, report_on};
 use devices::{InputStop, Sink, Source, WriteFailed, read_input, write_all};
-use forms::{NoReport, report_on};
 use pool::Gate;
-use report::Report;
+use reporting::Report;
 use request::{INPUT_LIMIT, InputRefused, Request, WordsStop, read_words, read_workspace};
 use std::alloc::Global;
 use std::convert::AsStr;
@@ -29,8 +29,8 @@ fn report_of<R: Threads + Wait + Sync, G: Gate>(
     requires workers { (1 ≤ request.now.workers) × (request.now.workers ≤ 64) }
     ensures ok { IfOk result (ReportsInput (asked_by request.now) input.items) }
     ensures input_only { result ≡ Err ServeStop.Input → SpellsNothing input.items }
-    ensures later_only { result ≡ Err ServeStop.Later
-        → UnservedInput (asked_by request.now) input.items }
+    ensures many_only { result ≡ Err ServeStop.TooMany
+        → TooManyInput (asked_by request.now) input.items }
     ensures kinds { IfErr result IsOfReport }
 {
     let workspace = match read_workspace(alloc, input) {
@@ -43,12 +43,12 @@ fn report_of<R: Threads + Wait + Sync, G: Gate>(
         alloc,
         &workspace,
         request.labels.as_slice(),
-        request.workers,
+        request.workers as usize,
         request.steps,
         gate,
     ) {
         Ok(report) => Ok(report),
-        Err(NoReport::Later) => Err(ServeStop::Later),
+        Err(NoReport::TooMany) => Err(ServeStop::TooMany),
         Err(NoReport::NoMemory) => Err(ServeStop::NoMemory),
         Err(NoReport::NoThread) => Err(ServeStop::NoThread),
     }
@@ -62,7 +62,7 @@ fn report_of<R: Threads + Wait + Sync, G: Gate>(
 ///
 /// # Errors
 ///
-/// Found in this order: `Words` before a byte is read; `Read`; `Input`; `Later`; `Write`. The input is read to its end
+/// Found in this order: `Words` before a byte is read; `Read`; `Input`; `TooMany`; `Write`. The input is read to its end
 /// or to the first byte past [`INPUT_LIMIT`]. `NoMemory` and `NoThread` may stand in place of any of these that isn't
 /// found yet. After `Write` a beginning of the report was written, after any other refusal nothing.
 pub fn serve<R, S, K, W, G>(
@@ -96,12 +96,11 @@ where
         → IfSome (S.remaining reader.old) SpellsNothing }
     ensures input_refused { result ≡ Err ServeStop.Input
         → RefusesInput (S.remaining reader.old) (S.remaining reader.new) }
-    ensures later_only { result ≡ Err ServeStop.Later
+    ensures many_only { result ≡ Err ServeStop.TooMany
         → OfWholeInput (S.remaining reader.old) (S.remaining reader.new)
-        (IsUnserved (map W.text words.now)) }
+        (AsksTooMany (map W.text words.now)) }
     ensures write_only { result ≡ Err ServeStop.Write
         → Failed (K.failures writer.old) (K.failures writer.new) }
-    ensures none_else { IfErr result (λ e. e ≢ ServeStop.TooMany) }
 
     // Their order: whatever comes after the words has words that ask for something, and whatever comes after the
     // reads has no failed read.
@@ -133,7 +132,7 @@ where
         Ok(report) => report,
         Err(stop) => return Err(stop),
     };
-    match write_all(writer, report.bytes.as_slice()) {
+    match write_all(writer, report.text.as_bytes()) {
         Ok(()) => Ok(report.loud),
         Err(WriteFailed) => Err(ServeStop::Write),
     }

@@ -11,7 +11,7 @@ pub enum AnalyseStop {
     /// The number of workers isn't one from 1 to 64. This is tested first.
     #[error("the number of workers isn't one from 1 to 64")]
     Workers,
-    /// There are more nodes than the limit.
+    /// More labels are reached than [`NODE_LIMIT`](answers::NODE_LIMIT).
     #[error("too many nodes")]
     TooMany,
     /// Memory was refused.
@@ -20,9 +20,6 @@ pub enum AnalyseStop {
     /// A thread was refused.
     #[error("no thread")]
     NoThread,
-    /// Until the whole product stands: the workspace isn't of a form that is served yet.
-    #[error("not yet")]
-    Later,
 }
 
 /// Why a request got no whole report.
@@ -34,7 +31,7 @@ pub enum ServeStop {
     /// The words are in order, and the input is refused.
     #[error("input refused")]
     Input,
-    /// There are more nodes than the limit.
+    /// More labels are reached than [`NODE_LIMIT`](answers::NODE_LIMIT).
     #[error("too many nodes")]
     TooMany,
     /// Memory was refused.
@@ -49,9 +46,6 @@ pub enum ServeStop {
     /// The writer failed. A beginning of the report was written; after any other stop, nothing.
     #[error("the writer failed")]
     Write,
-    /// Until the whole product stands: the workspace isn't of a form that is served yet.
-    #[error("not yet")]
-    Later,
 }
 
 /// The exit status, and the line on standard error without its newline, or the empty text where there is none.
@@ -66,7 +60,6 @@ pub fn closing(served: &Result<bool, ServeStop>) -> (u8, &'static str)
         Err(ServeStop::Words) => (2, "bzlan: words refused"),
         Err(ServeStop::Input) => (2, "bzlan: input refused"),
         Err(ServeStop::TooMany) => (2, "bzlan: too many nodes"),
-        Err(ServeStop::Later) => (2, "bzlan: not yet"),
         Err(ServeStop::NoMemory) => (3, "bzlan: no memory"),
         Err(ServeStop::NoThread) => (3, "bzlan: no thread"),
         Err(ServeStop::Read | ServeStop::Write) => (4, "bzlan: device failed"),

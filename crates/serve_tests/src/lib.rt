@@ -1,17 +1,13 @@
-//! Tests of crate `serve`: `analyse`, `serve` and `closing`, called as strangers do.
+//! Tests of crate `serve`: `analyse`, `serve` and `closing`, called as strangers do. Whole reports are compared by `serve_check`.
 #![tactic(auto)]
 
 #[cfg(test)]
-mod answers;
+mod asked;
 #[cfg(test)]
-mod endings;
+mod failing;
 #[cfg(test)]
-mod first_form;
+mod reports;
 #[cfg(test)]
 mod requests;
-#[cfg(test)]
-mod second_form;
-#[cfg(test)]
-mod texts;
 #[cfg(test)]
 mod workers;

@@ -1,94 +1,101 @@
-//! Targets by workers that a gate holds up or counts.
-use crate::answers::is_answer;
-use crate::texts::{DIAMOND, LISTS, VALUES, build_file, report};
+//! The analysis of a workspace in memory, by numbers of workers and past gates.
+use crate::asked::{input, split};
 use fakes::gates::{Counting, Meeting};
-use pool::Gate;
+use pool::{Gate, NoGate};
+use request::read_workspace;
+use serve::{AnalyseStop, analyse};
+use std::alloc::Global;
 use std::sync::Wait;
 use std::test::Fail;
 use std::thread::Threads;
+use workspace::Label;
 
-/// Eight targets that need nothing.
-const EIGHT: [(&str, &str); 8] = [
-    ("a", ""),
-    ("b", ""),
-    ("c", ""),
-    ("d", ""),
-    ("e", ""),
-    ("f", ""),
-    ("g", ""),
-    ("h", ""),
-];
+/// Three targets, of which one needs the others, as JSON spells them.
+const THREE: &str =
+    "load(':w.bzl', 'w')\\nw(name = 'z', out = 'z.txt')\\nw(name = 'y', out = 'y.txt')\\nw(name = 'x', out = 'x.txt', deps = [':y', ':z'])\\n";
 
-/// What they provide.
-const EMPTY: [(&str, &str); 8] = [
-    ("a", "[]"),
-    ("b", "[]"),
-    ("c", "[]"),
-    ("d", "[]"),
-    ("e", "[]"),
-    ("f", "[]"),
-    ("g", "[]"),
-    ("h", "[]"),
-];
+/// The report on the one.
+const REPORT: &str = "target //a:x ok
+  provider DefaultInfo files=depset(default, [<file a/x.txt>])
+  action FileWrite outputs [\"a/x.txt\"] inputs [] words [] content \"x\"
+target //a:y ok
+  provider DefaultInfo files=depset(default, [<file a/y.txt>])
+  action FileWrite outputs [\"a/y.txt\"] inputs [] words [] content \"y\"
+target //a:z ok
+  provider DefaultInfo files=depset(default, [<file a/z.txt>])
+  action FileWrite outputs [\"a/z.txt\"] inputs [] words [] content \"z\"
+";
 
-const LABELS: [&str; 8] = [
-    "//a:a", "//a:b", "//a:c", "//a:d", "//a:e", "//a:f", "//a:g", "//a:h",
-];
+/// Labels, which a space parts.
+fn labels_of(alloc: Global, text: &str) -> Result<Vec<Label>, Fail> {
+    let mut labels = Vec::new(alloc);
+    for text in split(alloc, text)? {
+        let Ok(label) = Label::read(alloc, text, None) else {
+            return Err(Fail::from("a label is read"));
+        };
+        labels.push(label)?;
+    }
+    Ok(labels)
+}
 
-/// Whether so many workers past a gate give this report on targets.
-fn is_told<R: Threads + Wait + Sync, G: Gate>(
+/// The bytes of the report on labels, by so many workers past a gate; or why there is none.
+fn analysed<R: Threads + Wait + Sync + AllocGlobal, G: Gate>(
     rt: &R,
-    targets: &[(&str, &str)],
-    labels: &[&str],
+    labels: &str,
     workers: u64,
     gate: &G,
-    values: &[(&str, &str)],
-) -> Result<bool, Fail>
-where
-    R: AllocGlobal,
-{
-    let build = build_file(rt.alloc(), targets)?;
-    let told = report(rt.alloc(), values)?;
-    let files = [("a/i.bzl", LISTS), ("a/BUILD", build.as_str())];
-    is_answer(rt, &files, labels, workers, 1_000_000, gate, told.as_str())
+) -> Result<Result<Vec<u8>, AnalyseStop>, Fail> {
+    let alloc = rt.alloc();
+    let labels = labels_of(alloc, labels)?;
+    let input = input(alloc, THREE)?;
+    let Ok(workspace) = read_workspace(alloc, input.into_bytes()) else {
+        return Err(Fail::from("an input is read"));
+    };
+    let labels = labels.as_slice();
+    Ok(analyse(rt, alloc, &workspace, labels, workers, 1_000_000, gate))
+}
+
+/// Whether the report on the one is as above.
+fn is_told<R: Threads + Wait + Sync + AllocGlobal, G: Gate>(
+    rt: &R,
+    workers: u64,
+    gate: &G,
+) -> Result<bool, Fail> {
+    match analysed(rt, "//a:x", workers, gate)? {
+        Ok(report) => Ok(report.as_slice() == REPORT.as_bytes()),
+        Err(_) => Ok(false),
+    }
 }
 
 #[test]
-fn two_and_eight_targets_at_once(rt: HostRuntime) -> Result<(), Fail> {
-    for (targets, workers) in [(2usize, 2u64), (8, 8), (8, 64)] {
-        let gate = Meeting::of(0, targets - 1, workers.min(8));
-        let given = (&EIGHT[..targets], &LABELS[..targets], &EMPTY[..targets]);
-        assert!(rt;
-            is_told(&rt, given.0, given.1, workers, &gate, given.2)?,
-            "{targets}"
-        );
-        assert!(rt; gate.met(), "{targets}");
+fn too_few_and_too_many_workers(rt: HostRuntime) -> Result<(), Fail> {
+    for workers in [0u64, 65, u64::MAX] {
+        let stop = analysed(&rt, "//a:x", workers, &NoGate)?.err();
+        assert!(rt; stop == Some(AnalyseStop::Workers), "{workers}");
     }
     Ok(())
 }
 
 #[test]
-fn the_diamonds_middle_at_once(rt: HostRuntime) -> Result<(), Fail> {
+fn one_report_by_any_workers(rt: HostRuntime) -> Result<(), Fail> {
+    for workers in [1u64, 2, 64] {
+        assert!(rt; is_told(&rt, workers, &NoGate)?, "{workers}");
+        let gate = Counting::of(rt.alloc(), 3)?;
+        assert!(rt; is_told(&rt, workers, &gate)?, "{workers}");
+        assert!(rt; gate.once(), "{workers}");
+    }
+    Ok(())
+}
+
+#[test]
+fn two_targets_at_once(rt: HostRuntime) -> Result<(), Fail> {
     for workers in [2u64, 64] {
-        let gate = Meeting::of(1, 2, 2);
+        let gate = Meeting::of(0, 1, 2);
         assert!(rt;
-            is_told(&rt, &DIAMOND, &["//a:d"], workers, &gate, &VALUES)?,
+            analysed(&rt, "//a:y //a:z", workers, &gate)?.is_ok(),
             "{workers}"
         );
         assert!(rt; gate.met(), "{workers}");
-    }
-    Ok(())
-}
-
-#[test]
-fn each_target_passes_the_gate_once(rt: HostRuntime) -> Result<(), Fail> {
-    for workers in [1u64, 2, 64] {
-        let gate = Counting::of(rt.alloc(), 4)?;
-        assert!(rt;
-            is_told(&rt, &DIAMOND, &["//a:d"], workers, &gate, &VALUES)?,
-            "{workers}"
-        );
-        assert!(rt; gate.once(), "{workers}");
     }
     Ok(())
 }

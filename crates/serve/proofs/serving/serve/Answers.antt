@@ -35,6 +35,6 @@ returns-in-Ok-write_all-clause-ok g c =
         input_part = c.in-Ok-report_of.ensures.ok.1;
         answers = c.in-Ok-report_of.ensures.ok.2.answers;
       };
-      written = rw (c.as_slice.ensures.value, c.in-Ok-report_of.ensures.ok.2.told) at c.in-Ok-write_all.ensures.ok;
+      written = rw (c.as_bytes.ensures.value, c.in-Ok-report_of.ensures.ok.2.told) at c.in-Ok-write_all.ensures.ok;
       is_loud = c.in-Ok-report_of.ensures.ok.2.loud;
     })

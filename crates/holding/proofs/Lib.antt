@@ -1,0 +1,11 @@
+pub mod Assembled
+pub mod BuiltIns
+pub mod Calls
+pub mod Changing
+pub mod Depsets
+pub mod Givens
+pub mod Instances
+pub mod Methods
+pub mod Operators
+pub mod Reading
+pub mod Steps

@@ -1,3 +1,0 @@
-pub mod TruthLemmas
-pub mod AnswerLaws
-mod ReportRows

@@ -1,2 +1,0 @@
-pub mod FirstTextLemmas
-pub mod SecondTextLemmas

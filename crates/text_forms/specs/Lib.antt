@@ -1,4 +1,0 @@
-pub mod Targets
-pub mod FirstText
-pub mod SecondText
-pub mod FileForms
