@@ -42,7 +42,7 @@ module _ {S V K : Type 0} (r : Kept S V) (ops : Operations S V K) (owed : EachKe
   turn_from k m breaks h g = pure_from r K good_end k next (λ n up. tt)
   turn_from k m (returns v) h g = pure_from r K good_end k (returns v) (λ n up. r.stays k n v up g)
 
-  loop_turns_from : (k : r.World) (here : Here) (f : V → Doing S V K) (vs : List V) → goods r k vs → ((n : r.World) → r.grows k n → (v : V) → r.good n v → From r good_end n (f v))
+  pub loop_turns_from : (k : r.World) (here : Here) (f : V → Doing S V K) (vs : List V) → goods r k vs → ((n : r.World) → r.grows k n → (v : V) → r.good n v → From r good_end n (f v))
       → From r good_end k (loop_turns ops here f vs)
   loop_turns_from k here f [] gs h = goes_on k
   loop_turns_from k here f (v ∷ vs) gs h =
@@ -80,7 +80,7 @@ module _ {S V K : Type 0} (r : Kept S V) (ops : Operations S V K) (owed : EachKe
       mutual
         unfolding exec
 
-        exec_from : (st : Statement) (here : Here) (k : r.World) → From r good_end k (exec ops inv files st here)
+        pub exec_from : (st : Statement) (here : Here) (k : r.World) → From r good_end k (exec ops inv files st here)
         exec_from (load m is) here k = done_from k (imports ops here m is) (imports_from k here m is)
         exec_from (assign bs e) here k =
             then_from r r.good good_end k (eval ops inv e here) (λ v. assigned ops here bs v >>= λ _. pure next) (value_from e here k)

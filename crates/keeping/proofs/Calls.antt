@@ -66,7 +66,7 @@ module _ {S V K : Type 0} (r : Kept S V) (ops : Operations S V K) (owed : EachKe
         (act_from r (anything r) k here ops.tick (λ n up t ht. owed.tick n t ht)) (λ n up u g. body_gives inv calls d (inside f here) n)
         k (r.same k) l s hl hs)
 
-    invoke_keeps : (n : ℕ) → InvokeKeeps r ops owed (invoke ops files n)
+    pub invoke_keeps : (n : ℕ) → InvokeKeeps r ops owed (invoke ops files n)
     unfolding invoke
     invoke_keeps zero here g given k s gg ga hs = chosen_gives here g given (λ f d l s. refused here (ops.refusal deep)) (called ops g) k s (λ f d l w t hl ht. tt) gg ga hs
     invoke_keeps (suc n) here g given k s gg ga hs =

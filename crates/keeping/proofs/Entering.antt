@@ -13,7 +13,7 @@ module _ {S V : Type 0} (r : Kept S V) (k : r.World) where
   good_entry None = Unit {0}
   good_entry (Some l) = good_slots r k l
 
-  empty_slots : (n : ℕ) → good_slots r k (replicate n None)
+  pub empty_slots : (n : ℕ) → good_slots r k (replicate n None)
   empty_slots zero = tt
   empty_slots (suc n) = (tt, empty_slots n)
 

@@ -50,7 +50,7 @@ module _ {S V K : Type 0} (r : Kept S V) (ops : Operations S V K) (owed : EachKe
       (act_from r (goods r) k here (ops.parts v) (λ n up s hs. owed.parts n v s (r.stays k n v up g) hs))
       (λ n up vs gs. unpacked_from n here (b ∷ c ∷ bs) vs gs)
 
-  forget_from : (k : r.World) (own : Option OwnSlots) → From r (anything r) k (forget ops own)
+  pub forget_from : (k : r.World) (own : Option OwnSlots) → From r (anything r) k (forget ops own)
   forget_from k None = unit_from r K k
   forget_from k (Some own) = λ n up l s ls hs. (n, r.same n, cleared_keeps r n (own.end - own.first) own.first l ls, hs, tt)
 
@@ -88,7 +88,7 @@ module _ {S V K : Type 0} (r : Kept S V) (ops : Operations S V K) (owed : EachKe
       then_from r (anything r) (anything r) n (f v) (λ _. turns ops here f vs) (h n up v (r.stays k n v up gs.0)) (λ m more w p.
       turns_from m here f vs (goods_stay r k m vs (r.further k n m up more) gs.1) (λ x on. h x (r.further k m x (r.further k n m up more) on))))
 
-  paired_good : (k : r.World) (names : List Name) (ws : List V) → goods r k ws → named_goods r k (paired names ws)
+  pub paired_good : (k : r.World) (names : List Name) (ws : List V) → goods r k ws → named_goods r k (paired names ws)
   paired_good k [] ws gs = tt
   paired_good k (x ∷ xs) [] gs = tt
   paired_good k (x ∷ xs) (w ∷ ws) gs = (gs.0, paired_good k xs ws gs.1)
@@ -191,7 +191,7 @@ module _ {S V K : Type 0} (r : Kept S V) (ops : Operations S V K) (owed : EachKe
           then_from r r.good (goods r) k (eval ops inv e here) (λ v. evals ops inv es here (vs ++ v ∷ [])) (eval_from e here k)
           (λ n up v g. evals_from es here (vs ++ v ∷ []) n (goods_behind r n vs v (goods_stay r k n vs up gs) g))
 
-      values_from : (ks : Keywords) (here : Here) (vs : List V) (k : r.World) → goods r k vs → From r (goods r) k (values ops inv ks here vs)
+      pub values_from : (ks : Keywords) (here : Here) (vs : List V) (k : r.World) → goods r k vs → From r (goods r) k (values ops inv ks here vs)
       values_from no_keywords here vs k gs = pure_from r K (goods r) k vs (λ n up. goods_stay r k n vs up gs)
       values_from (more_keywords x e ks) here vs k gs =
           then_from r r.good (goods r) k (eval ops inv e here) (λ v. values ops inv ks here (vs ++ v ∷ [])) (eval_from e here k)
@@ -207,7 +207,7 @@ module _ {S V K : Type 0} (r : Kept S V) (ops : Operations S V K) (owed : EachKe
           owed.enter w d x y s (r.stays k w d (r.further k m w (r.further k n m up more) on) g) (r.stays n w x (r.further n m w more on) h) (r.stays m w y on i) hs))
           (λ w on u j. entries_from ps here d w (r.stays k w d (r.further k m w (r.further k n m up more) on) g))))
 
-      rounds_from : (own : Option OwnSlots) (rs : Rounds) (inner : Effect S V K Unit) (here : Here) (k : r.World) → ((n : r.World) → r.grows k n → From r (anything r) n inner)
+      pub rounds_from : (own : Option OwnSlots) (rs : Rounds) (inner : Effect S V K Unit) (here : Here) (k : r.World) → ((n : r.World) → r.grows k n → From r (anything r) n inner)
           → From r (anything r) k (rounds ops inv own rs inner here)
       rounds_from own tree.done inner here k h = h k (r.same k)
       rounds_from own (only_if e rs) inner here k h =

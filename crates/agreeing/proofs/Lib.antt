@@ -1,0 +1,4 @@
+pub mod Effects
+pub mod Terms
+pub mod Blocks
+pub mod Calls

@@ -1,0 +1,11 @@
+pub mod Same
+pub mod Within
+pub mod Frozen
+pub mod Named
+pub mod Linking
+pub mod ModulePlaces
+pub mod Runs
+pub mod Known
+pub mod Together
+pub mod Owners
+pub mod Workspaces

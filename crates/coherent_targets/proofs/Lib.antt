@@ -1,0 +1,5 @@
+pub mod Offered
+pub mod Fields
+pub mod Actions
+pub mod Place
+pub mod Implemented

@@ -1,0 +1,82 @@
+-- The lines of what becomes of a label, by the listing that skips ids and by the plain one.
+use Rattle.std.proofs.Common.{◌≡◌, List, [], ◌∷◌, ◌++◌, ℕ, refl, ap}
+use Rattle.std.specs.Prelude.{codes}
+use Rattle.std.specs.List.{flat_map}
+use Rattle.depsets.proofs.Walked.{walked-flat}
+use Rattle.depsets.specs.Listed.{walked, flat}
+use Rattle.values.specs.Tree.{Slots, key as key_tree, leaf, branch, list, tuple, dict, instance, end, missing, given}
+use Rattle.values.specs.View.{FrozenTree, FrozenBranch}
+use Rattle.values.specs.declared.key.Key.{Key}
+use Rattle.values.specs.declared.leaf.Leaf.{Leaf}
+use Rattle.values.specs.declared.leaf.Provider.{Provider}
+use Rattle.printing.specs.Texts.{IsCoherentTree, IsCoherentBranch, AreCoherentSlots, field_head, provider_text}
+use Rattle.printing.proofs.TreeTextLemmas.{text-coherent}
+use Rattle.actions.specs.declared.action.Action.{Action}
+use Rattle.actions.specs.declared.action.Inputs.{Inputs}
+use Rattle.actions.specs.declared.action.Inputs.TheVariants as inputs
+use Rattle.one_tree.specs.Found.{Set, in_tree, in_outcome}
+use Rattle.one_tree.specs.Sets.{IsOneTree}
+use Rattle.one_tree.proofs.Amidst.{among_left, among_right}
+use Rattle.one_tree.proofs.News.{parts_keep, texts_are_plain}
+use Rattle.workspace.specs.Labels.{LabelParts, label_text}
+use Rattle.targets.specs.declared.outcome.Outcome.{Outcome}
+use Rattle.targets.specs.declared.outcome.Outcome.TheVariants.{Source, Done, Failed}
+use Rattle.outcomes.specs.Found.{in_inputs, in_actions, in_target}
+use Rattle.reporting.specs.Lines.{line, element_paths, strings_text, outputs_text, given_words, fields_text, instance_line, provider_line, input_paths, action_line, outcome_text}
+
+-- ---- parts of what has one tree for an id
+
+pub front : (ds es : List Set) → IsOneTree (ds ++ es) → IsOneTree ds
+front ds es k = (parts_keep ds (ds ++ es) (λ d i. among_left d ds es i)).0 k
+
+pub behind : (ds es : List Set) → IsOneTree (ds ++ es) → IsOneTree es
+behind ds es k = (parts_keep es (ds ++ es) (λ d i. among_right d ds es i)).0 k
+
+-- ---- providers
+
+fields_same : (xs : List (List ℕ)) (ss : Slots Leaf Key Provider) → AreCoherentSlots ss → fields_text walked xs ss ≡ fields_text flat xs ss
+fields_same [] end h = refl
+fields_same [] (missing ss) h = refl
+fields_same [] (given t ss) h = refl
+fields_same (x ∷ xs) end h = refl
+fields_same (x ∷ xs) (missing ss) h = fields_same xs ss h
+fields_same (x ∷ xs) (given t ss) h = λ i. (codes " " ++ (field_head x ++ text-coherent t h.0 i)) ++ fields_same xs ss h.1 i
+
+instance_same : (b : FrozenBranch) → IsCoherentBranch b → instance_line walked b ≡ instance_line flat b
+instance_same (list ts) h = refl
+instance_same (tuple ts) h = refl
+instance_same (dict ps) h = refl
+instance_same (instance p ss) h = ap (λ text. line (codes "  provider " ++ (provider_text p.name ++ text))) (fields_same p.fields ss h)
+
+provider_same : (t : FrozenTree) → IsCoherentTree t → provider_line walked t ≡ provider_line flat t
+provider_same (key_tree k) h = refl
+provider_same (leaf l) h = refl
+provider_same (branch b) h = instance_same b h
+
+providers_same : (ts : List FrozenTree) → IsOneTree (in_outcome ts) → flat_map (provider_line walked) ts ≡ flat_map (provider_line flat) ts
+providers_same [] k = refl
+providers_same (t ∷ ts) k =
+    λ i. provider_same t (texts_are_plain t (front (in_tree t) (in_outcome ts) k)) i ++ providers_same ts (behind (in_tree t) (in_outcome ts) k) i
+
+-- ---- actions
+
+paths_same : (i : Inputs) → IsOneTree (in_inputs i) → input_paths walked i ≡ input_paths flat i
+paths_same (inputs.Files fs) k = refl
+paths_same (inputs.Depset d) k = ap (flat_map element_paths) (walked-flat d k)
+
+action_same : (a : Action) → IsOneTree (in_inputs a.inputs) → action_line walked a ≡ action_line flat a
+action_same a k = ap (λ paths. line (outputs_text a ++ (codes " inputs " ++ (strings_text paths ++ given_words a)))) (paths_same a.inputs k)
+
+actions_same : (rest : List Action) → IsOneTree (in_actions rest) → flat_map (action_line walked) rest ≡ flat_map (action_line flat) rest
+actions_same [] k = refl
+actions_same (a ∷ rest) k =
+    λ i. action_same a (front (in_inputs a.inputs) (in_actions rest) k) i ++ actions_same rest (behind (in_inputs a.inputs) (in_actions rest) k) i
+
+-- ---- outcomes
+
+pub outcome_same : (l : LabelParts) (o : Outcome) → IsOneTree (in_target o) → outcome_text walked l o ≡ outcome_text flat l o
+outcome_same l (Source f) k = refl
+outcome_same l (Failed f) k = refl
+outcome_same l (Done ts rest) k =
+    λ i. line (codes "target " ++ (label_text l ++ codes " ok"))
+    ++ (providers_same ts (front (in_outcome ts) (in_actions rest) k) i ++ actions_same rest (behind (in_outcome ts) (in_actions rest) k) i)
