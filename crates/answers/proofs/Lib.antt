@@ -1,4 +1,6 @@
 pub mod Crossing
 pub mod Ordered
 pub mod Labelled
+pub mod Sound
+pub mod Plainly
 pub mod Told

@@ -11,7 +11,7 @@ use Rattle.answers.specs.Reports.{Reports}
 use Rattle.std.proofs.lemmas.List.Elements.{All-map}
 use Rattle.actions.specs.Clashes.{AreAscending}
 use Rattle.workspace.specs.Labels.{LabelParts, label_text}
-use Rattle.workspace.specs.Workspaces.{Pair}
+use Rattle.workspace.specs.Workspaces.{IsWorkspace, Pair}
 use Rattle.graph.specs.Graphs.{GraphView, IsGraphOf}
 use Rattle.targets.specs.declared.outcome.Outcome.{Outcome}
 use Rattle.outcomes.specs.Workspaces.{Workspace, dependencies, outcome_of}
@@ -23,6 +23,7 @@ use Rattle.answers.specs.Answers.{Answer, IsAnswerOf}
 use Rattle.answers.specs.Ordered.{Entry, AreInOrder}
 use Rattle.answers.specs.Nodes.{AreOutcomesOf, node_of, nodes_of}
 use Rattle.answers.proofs.Ordered.{map_twice}
+use Rattle.answers.proofs.Plainly.{told_plainly}
 
 module _ (files : List Pair) (limit : ℕ) (asked : List LabelParts) (g : GraphView) (r : GatheredView Outcome) (es : List Entry)
     (is : IsGraphOf (dependencies (evaluated files limit)) asked g) (order : AreInOrder g.labels es) (found : AreOutcomesOf (evaluated files limit) g.labels r) where
@@ -48,12 +49,14 @@ module _ (files : List Pair) (limit : ℕ) (asked : List LabelParts) (g : GraphV
         (λ k d low. let at = order.numbered k d low in found _ at.0 ∙ ap (outcome_of (evaluated files limit)) at.1);
   }
 
-  pub reports : {E : Type 0} (workspace : List Pair) (fs : List (FileFault FaultKind Kind)) (ns : List Node) (result : Result Report E) → AreFilesOf workspace files → fs ≡ faults files limit → ns ≡ nodes_of r es
-      → IfOk result (λ m. string_bytes m.text ≡ report_text walked fs ns) → IfOk result (λ m. m.loud ≡ is_loud fs ns) → IfOk result (Reports walked workspace asked limit)
-  reports workspace fs ns (Err e) are ef en t l = t
-  reports workspace fs ns (Ok m) are ef en t l = record {
+  pub reports : {E : Type 0} (workspace : List Pair) (fs : List (FileFault FaultKind Kind)) (ns : List Node) (result : Result Report E) → IsWorkspace workspace → AreFilesOf workspace files → fs ≡ faults files limit → ns ≡ nodes_of r es
+      → IfOk result (λ m. string_bytes m.text ≡ report_text walked fs ns) → IfOk result (λ m. m.loud ≡ is_loud fs ns) → IfOk result (Reports workspace asked limit)
+  reports workspace fs ns (Err e) legal are ef en t l = t
+  reports workspace fs ns (Ok m) legal are ef en t l = record {
     answer = record { faults = faults files limit; nodes = nodes_of r es };
     answers = record { files = files; are_files = are; answers = answers };
-    told = t ∙ ap (λ f. report_text walked f ns) ef ∙ ap (report_text walked (faults files limit)) en;
+    told =
+        t ∙ ap (λ f. report_text walked f ns) ef ∙ ap (report_text walked (faults files limit)) en
+        ∙ told_plainly workspace files limit asked (record { faults = faults files limit; nodes = nodes_of r es }) legal are answers;
     loud = l ∙ ap (λ f. is_loud f ns) ef ∙ ap (is_loud (faults files limit)) en;
   }

@@ -1,8 +1,6 @@
 -- The answer to a request for labels: what a report of a workspace says (docs/REPORT.md, "The report"; this project's own).
 use Rattle.std.specs.Prelude.{◌≡◌, ◌↔◌, ℕ, Bool, List, map, Contains, All}
-use Rattle.depsets.specs.Own.{Own}
-use Rattle.depsets.specs.Rose.{Rose}
-use Rattle.depsets.specs.declared.element.Element.{Element}
+use Rattle.depsets.specs.Listed.{flat}
 use Rattle.lexer.specs.declared.fault.FaultKind.{FaultKind}
 use Rattle.values.specs.declared.ticks.Kind.{Kind}
 use Rattle.actions.specs.Clashes.{AreAscending}
@@ -25,9 +23,10 @@ pub record Answer : Type 0 where
 abbrev pub is_loud_answer : Answer → Bool
 is_loud_answer a = is_loud a.faults a.nodes
 
--- The bytes of its report: the files that failed, the labels, and the conflicts of their actions. A depset is told by a listing.
-abbrev pub answer_text : (Rose Own → List Element) → Answer → List ℕ
-answer_text listing a = report_text listing a.faults a.nodes
+-- The bytes of its report: the files that failed, the labels, and the conflicts of their actions. A depset is told by its listing:
+-- of the walk of its whole tree, the first occurrences.
+abbrev pub answer_text : Answer → List ℕ
+answer_text a = report_text flat a.faults a.nodes
 
 -- The answer to these labels: of the files of a workspace, in ascending order of their paths, where each evaluation may use so
 -- many ticks. All files that fail, by path; each label that is reached, once and in the order of their texts, with what becomes of it.

@@ -1,8 +1,5 @@
 -- Reports on a workspace (docs/REPORT.md; this project's own).
 use Rattle.std.specs.Prelude.{◌≡◌, ℕ, List, string_bytes}
-use Rattle.depsets.specs.Own.{Own}
-use Rattle.depsets.specs.Rose.{Rose}
-use Rattle.depsets.specs.declared.element.Element.{Element}
 use Rattle.workspace.specs.Labels.{LabelParts}
 use Rattle.workspace.specs.Workspaces.{Pair}
 use Rattle.graph.specs.Same.{same_label}
@@ -13,19 +10,18 @@ use Rattle.loader.specs.Loaded.{AreFilesOf}
 use Rattle.answers.specs.Outcomes.{evaluated}
 use Rattle.answers.specs.Answers.{Answer, IsAnswer, answer_text, is_loud_answer}
 
--- A report says just what the answer to labels of a workspace is, where each evaluation may use so many ticks. A depset is told by
--- a listing.
-pub record Reports (listing : Rose Own → List Element) (workspace : List Pair) (labels : List LabelParts) (limit : ℕ) (r : Report) : Type 0 where
+-- A report says just what the answer to labels of a workspace is, where each evaluation may use so many ticks.
+pub record Reports (workspace : List Pair) (labels : List LabelParts) (limit : ℕ) (r : Report) : Type 0 where
   pub answer : Answer
   pub answers : IsAnswer workspace limit labels answer
-  pub told : string_bytes r.text ≡ answer_text listing answer
+  pub told : string_bytes r.text ≡ answer_text answer
   pub loud : r.loud ≡ is_loud_answer answer
 
 -- bytes that are those of the answer to labels of a workspace
-pub record AnswersIn (listing : Rose Own → List Element) (workspace : List Pair) (labels : List LabelParts) (limit : ℕ) (bytes : List ℕ) : Type 0 where
+pub record AnswersIn (workspace : List Pair) (labels : List LabelParts) (limit : ℕ) (bytes : List ℕ) : Type 0 where
   pub answer : Answer
   pub answers : IsAnswer workspace limit labels answer
-  pub told : bytes ≡ answer_text listing answer
+  pub told : bytes ≡ answer_text answer
 
 -- more labels are reached than a bound
 pub record IsTooMany (workspace : List Pair) (labels : List LabelParts) (limit bound : ℕ) : Type 0 where

@@ -7,6 +7,7 @@
 
 mod found;
 mod label;
+pub mod laws;
 mod order;
 mod refused;
 mod report;

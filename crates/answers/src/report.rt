@@ -1,9 +1,8 @@
 //! The report on labels of a workspace.
 ghost use Rattle.std.specs.Prelude.{◌≡◌, ◌<◌, List, IfOk, Err, length, map};
-ghost use Rattle.depsets.specs.Listed.{walked};
 ghost use Rattle.std.specs.List.{All};
 ghost use Rattle.workspace.specs.Labels.{LabelParts};
-ghost use Rattle.workspace.specs.Workspaces.{Pair};
+ghost use Rattle.workspace.specs.Workspaces.{IsWorkspace, Pair};
 ghost use Rattle.reporting.specs.Seen.{nodes_seen};
 ghost use Rattle.loader.specs.Loaded.{AreFilesOf};
 ghost use Rattle.graph.specs.Graphs.{IsGraphOf};
@@ -60,9 +59,10 @@ fn told(
 ) -> Result<Report, AllocError>
     requires nodes { found.now.nodes ≡ length graph.now.labels }
     ensures { let w = evaluated targets.now.files targets.now.limit in
-        (workspace : List Pair) (asked : List LabelParts) → AreFilesOf workspace targets.now.files
-        → IsGraphOf (dependencies w) asked graph.now → AreOutcomesOf w graph.now.labels found.now
-        → IfOk result (Reports walked workspace asked targets.now.limit) }
+        (workspace : List Pair) (asked : List LabelParts) → IsWorkspace workspace
+        → AreFilesOf workspace targets.now.files → IsGraphOf (dependencies w) asked graph.now
+        → AreOutcomesOf w graph.now.labels found.now
+        → IfOk result (Reports workspace asked targets.now.limit) }
 {
     let entries = by_label(alloc, graph)?;
     let nodes = nodes_of(alloc, found, &entries)?;
@@ -89,10 +89,12 @@ pub fn report_on<R: Threads + Wait + Sync, G: Gate>(
     gate: &G,
 ) -> Result<Report, NoReport>
     requires workers { (0 < workers) × (workers < 65) }
-    ensures report { IfOk result (Reports walked workspace.now labels.now limit) }
+    ensures report { IfOk result (Reports workspace.now labels.now limit) }
     ensures many { result ≡ Err NoReport.TooMany
         → IsTooMany workspace.now labels.now limit NODE_LIMIT }
 {
+    // The paths of a workspace are legal, so none of them is the text of a label.
+    let _count = workspace.count();
     let files = LoadedFiles::of(alloc, workspace, limit)?;
     let targets = Targets::declare(alloc, files)?;
     let graph = match Graph::of(alloc, &targets, labels, NODE_LIMIT) {

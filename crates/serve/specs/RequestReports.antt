@@ -1,6 +1,5 @@
 -- The report on what words ask for and an input spells.
 use Rattle.std.specs.Prelude.{◌≡◌, ◌⊎◌, ℕ, List}
-use Rattle.depsets.specs.Listed.{walked}
 use Rattle.request.specs.Asked.{Asked}
 use Rattle.request.specs.Input.{Spells}
 use Rattle.workspace.specs.Workspaces.{Pair}
@@ -12,7 +11,7 @@ use Rattle.serve.specs.declared.stops.ServeStop.TheVariants as stop
 
 -- the input spells a workspace, and this is the report on it
 abbrev pub ReportsInput : Asked → List ℕ → Report → Type 0
-ReportsInput a input r = (workspace : List Pair) × Spells input workspace × Reports walked workspace a.labels a.steps r
+ReportsInput a input r = (workspace : List Pair) × Spells input workspace × Reports workspace a.labels a.steps r
 
 -- the input spells a workspace in which more labels are reached than an answer has
 abbrev pub TooManyInput : Asked → List ℕ → Type 0

@@ -2,7 +2,6 @@
 -- (docs/REPORT.md; this project's own choice).
 use Rattle.std.specs.Prelude.{◌≡◌, ◌<◌, ◌⊎◌, ℕ, Bool, List, Option, Some, length}
 use Rattle.std.specs.Io.KnownBytes.{Appends, Consumes, IsAtEnd}
-use Rattle.depsets.specs.Listed.{walked}
 use Rattle.request.specs.Asked.{Asked, asked}
 use Rattle.devices.specs.Devices.{WritesBeginning}
 use Rattle.request.specs.Input.{Spells, input_limit}
@@ -28,14 +27,14 @@ pub record IsAnswered (words : List (List ℕ)) (input : List ℕ) (answer : Ans
 pub record WritesAnswer (words : List (List ℕ)) (input : List ℕ) (old new : Option (List ℕ)) (loud : Bool) : Type 0 where
   pub answer : Answer
   pub answered : IsAnswered words input answer
-  pub written : Appends old new (answer_text walked answer)
+  pub written : Appends old new (answer_text answer)
   pub is_loud : loud ≡ is_loud_answer answer
 
 -- words and input make a request, and a beginning of its answer was written, perhaps none of it and perhaps all
 pub record BeginsAnswer (words : List (List ℕ)) (input : List ℕ) (old new : Option (List ℕ)) : Type 0 where
   pub answer : Answer
   pub answered : IsAnswered words input answer
-  pub written : WritesBeginning old new (answer_text walked answer)
+  pub written : WritesBeginning old new (answer_text answer)
 
 -- words and input make a request, and more labels are reached than an answer has
 pub record AsksTooMany (words : List (List ℕ)) (input : List ℕ) : Type 0 where

@@ -1,7 +1,6 @@
 //! The analysis of a workspace: what becomes of the requested labels, as a report.
 
 ghost use Rattle.std.specs.Prelude.{◌≡◌, ◌↔◌, ◌⊎◌, ◌<◌, IfOk, Err};
-ghost use Rattle.depsets.specs.Listed.{walked};
 ghost use Rattle.answers.specs.Reports.{AnswersIn, IsTooMany};
 
 use crate::stops::AnalyseStop;
@@ -32,7 +31,7 @@ pub fn analyse<R: Threads + Wait + Sync, G: Gate>(
     gate: &G,
 ) -> Result<Vec<u8>, AnalyseStop>
     ensures ok { IfOk result
-        (λ bytes. AnswersIn walked workspace.now labels.now limit bytes.items) }
+        (λ bytes. AnswersIn workspace.now labels.now limit bytes.items) }
     ensures workers { result ≡ Err AnalyseStop.Workers ↔ ((workers < 1) ⊎ (64 < workers)) }
     ensures many { result ≡ Err AnalyseStop.TooMany
         → IsTooMany workspace.now labels.now limit NODE_LIMIT }

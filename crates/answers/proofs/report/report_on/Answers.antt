@@ -1,5 +1,4 @@
 use Rattle.std.proofs.Common.{◌≡◌, ◌∙◌, sym, ap, subst}
-use Rattle.depsets.specs.Listed.{walked}
 use Rattle.loader.specs.Loaded.{AreFilesOf, LoadedView}
 use Rattle.answers.specs.Reports.{Reports}
 use Rattle.answers.proofs.report.report_on.Goals as goal
@@ -11,5 +10,5 @@ returns-clause-report g c =
     let is = c.in-Ok.ensures.graph in
     let are = subst (λ (v : LoadedView). AreFilesOf workspace v.files) (sym c.in_ok-targets.ensures) c.in_ok-files.ensures.files in
     let limit : c.in_ok-targets.targets.limit ≡ c.args.limit = ap (λ (v : LoadedView). v.limit) c.in_ok-targets.ensures ∙ c.in_ok-files.ensures.limit in
-    subst (λ n. Reports walked workspace labels n c.in_ok-told.field-0) limit
-    (c.in_ok-told.ensures workspace labels are is (c.in_ok-found.ensures.outcomes labels is))
+    subst (λ n. Reports workspace labels n c.in_ok-told.field-0) limit
+    (c.in_ok-told.ensures workspace labels c.count-count.ensures.legal are is (c.in_ok-found.ensures.outcomes labels is))
