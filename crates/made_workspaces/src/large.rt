@@ -29,8 +29,8 @@ fn put_layer(
     write!(text, ", [\"l{layer}/BUILD\", \"load('//top:w.bzl', 'w')\\n")?;
     for place in 0..width {
         write!(text, "w(name = 't{place}', deps = [")?;
-        for turn in 0..degree {
-            let other = place.wrapping_add(turn.wrapping_mul(13)) % width;
+        let first = place - place % degree.max(1);
+        for other in first..first.wrapping_add(degree).min(width) {
             write!(text, "'//l{before}:t{other}', ")?;
         }
         text.push_str("])\\n")?;
@@ -38,9 +38,8 @@ fn put_layer(
     text.push_str("\"]")
 }
 
-/// Targets in layers of so many. Each depends on up to `degree` targets of the layer before it: the one in its own place there,
-/// and others 13 places apart. A last target depends on the whole last layer. (A degree above a 13th of the width names a target
-/// twice, which is a fault of its package.)
+/// Targets in layers of so many, in groups of `degree`. Each depends on the targets of its own group in the layer before it, so that
+/// it reaches these groups alone; with a degree of 0 on none. A last target depends on the whole last layer.
 pub fn layered_targets(
     alloc: Global,
     layers: usize,
