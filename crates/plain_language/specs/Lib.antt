@@ -1,0 +1,3 @@
+pub mod Methods
+pub mod Language
+pub mod Laws
