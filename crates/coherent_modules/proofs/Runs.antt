@@ -45,7 +45,7 @@ no_defaults (suc n) s d i = no_defaults n s d i
 
 module _ (owner : Path) (base : List Set) (one : IsOneTree base) (fresh : IsFresh owner base) where
   -- what an evaluation has seen at its beginning is what it was given
-  abbrev first : Seen owner base
+  abbrev pub first : Seen owner base
   first = record { sets = base; one = one; given = λ d i. i; theirs = λ d i. inl i }
 
   -- ---- what stands in a module that was made was seen, and its owner's are numbered
@@ -106,6 +106,18 @@ module _ (owner : Path) (base : List Set) (one : IsOneTree base) (fresh : IsFres
       ended_in = frozen_made (all_frozen s.heap s.globals s.defaults s.ticks) refl
 
   -- ---- a whole evaluation
+  module _ (limit : ℕ) (files : Files) where
+    -- the state of a file before anything was done holds
+    pub begins : (n : ℕ) → StateHolds first (state_of_file limit owner n (program_at files n))
+    begins n = record {
+      owned = refl;
+      numbered = λ d i e. absurd (fresh d i e);
+      heap = λ d i. absurd i;
+      globals = none_bound (length (program_at files n).globals) base;
+      loaded = none_bound (length (program_at files n).globals) base;
+      defaults = no_defaults (length (functions (program_at files n))) base;
+    }
+
   module _ (limit : ℕ) (files : Files) (paths : List Path) {W : Type 0} (own : OfModule W) where
     abbrev nothing : W → List Set
     nothing w = []
@@ -115,21 +127,11 @@ module _ (owner : Path) (base : List Set) (one : IsOneTree base) (fresh : IsFres
     after_in n (Err f) g = tt
     after_in n (Ok r) g = ended_in g.0 r.1.state g.2.state n (program_at files n).globals (own.made r.1.work)
 
-    abbrev start : ℕ → Whole W
+    abbrev pub start : ℕ → Whole W
     start n = record { state = state_of_file limit owner n (program_at files n); work = own.first }
 
-    starts : (n : ℕ) → WholeHolds nothing first (start n)
-    starts n = record {
-      state = record {
-        owned = refl;
-        numbered = λ d i e. absurd (fresh d i e);
-        heap = λ d i. absurd i;
-        globals = none_bound (length (program_at files n).globals) base;
-        loaded = none_bound (length (program_at files n).globals) base;
-        defaults = no_defaults (length (functions (program_at files n))) base;
-      };
-      work = λ d i. absurd i;
-    }
+    pub starts : (n : ℕ) → WholeHolds nothing first (start n)
+    starts n = record { state = begins limit files n; work = λ d i. absurd i }
 
     pub run_in : (known : Known) (n : ℕ) → OperationsKeep owner base nothing
         → LinkedKeeps base (world paths known) → PlaceKeeps owner base nothing (own.place known)

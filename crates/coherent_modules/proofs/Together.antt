@@ -38,7 +38,7 @@ module _ (files : List Pair) (limit : ℕ) {W : Type 0} (own : OfModule W) where
       (coherent : AreCoherent id_of owner_of (handed known))
       (fresh : AreFresh id_of owner_of p (handed known)) where
     -- the depsets of the modules that are handed, as a list
-    abbrev base : List Set
+    abbrev pub base : List Set
     base = in_modules known w.modules
 
     was_handed : (d : Set) → Among d base → handed known d
@@ -47,10 +47,10 @@ module _ (files : List Pair) (limit : ℕ) {W : Type 0} (own : OfModule W) where
     is_listed : (d : Set) → handed known d → Among d base
     is_listed d (q, m, e, i) = module_in known w.modules q m (within q m e) e d (among_tested d (in_module m) i)
 
-    one : IsOneTree base
+    pub one : IsOneTree base
     one a b i j e = coherent a b (was_handed a i) (was_handed b j) e
 
-    none_own : IsFresh p base
+    pub none_own : IsFresh p base
     none_own d i e = fresh d (was_handed d i) e
 
     made : (r : Result Module (Ending Kind)) → IfMadeBy p base one none_own r → IfMade w seen p (handed known) r
@@ -84,7 +84,7 @@ module _ (files : List Pair) (limit : ℕ) {W : Type 0} (own : OfModule W) where
 
   module _ (keep : (owner : Path) (base : List Set) → OperationsKeep owner base nothing)
       (places : (owner : Path) (base : List Set) (known : Known) → PlaceKeeps owner base nothing (own.place known)) where
-    evaluation_runs : RunsWithin w seen
+    pub evaluation_runs : RunsWithin w seen
     evaluation_runs known p n within coherent fresh =
         let b = in_modules known w.modules in
         runs known p within coherent fresh n (keep p b) (places p b known)

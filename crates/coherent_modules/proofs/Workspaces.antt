@@ -29,7 +29,7 @@ module _ (files : List Pair) (limit : ℕ) where
       (λ owner base k. module_keeps owner base (attribute_at k))
 
   -- what stands in some module is what loading sees of all
-  handed : (d : Set) → in_any files limit d
+  pub handed : (d : Set) → in_any files limit d
       → in_known (loads files limit) seen (all_known (loads files limit) seen) d
   handed d i = let m = from_module (known files limit) (paths_of files) d i in (m.0, m.1, m.2, tested_among d (in_module m.1) m.3)
 

@@ -62,28 +62,28 @@ module _ (w : Workspace) (limit : ℕ) (files : Files) (paths : List Path) (know
   module _ (l : LabelParts) (t : Target) (ds : List Dependency) (alike : AreCoherent id_of owner_of (handed w ds)) (fresh : AreFresh id_of owner_of (label_text l) (handed w ds)) where
     -- ---- what it is handed
 
-    abbrev base : List Set
+    abbrev pub base : List Set
     base = w.known ++ in_dependencies ds
 
-    is_handed : (d : Set) → Among d base → handed w ds d
+    pub is_handed : (d : Set) → Among d base → handed w ds d
     is_handed d h = ⊎_elim inl (λ p. inr (of_dependencies ds d p)) (among_cases d w.known (in_dependencies ds) h)
 
     in_base : (d : Set) → handed w ds d → Among d base
     in_base d (inl h) = among_left d w.known (in_dependencies ds) h
     in_base d (inr o) = among_right d w.known (in_dependencies ds) (in_outcomes ds o.0 d o.1 o.2)
 
-    abbrev kept : Kept (Whole Work) Value
+    abbrev pub kept : Kept (Whole Work) Value
     kept = held (label_text l) base in_work
 
     -- ---- the beginning
 
-    abbrev first : Seen (label_text l) base
+    abbrev pub first : Seen (label_text l) base
     first = record { sets = base; one = λ a b p q e. alike a b (is_handed a p) (is_handed b q) e; given = same_in base; theirs = λ d p. inl p }
 
-    abbrev start : Whole Work
+    abbrev pub start : Whole Work
     start = record { state = state_of_target limit l (length paths); work = target_world.first }
 
-    begins : WholeHolds in_work first start
+    pub begins : WholeHolds in_work first start
     begins = record {
       state = record {
         owned = refl;
@@ -98,7 +98,7 @@ module _ (w : Workspace) (limit : ℕ) (files : Files) (paths : List Path) (know
 
     -- ---- each operation on the way
 
-    keeps : EachKeeps kept (language (world paths known) (implementation_place l t ds))
+    pub keeps : EachKeeps kept (language (world paths known) (implementation_place l t ds))
     keeps =
         operations_keep (label_text l) base in_work (world paths known) (implementation_place l t ds)
         (known_keep paths known base (λ q m e d h. among_left d w.known (in_dependencies ds) (all q m e d h)))

@@ -24,7 +24,7 @@ use Rattle.packages.specs.Kept.{Fault, Table, ModuleTold, HasMore, kept_at, IsSo
 use Rattle.packages.proofs.Tables.{first_none}
 
 -- what ends in the segment `BUILD` doesn't end in `.bzl`
-kinds_apart : (path : List ℕ) → is_build_file path ≡ true → is_module path ≡ true → ⊥
+pub kinds_apart : (path : List ℕ) → is_build_file path ≡ true → is_module path ≡ true → ⊥
 kinds_apart path build bzl =
     let k = segment_start path in
     let five : drop k path ≡ codes "BUILD" = (bytes_eq-Decides (drop k path) (codes "BUILD")).0 build in
