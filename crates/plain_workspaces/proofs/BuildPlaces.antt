@@ -1,5 +1,5 @@
 -- What a `BUILD` file declares has no depsets, so its place keeps what holds.
-use Rattle.std.proofs.Common.{◌≡◌, ℕ, List, [], Option, Some, None, Result, Ok, Err}
+use Rattle.std.proofs.Common.{ℕ, List, [], Option, Some, None, Result, Ok, Err}
 use Rattle.std.specs.Prelude.{◌||◌, codes}
 use Rattle.values.specs.Ticking.{Ticking, then_on}
 use Rattle.values.specs.declared.leaf.AttributeKind.{AttributeKind}
@@ -20,7 +20,7 @@ use Rattle.targets.specs.RuleCalls.{given_as, fits, label_from, each_of, value_f
 use Rattle.targets.specs.declared.attributes.AttributeValue.{AttributeValue}
 use Rattle.targets.specs.declared.attributes.Rule.{Rule}
 use Rattle.targets.specs.declared.target.Target.{Target}
-use Rattle.rule_calls.specs.Called.{then_declared, call}
+use Rattle.rule_calls.specs.Called.{then_declared}
 use Rattle.rule_calls.specs.Packages.{Declared}
 use Rattle.file_places.specs.BuildPlace.{giving_none, rule_called, refused_call, refused_method, build_call, build_place}
 use Rattle.file_places.specs.Methods.{declared_kind}
@@ -28,7 +28,7 @@ use Rattle.keeping.specs.Kept.{Gives}
 use Rattle.one_tree.specs.Found.{Set}
 use Rattle.holding.specs.Held.{Seen, IsSeen, StateHolds, After, WholeHolds, held}
 use Rattle.holding.specs.Places.{PlaceKeeps}
-use Rattle.holding.proofs.Steps.{IfGiven, all_given, either, none_in, whatever, with_ticks_after}
+use Rattle.holding.proofs.Steps.{all_given, either, none_in, whatever, with_ticks_after}
 
 module _ (owner : List ℕ) (base : List Set) where
   abbrev nothing : Declared → List Set

@@ -4,24 +4,19 @@ use Rattle.std.specs.List.{flat_map, list_any}
 use Rattle.std.specs.Str.{bytes_eq}
 use Rattle.std.proofs.lemmas.Slice.Eq.{bytes_eq-Decides}
 use Rattle.edges.proofs.Tests.{either}
-use Rattle.depsets.specs.Flat.{Among}
 use Rattle.lexer.specs.declared.fault.FaultKind.{FaultKind}
 use Rattle.values.specs.declared.ticks.Kind.{Kind}
 use Rattle.workspace.specs.FileKinds.{is_build_file, is_module}
 use Rattle.workspace.specs.Workspaces.{Pair, paths_of}
 use Rattle.coherence.specs.Coherent.{AreCoherent, AreFresh}
-use Rattle.one_tree.specs.Found.{Set}
 use Rattle.one_tree.specs.Sets.{IsOneTree, IsFresh}
 use Rattle.loading.specs.Loads.{Path, LoadFault, Read, loads_fault}
 use Rattle.loading.specs.Modules.{Sources, value, any_module, file, build_ended, build_linked, built}
 use Rattle.loading.specs.Together.{in_known}
 use Rattle.loading.specs.declared.faults.Placed.{Placed}
 use Rattle.modules.specs.Modules.{fault_in}
-use Rattle.modules.specs.declared.sorting.FileFault.{FileFault}
 use Rattle.targets.specs.declared.target.Target.{Target}
 use Rattle.outcomes.specs.Found.{id_of, owner_of}
-use Rattle.declarations.specs.declared.table.Declarations.{Declarations}
-use Rattle.rule_calls.specs.Packages.{Declared}
 use Rattle.evaluation.specs.declared.handed.Module.{Module}
 use Rattle.evaluation.specs.Evaluated.{Known}
 use Rattle.evaluation.specs.Runs.{module_after, targets_after, program_at, state_of_file}
@@ -42,7 +37,7 @@ use Rattle.coherent_modules.proofs.Together.{base, one, none_own, evaluation_run
 use Rattle.coherent_modules.proofs.Within.{AreModules, RunsWithin}
 use Rattle.coherent_modules.proofs.Workspaces.{modules_are_coherent, in_any_is_coherent, handed, none_is_given}
 use Rattle.plain_language.proofs.Agreeing.{top_levels_are_plain}
-use Rattle.plain_workspaces.specs.Files.{loads, known, build_at, fault_at, faults}
+use Rattle.plain_workspaces.specs.Files.{loads, build_at, fault_at}
 use Rattle.plain_workspaces.specs.Laws.{ModulesAreTheSame, FaultsAreTheSame}
 use Rattle.plain_workspaces.specs.Runs.{run_module, run_build}
 use Rattle.plain_workspaces.proofs.BuildPlaces.{build_keeps}

@@ -1,12 +1,10 @@
 -- What becomes of labels is the same by plain listings.
-use Rattle.std.proofs.Common.{◌≡◌, ◌∙◌, ◌⊎◌, inl, inr, ⊎_elim, ℕ, List, [], ◌∷◌, length, map, Option, Some, None, Result, Contains, ap, arith, refl, subst}
-use Rattle.edges.specs.Walks.{Cyclic}
+use Rattle.std.proofs.Common.{◌≡◌, ◌∙◌, inl, inr, ⊎_elim, ℕ, List, [], ◌∷◌, length, map, Option, Some, None, Result, Contains, ap, arith, refl, subst}
 use Rattle.edges.proofs.Outcomes.{outcomes_alone}
-use Rattle.coherence.specs.Coherent.{Depsets}
-use Rattle.coherence.specs.Together.{Graph, among}
+use Rattle.coherence.specs.Together.{among}
 use Rattle.one_tree.specs.Found.{Set}
 use Rattle.workspace.specs.Labels.{LabelParts}
-use Rattle.workspace.specs.Workspaces.{IsWorkspace, Pair, paths_of}
+use Rattle.workspace.specs.Workspaces.{Pair, paths_of}
 use Rattle.targets.specs.Checks.{Dependency, first_refused}
 use Rattle.targets.specs.RuleCalls.{same_label}
 use Rattle.targets.specs.Resolving.{Named, target, source_file, failed_package, nothing, named, needs}
@@ -17,10 +15,9 @@ use Rattle.targets.specs.declared.outcome.TargetFault.{TargetFault}
 use Rattle.targets.specs.declared.target.Target.{Target}
 use Rattle.targets.proofs.Facts.{none_in, head_in, tail_in, in_split, same_label-decides}
 use Rattle.targets.proofs.NamedTargets.{is_named}
-use Rattle.outcomes.specs.Workspaces.{Workspace, AllAreListed, IsSound, ImplementsWell, handed, dependencies, declared, cycle_of, step_of, outcome_of, graph}
+use Rattle.outcomes.specs.Workspaces.{Workspace, IsSound, ImplementsWell, handed, dependencies, declared, cycle_of, step_of, outcome_of, graph}
 use Rattle.outcomes.proofs.Finite.{finite}
 use Rattle.outcomes.proofs.Together.{are_outcomes, outcomes_fit}
-use Rattle.loader.specs.Loaded.{AreFilesOf}
 use Rattle.coherent_modules.specs.Found.{in_modules}
 use Rattle.packages.specs.Packages.{packages}
 use Rattle.plain_workspaces.specs.Laws.{DependenciesAreTheSame, OutcomesAreTheSame}

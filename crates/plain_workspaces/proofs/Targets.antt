@@ -1,5 +1,5 @@
 -- The call of an implementation comes to the same by plain listings, wherever what it is handed is coherent and fresh for its label.
-use Rattle.std.proofs.Common.{◌≡◌, ◌∙◌, ℕ, List, length, Result, Ok, Err, ap, refl}
+use Rattle.std.proofs.Common.{◌≡◌, ◌∙◌, ℕ, List, Ok, Err, ap, refl}
 use Rattle.meaning.specs.Calls.{function_meaning}
 use Rattle.meaning.specs.Functions.{Files}
 use Rattle.meaning.specs.Operations.{FunctionId, Arguments}

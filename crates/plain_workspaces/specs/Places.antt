@@ -1,6 +1,6 @@
 -- What an implementation has while it runs, where `ctx.files` lists depsets plainly (Bazel documentation, "ctx"). All else is as
 -- `implementations` has it.
-use Rattle.std.specs.Prelude.{ℕ, List, [], Option, Some, None, Result, Ok, Err, slice_get}
+use Rattle.std.specs.Prelude.{ℕ, List, [], Option, Some, None, Result, Err, slice_get}
 use Rattle.std.specs.List.{flat_map}
 use Rattle.depsets.specs.Listed.{flat}
 use Rattle.depsets.specs.Own.{Own}
