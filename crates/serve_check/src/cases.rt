@@ -44,20 +44,40 @@ fn byte_of(item: &Value) -> Option<u8> {
     }
 }
 
-/// The bytes of a string, or of an array of numbers.
+/// Appends a part of an input, a byte or a text with the number of times that it stands there; false where it is neither.
+fn put_part(bytes: &mut Vec<u8>, part: &Value) -> Result<bool, AllocError> {
+    if let Some(byte) = byte_of(part) {
+        bytes.push(byte)?;
+        return Ok(true);
+    }
+    let Some(pair) = part.as_array() else {
+        return Ok(false);
+    };
+    let [text, times] = pair.as_slice() else {
+        return Ok(false);
+    };
+    let (Some(text), Some(times)) = (text.as_str(), times.as_u64()) else {
+        return Ok(false);
+    };
+    for _ in 0..times {
+        bytes.extend_from_slice(text.as_bytes())?;
+    }
+    Ok(true)
+}
+
+/// The bytes of a string, or of an array of parts.
 fn bytes_of(alloc: Global, item: &Value) -> Result<Option<Vec<u8>>, AllocError> {
     if let Some(text) = item.as_str() {
         return Ok(Some(Vec::from_slice(alloc, text.as_bytes())?));
     }
-    let Some(items) = item.as_array() else {
+    let Some(parts) = item.as_array() else {
         return Ok(None);
     };
     let mut bytes = Vec::new(alloc);
-    for item in items {
-        let Some(byte) = byte_of(item) else {
+    for part in parts {
+        if !put_part(&mut bytes, part)? {
             return Ok(None);
-        };
-        bytes.push(byte)?;
+        }
     }
     Ok(Some(bytes))
 }

@@ -1,10 +1,10 @@
 //! Serves stored requests, and compares what comes with what is wanted.
 //!
 //! Standard input is a JSON array of cases. A case is an array of six: its name; the words of the command line after the
-//! program's name; the input, as a text or, where it is none, as an array of bytes; the report that is wanted; the exit status;
-//! and the line on standard error without its newline, empty where there is none. Each request is served over memory as its words
-//! stand, and then, where its words aren't to be refused, by 1, 2 and 64 workers. For a case whose answer differs from what is
-//! wanted a line tells `NAME: WHAT --workers=N`, or `NAME: WHAT` for the words as they stand, where WHAT is `report`, `status` or
+//! program's name; the input, as a text or, where it is long or none, as an array of parts, which are bytes and pairs of a text with
+//! the number of times that it stands there; the report that is wanted; the exit status; and the line on standard error without its
+//! newline, empty where there is none. Each request is served over memory as its words stand, and then, where its words aren't to be
+//! refused, by 1, 2 and 64 workers. For a case whose answer differs from what is wanted a line tells `NAME: WHAT --workers=N`, or `NAME: WHAT` for the words as they stand, where WHAT is `report`, `status` or
 //! `line`; and in the end `N of M cases agree`. The status is 0 where all agree, else 1, also where the input isn't of this form.
 #![tactic(auto)]
 
