@@ -1,17 +1,18 @@
 //! Whole requests over memory, on made workspaces: whether they are answered the same by any number of workers, and how long they
 //! take.
 //!
-//! Without a word it serves [`FEW`] random workspaces by 1 and by 8 workers, and prints for how many the two reports are the same,
-//! which never changes; with `same N`, that many. With `time` it prints, for large workspaces and for 1, 2 and 4 workers, the wall
-//! and the processor time of a request in milliseconds, from the bytes of the input to those of the report, and the report's
-//! length. `plain N`, `layers N WIDTH DEGREE` and `random SEED` print a workspace, as `bzlan` reads it. The status is 1 where two
-//! reports differ or the words are others.
+//! Without a word it serves [`FEW`] random workspaces by 1 and by 8 workers, with a deque each and at one queue, and prints for how
+//! many the reports are the same, which never changes; with `same N`, that many. With `time` it prints, for made workspaces, the wall
+//! and the processor time of a request in milliseconds, from the bytes of the input to those of the report, and the report's length;
+//! with `time NAME`, for that one alone. `plain N`, `layers N WIDTH DEGREE`, `chain N` and `random SEED` print a workspace, as `bzlan`
+//! reads it. The status is 1 where reports differ or the words are others.
 #![tactic(auto)]
 
 mod requests;
 mod timing;
+mod workloads;
 
-use made_workspaces::{layered_targets, plain_targets, random_workspace};
+use made_workspaces::{chained_modules, layered_targets, plain_targets, random_workspace};
 use requests::count_same;
 use std::alloc::{AllocError, Global};
 use std::process::ExitCode;
@@ -20,7 +21,7 @@ use std::sync::Wait;
 use std::thread::Threads;
 use std::time::CpuClock;
 use std::{env, io};
-use timing::time_workspaces;
+use timing::time_workloads;
 
 /// How many random workspaces are served where no number is given.
 const FEW: u64 = 300;
@@ -40,6 +41,10 @@ fn workspace(alloc: Global, words: &[&str]) -> Result<Option<String>, AllocError
                 _ => return Ok(None),
             }
         }
+        ["chain", count] => match count.parse() {
+            Ok(count) => chained_modules(alloc, count, false)?,
+            Err(_) => return Ok(None),
+        },
         ["random", seed] => match seed.parse() {
             Ok(seed) => random_workspace(alloc, seed)?,
             Err(_) => return Ok(None),
@@ -52,7 +57,9 @@ fn workspace(alloc: Global, words: &[&str]) -> Result<Option<String>, AllocError
 /// Serves so many random workspaces, prints for how many the reports are the same, and says whether for all.
 fn check<R: Print + Threads + Wait + Sync>(rt: &R, alloc: Global, count: u64) -> io::Result<bool> {
     let same = count_same(rt, alloc, count)?;
-    println!(rt; "{same} of {count} workspaces have the same report by 1 and 8 workers")?;
+    println!(rt;
+        "{same} of {count} workspaces have the same report by 1 and 8 workers and at either shelf"
+    )?;
     Ok(same == count)
 }
 
@@ -68,10 +75,8 @@ fn run<R: Print + Clock + CpuClock + Threads + Wait + Sync>(
             Ok(count) => check(rt, alloc, count),
             Err(_) => Ok(false),
         },
-        ["time"] => {
-            time_workspaces(rt, alloc)?;
-            Ok(true)
-        }
+        ["time"] => time_workloads(rt, alloc, None),
+        ["time", name] => time_workloads(rt, alloc, Some(name)),
         _ => match workspace(alloc, words)? {
             Some(made) => {
                 println!(rt; "{made}")?;

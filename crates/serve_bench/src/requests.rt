@@ -1,18 +1,27 @@
 //! Requests over memory.
 
+use answers::{OneQueue, Team, report_on_shelf};
 use fakes::tapes::{Failing, Page, Tape};
 use made_workspaces::random_workspace;
-use pool::NoGate;
+use pool::{LockShelf, NoGate};
+use reporting::Report;
+use request::read_workspace;
 use serve::{ServeStop, serve};
 use std::alloc::{AllocError, Global};
 use std::sync::Wait;
 use std::thread::Threads;
+use workspace::Label;
 
 /// How many bytes a call reads or writes at most.
 const PIECE: usize = 65_536;
 
 /// The label that reaches every target of a made workspace.
 const ALL: &str = "//top:all";
+
+/// How many ticks an evaluation may use, and the word that asks for them.
+const STEPS: u64 = 1_000_000_000;
+
+const STEPS_WORD: &str = "--steps=1000000000";
 
 /// What came of a request.
 #[derive(Drop)]
@@ -30,7 +39,7 @@ pub fn request<R: Threads + Wait + Sync>(
     input: &str,
     workers: &str,
 ) -> Served {
-    let words = ["bzlan", "--steps=1000000000", workers, ALL];
+    let words = ["bzlan", STEPS_WORD, workers, ALL];
     let mut tape = Tape::new(input.as_bytes(), PIECE, None);
     let mut page = Page::new(alloc, PIECE, None, Failing::Interrupted);
     let ending = serve(rt, alloc, &mut tape, &mut page, &words, &NoGate);
@@ -40,12 +49,42 @@ pub fn request<R: Threads + Wait + Sync>(
     }
 }
 
-/// Whether a random workspace has the same report by 1 and by 8 workers.
+/// The report on all targets of a workspace, by 8 workers at one queue; `None` where there is none.
+fn at_one_queue<R: Threads + Wait + Sync>(
+    rt: &R,
+    alloc: Global,
+    input: String,
+) -> Result<Option<Report>, AllocError> {
+    let Ok(workspace) = read_workspace(alloc, input.into_bytes()) else {
+        return Ok(None);
+    };
+    let Ok(label) = Label::read(alloc, ALL, None) else {
+        return Ok(None);
+    };
+    let mut labels = Vec::new(alloc);
+    labels.push(label)?;
+    let team = Team {
+        workers: 8,
+        shelving: &OneQueue { rt },
+        gate: &NoGate,
+    };
+    let labels = labels.as_slice();
+    let report = report_on_shelf::<R, LockShelf<'_, R>, OneQueue<'_, R>, NoGate>(
+        rt, alloc, &workspace, labels, STEPS, &team,
+    );
+    Ok(report.ok())
+}
+
+/// Whether a random workspace has the same report by 1 and by 8 workers with a deque each, and by 8 at one queue.
 fn is_same<R: Threads + Wait + Sync>(rt: &R, alloc: Global, seed: u64) -> Result<bool, AllocError> {
     let input = random_workspace(alloc, seed)?;
     let one = request(rt, alloc, input.as_str(), "--workers=1");
     let eight = request(rt, alloc, input.as_str(), "--workers=8");
-    Ok(one.ending.is_ok() && one.ending == eight.ending && one.report == eight.report)
+    let Some(queued) = at_one_queue(rt, alloc, input)? else {
+        return Ok(false);
+    };
+    let are_same = one.report == eight.report && one.report.as_slice() == queued.text.as_bytes();
+    Ok(one.ending.is_ok() && one.ending == eight.ending && are_same)
 }
 
 /// For how many random workspaces that is so, of the first so many.

@@ -1,7 +1,7 @@
 //! How long requests take.
 
 use crate::requests::request;
-use made_workspaces::{chained_modules, layered_modules, layered_targets, plain_targets};
+use crate::workloads::{Workload, all};
 use std::alloc::Global;
 use std::io;
 use std::rt::Clock;
@@ -11,12 +11,6 @@ use std::time::{CpuClock, Instant};
 
 /// The numbers of workers, as words ask for them.
 const WORKERS: [&str; 3] = ["--workers=1", "--workers=2", "--workers=4"];
-
-/// How many targets a target depends on.
-const DEGREES: [(&str, usize); 3] = [("none", 0), ("two", 2), ("forty", 40)];
-
-/// Whether the last module of a chain loads the first.
-const CHAINS: [(&str, bool); 2] = [("chain", false), ("cycle", true)];
 
 /// How many times each request is served; the best time counts.
 const ROUNDS: usize = 3;
@@ -36,51 +30,57 @@ fn time_once<R: Clock + CpuClock + Threads + Wait + Sync>(
     Ok((wall, used, served.report.len()))
 }
 
-/// Prints the best times of a workspace, by each number of workers.
-fn time_workspace<R: Print + Clock + CpuClock + Threads + Wait + Sync>(
+/// Prints the best times of a workspace by so many workers.
+fn time_workers<R: Print + Clock + CpuClock + Threads + Wait + Sync>(
     rt: &R,
     alloc: Global,
-    name: &str,
+    workload: Workload,
     input: &str,
+    workers: &str,
 ) -> io::Result<()> {
-    for workers in WORKERS {
-        let mut best = time_once(rt, alloc, input, workers)?;
-        for _ in 1..ROUNDS {
-            best = best.min(time_once(rt, alloc, input, workers)?);
-        }
-        let (wall, used, length) = best;
-        println!(rt;
-            "{name} {workers}: {} ms, {} ms of processors, a report of {length} bytes",
-            wall / 1000,
-            used / 1000
-        )?;
+    let mut best = time_once(rt, alloc, input, workers)?;
+    for _ in 1..ROUNDS {
+        best = best.min(time_once(rt, alloc, input, workers)?);
+    }
+    let (wall, used, length) = best;
+    println!(rt;
+        "{workload} {workers}: {} ms, {} ms of processors, a report of {length} bytes",
+        wall / 1000,
+        used / 1000
+    )
+}
+
+/// Prints the best times of a workspace: by each number of workers where it has many targets, and else by one.
+fn time_workload<R: Print + Clock + CpuClock + Threads + Wait + Sync>(
+    rt: &R,
+    alloc: Global,
+    workload: Workload,
+) -> io::Result<()> {
+    let input = workload.input(alloc)?;
+    let most = if workload.has_many_targets() {
+        WORKERS.len()
+    } else {
+        1
+    };
+    for workers in WORKERS.iter().take(most) {
+        time_workers(rt, alloc, workload, input.as_str(), workers)?;
     }
     Ok(())
 }
 
-/// Prints the times of large workspaces: 65,535 targets that depend on nothing and one on all of them; 20,000 targets in 40 layers,
-/// each of which depends on four, with one above; 20,000 targets in 20 layers that depend on none, on two and on 40; 10,000 modules
-/// in 10 layers with 90,000 loads; and a chain and a cycle of 100,000 modules.
-pub fn time_workspaces<R: Print + Clock + CpuClock + Threads + Wait + Sync>(
+/// Prints the times of the workspaces of this name, or of all where there is none, and says whether there was any.
+pub fn time_workloads<R: Print + Clock + CpuClock + Threads + Wait + Sync>(
     rt: &R,
     alloc: Global,
-) -> io::Result<()> {
-    let plain = plain_targets(alloc, 65_535)?;
-    time_workspace(rt, alloc, "plain", plain.as_str())?;
-    drop(plain);
-    let layers = layered_targets(alloc, 40, 500, 4)?;
-    time_workspace(rt, alloc, "layers", layers.as_str())?;
-    drop(layers);
-    for (name, degree) in DEGREES {
-        let targets = layered_targets(alloc, 20, 1_000, degree)?;
-        time_workspace(rt, alloc, name, targets.as_str())?;
+    name: Option<&str>,
+) -> io::Result<bool> {
+    let mut is_any = false;
+    for workload in all(alloc)? {
+        let own = format!(in alloc; "{workload}")?;
+        if name.is_none_or(|name| name == own.as_str()) {
+            time_workload(rt, alloc, workload)?;
+            is_any = true;
+        }
     }
-    let modules = layered_modules(alloc, 10, 1_000, 10)?;
-    time_workspace(rt, alloc, "modules", modules.as_str())?;
-    drop(modules);
-    for (name, closes) in CHAINS {
-        let chain = chained_modules(alloc, 100_000, closes)?;
-        time_workspace(rt, alloc, name, chain.as_str())?;
-    }
-    Ok(())
+    Ok(is_any)
 }
