@@ -1,2 +1,4 @@
+pub mod Crossing
 pub mod Fields
+pub mod Parts
 pub mod Taken

@@ -9,7 +9,7 @@ use Rattle.actions.specs.declared.action.Owned.{Owned}
 use Rattle.actions.proofs.ClaimLemmas.{all_in_order-append}
 use Rattle.reporting.specs.Answers.{node_actions, owned_actions}
 use Rattle.reporting.specs.Seen.{node_seen, nodes_seen}
-use Rattle.reporting.specs.declared.made.Node.{Node}
+use Rattle.reporting.specs.declared.node_lines.Node.{Node}
 
 pub taken_after : (t : Taken) (os ps : List Owned) → with_actions t (os ++ ps) ≡ with_actions (with_actions t os) ps
 taken_after t [] ps = refl

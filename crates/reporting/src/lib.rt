@@ -9,11 +9,13 @@ mod conflict_lines;
 mod fault_texts;
 mod load_lines;
 mod made;
+mod node_lines;
 mod outcome_lines;
 mod provider_lines;
 mod strings_in;
 
 pub use conflict_lines::put_conflict;
 pub use load_lines::put_load_fault;
-pub use made::{Node, Report, make_report};
+pub use made::{Report, make_report};
+pub use node_lines::Node;
 pub use outcome_lines::put_outcome;

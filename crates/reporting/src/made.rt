@@ -12,22 +12,15 @@ ghost use Rattle.reporting.specs.Seen.{node_seen, nodes_seen};
 
 use crate::conflict_lines::put_conflict;
 use crate::load_lines::put_load_fault;
-use crate::outcome_lines::put_outcome;
+use crate::node_lines::{Node, put_by_threads};
 use actions::{Action, Claims, Conflict};
 use lexer::FaultKind;
 use modules::FileFault;
 use plain::Text;
 use std::alloc::{AllocError, Global};
+use std::thread::Threads;
 use targets::Outcome;
 use values::Kind;
-use workspace::Label;
-
-/// A label, and what becomes of it.
-#[derive(Clone, Copy)]
-pub struct Node<'a> {
-    pub label: &'a Label,
-    pub outcome: &'a Outcome,
-}
 
 /// The text of a report, and whether it is loud: whether it tells of a file that failed, a target that failed or a conflict.
 #[derive(Drop)]
@@ -43,25 +36,6 @@ fn put_faults(out: &mut String, faults: &[FileFault<FaultKind, Kind>]) -> Result
 {
     for fault in faults {
         put_load_fault(out, &fault.path, &fault.fault)?;
-    }
-    Ok(())
-}
-
-/// Appends the lines of a node.
-fn put_node(alloc: Global, out: &mut String, node: &Node<'_>) -> Result<(), AllocError>
-    ensures { OnOk result (string_bytes out.new
-        ≡ string_bytes out.old ++ node_text walked (node_seen node.now)) }
-{
-    put_outcome(alloc, out, node.label, node.outcome)
-}
-
-/// Appends the lines of nodes.
-fn put_nodes(alloc: Global, out: &mut String, nodes: &[Node<'_>]) -> Result<(), AllocError>
-    ensures { OnOk result (string_bytes out.new
-        ≡ string_bytes out.old ++ flat_map (node_text walked) (nodes_seen nodes.now)) }
-{
-    for node in nodes {
-        put_node(alloc, out, node)?;
     }
     Ok(())
 }
@@ -169,22 +143,25 @@ fn has_failed(nodes: &[Node<'_>]) -> bool
 /// The report of files that failed and of nodes, both in the order in which they are to stand.
 ///
 /// It takes time linear in its length, and n log n comparisons of paths for n outputs of actions; no action and no value is
-/// copied.
+/// copied. The lines of many nodes are written by so many threads at most, which have ended when this returns; what they are
+/// depends on none of them.
 ///
 /// # Errors
 ///
 /// `AllocError` where memory for the text, for a listing or for the claims of actions was refused.
-pub fn make_report(
+pub fn make_report<R: Threads + Sync>(
+    rt: &R,
     alloc: Global,
     faults: &[FileFault<FaultKind, Kind>],
     nodes: &[Node<'_>],
+    threads: usize,
 ) -> Result<Report, AllocError>
     ensures text { IfOk result
         (λ r. string_bytes r.text ≡ report_text walked faults.now (nodes_seen nodes.now)) }
     ensures loud { IfOk result (λ r. r.loud ≡ is_loud faults.now (nodes_seen nodes.now)) }
 {
     let conflicts = conflicts_of(alloc, nodes)?;
-    let text = lines(alloc, faults, nodes, &conflicts)?;
+    let text = lines(rt, alloc, faults, nodes, &conflicts, threads)?;
     let loud = is_loud(faults, nodes, &conflicts);
     Ok(Report { text, loud })
 }
@@ -202,11 +179,13 @@ fn is_loud(
 }
 
 /// All lines.
-fn lines(
+fn lines<R: Threads + Sync>(
+    rt: &R,
     alloc: Global,
     faults: &[FileFault<FaultKind, Kind>],
     nodes: &[Node<'_>],
     conflicts: &[Conflict],
+    threads: usize,
 ) -> Result<String, AllocError>
     ensures { IfOk result (λ text. string_bytes text ≡ flat_map file_line faults.now
         ++ (flat_map (node_text walked) (nodes_seen nodes.now)
@@ -214,7 +193,7 @@ fn lines(
 {
     let mut out = String::new(alloc);
     put_faults(&mut out, faults)?;
-    put_nodes(alloc, &mut out, nodes)?;
+    put_by_threads(rt, alloc, &mut out, nodes, threads)?;
     put_conflicts(&mut out, conflicts)?;
     Ok(out)
 }
