@@ -6,6 +6,8 @@ mod asked;
 #[cfg(test)]
 mod failing;
 #[cfg(test)]
+mod many;
+#[cfg(test)]
 mod reports;
 #[cfg(test)]
 mod requests;
