@@ -1,6 +1,5 @@
 pub mod Crossing
 pub mod Ordered
 pub mod Labelled
-pub mod Sound
 pub mod Plainly
 pub mod Told

@@ -7,18 +7,22 @@ use Rattle.values.specs.declared.ticks.Kind.{Kind}
 use Rattle.modules.specs.declared.sorting.FileFault.{FileFault}
 use Rattle.reporting.specs.declared.made.Report.{Report}
 use Rattle.loader.specs.Loaded.{AreFilesOf}
-use Rattle.answers.specs.Reports.{Reports}
+use Rattle.answers.specs.Reports.{IsTooMany, Reports}
 use Rattle.std.proofs.lemmas.List.Elements.{All-map}
 use Rattle.actions.specs.Clashes.{AreAscending}
 use Rattle.workspace.specs.Labels.{LabelParts, label_text}
 use Rattle.workspace.specs.Workspaces.{IsWorkspace, Pair}
 use Rattle.graph.specs.Graphs.{GraphView, IsGraphOf}
+use Rattle.graph.specs.Reached.{IsReached, TooManyReached}
+use Rattle.graph.specs.Same.{same_label}
 use Rattle.targets.specs.declared.outcome.Outcome.{Outcome}
 use Rattle.outcomes.specs.Workspaces.{Workspace, dependencies, outcome_of}
 use Rattle.pool.specs.Gathered.{GatheredView, outcome_in}
 use Rattle.reporting.specs.Answers.{Node, is_loud, report_text}
 use Rattle.loader.specs.Files.{faults}
-use Rattle.answers.specs.Outcomes.{evaluated}
+use Rattle.plain_workspaces.specs.Workspaces.{evaluated}
+use Rattle.plain_workspaces.proofs.Files.{faults_same}
+use Rattle.plain_workspaces.proofs.Outcomes.{dependencies_same, outcomes_same}
 use Rattle.answers.specs.Answers.{Answer, IsAnswerOf}
 use Rattle.answers.specs.Ordered.{Entry, AreInOrder}
 use Rattle.answers.specs.Nodes.{AreOutcomesOf, node_of, nodes_of}
@@ -33,30 +37,52 @@ module _ (files : List Pair) (limit : ℕ) (asked : List LabelParts) (g : GraphV
   texts_told : map (λ (n : Node). label_text n.label) (nodes_of r es) ≡ map (λ (e : Entry). label_text e.0) es
   texts_told = map_twice (node_of r) (λ (n : Node). label_text n.label) es
 
-  abbrev pub answer : Answer
-  answer = record { faults = faults files limit; nodes = nodes_of r es }
+  labels_are : (l : LabelParts) → Contains (map (λ (n : Node). n.label) (nodes_of r es)) l ↔ IsReached (dependencies (evaluated files limit)) asked l
+  labels_are l = (
+    λ h. (is.nodes.all l).0 ((order.all l).0 (subst (λ ls. Contains ls l) labels_told h)),
+    λ h. subst (λ ls. Contains ls l) (sym labels_told) ((order.all l).1 ((is.nodes.all l).1 h)),
+  )
 
-  pub answers : IsAnswerOf files limit asked (record { faults = faults files limit; nodes = nodes_of r es })
-  answers = record {
-    faults = refl;
-    reached = λ l. (
-      λ h. (is.nodes.all l).0 ((order.all l).0 (subst (λ ls. Contains ls l) labels_told h)),
-      λ h. subst (λ ls. Contains ls l) (sym labels_told) ((order.all l).1 ((is.nodes.all l).1 h)),
-    );
-    ordered = subst AreAscending (sym texts_told) order.ordered;
-    outcomes =
-        All-map (λ (n : Node). n.outcome ≡ outcome_of (evaluated files limit) n.label) (node_of r) es
-        (λ k d low. let at = order.numbered k d low in found _ at.0 ∙ ap (outcome_of (evaluated files limit)) at.1);
-  }
+  outcomes_are : All (λ (n : Node). n.outcome ≡ outcome_of (evaluated files limit) n.label) (nodes_of r es)
+  outcomes_are =
+      All-map (λ (n : Node). n.outcome ≡ outcome_of (evaluated files limit) n.label) (node_of r) es
+      (λ k d low. let at = order.numbered k d low in found _ at.0 ∙ ap (outcome_of (evaluated files limit)) at.1)
 
-  pub reports : {E : Type 0} (workspace : List Pair) (fs : List (FileFault FaultKind Kind)) (ns : List Node) (result : Result Report E) → IsWorkspace workspace → AreFilesOf workspace files → fs ≡ faults files limit → ns ≡ nodes_of r es
-      → IfOk result (λ m. string_bytes m.text ≡ report_text walked fs ns) → IfOk result (λ m. m.loud ≡ is_loud fs ns) → IfOk result (Reports workspace asked limit)
-  reports workspace fs ns (Err e) legal are ef en t l = t
-  reports workspace fs ns (Ok m) legal are ef en t l = record {
-    answer = record { faults = faults files limit; nodes = nodes_of r es };
-    answers = record { files = files; are_files = are; answers = answers };
-    told =
-        t ∙ ap (λ f. report_text walked f ns) ef ∙ ap (report_text walked (faults files limit)) en
-        ∙ told_plainly workspace files limit asked (record { faults = faults files limit; nodes = nodes_of r es }) legal are answers;
-    loud = l ∙ ap (λ f. is_loud f ns) ef ∙ ap (is_loud (faults files limit)) en;
-  }
+  module _ (workspace : List Pair) (legal : IsWorkspace workspace) (are : AreFilesOf workspace files) where
+    abbrev answer : Answer
+    answer = record { faults = faults files limit; nodes = nodes_of r es }
+
+    -- what was found is the answer by plain listings
+    answers : IsAnswerOf files limit asked answer
+    answers = record {
+      faults = faults_same files limit;
+      reached =
+          subst (λ (deps : LabelParts → List LabelParts). (l : LabelParts) → Contains (map (λ (n : Node). n.label) (nodes_of r es)) l ↔ IsReached deps asked l)
+          (dependencies_same files limit) labels_are;
+      ordered = subst AreAscending (sym texts_told) order.ordered;
+      outcomes =
+          subst (λ (out : LabelParts → Outcome). All (λ (n : Node). n.outcome ≡ out n.label) (nodes_of r es))
+          (outcomes_same files limit workspace legal are) outcomes_are;
+    }
+
+    pub reports : {E : Type 0} (fs : List (FileFault FaultKind Kind)) (ns : List Node) (result : Result Report E) → fs ≡ faults files limit → ns ≡ nodes_of r es
+        → IfOk result (λ m. string_bytes m.text ≡ report_text walked fs ns) → IfOk result (λ m. m.loud ≡ is_loud fs ns) → IfOk result (Reports workspace asked limit)
+    reports fs ns (Err e) ef en t l = t
+    reports fs ns (Ok m) ef en t l = record {
+      answer = answer;
+      answers = record { files = files; are_files = are; answers = answers };
+      told =
+          t ∙ ap (λ f. report_text walked f ns) ef ∙ ap (report_text walked (faults files limit)) en
+          ∙ told_plainly workspace files limit legal are (faults files limit) (nodes_of r es) outcomes_are;
+      loud = l ∙ ap (λ f. is_loud f ns) ef ∙ ap (is_loud (faults files limit)) en;
+    }
+
+-- too many labels are reached by plain listings, where they are as the code lists
+pub too_many : (workspace files : List Pair) (limit : ℕ) (asked : List LabelParts) (bound : ℕ) → AreFilesOf workspace files
+    → TooManyReached (dependencies (evaluated files limit)) asked same_label bound → IsTooMany workspace asked limit bound
+too_many workspace files limit asked bound are many = record {
+  files = files;
+  are_files = are;
+  many =
+      subst (λ (deps : LabelParts → List LabelParts). TooManyReached deps asked same_label bound) (dependencies_same files limit) many;
+}

@@ -10,9 +10,9 @@ use Rattle.modules.specs.declared.sorting.FileFault.{FileFault}
 use Rattle.graph.specs.Reached.{IsReached}
 use Rattle.outcomes.specs.Workspaces.{dependencies, outcome_of}
 use Rattle.reporting.specs.Answers.{Node, report_text, is_loud}
-use Rattle.loader.specs.Files.{faults}
 use Rattle.loader.specs.Loaded.{AreFilesOf}
-use Rattle.answers.specs.Outcomes.{evaluated}
+use Rattle.plain_workspaces.specs.Files.{faults}
+use Rattle.plain_workspaces.specs.Workspaces.{plain_workspace}
 
 -- the files that fail, and the labels that are reached, each with what becomes of it
 pub record Answer : Type 0 where
@@ -30,11 +30,12 @@ answer_text a = report_text flat a.faults a.nodes
 
 -- The answer to these labels: of the files of a workspace, in ascending order of their paths, where each evaluation may use so
 -- many ticks. All files that fail, by path; each label that is reached, once and in the order of their texts, with what becomes of it.
+-- Wherever Starlark code lists a depset, by `to_list()` or `ctx.files`, it gets the same plain listing.
 pub record IsAnswerOf (files : List Pair) (limit : ℕ) (labels : List LabelParts) (a : Answer) : Type 0 where
   pub faults : a.faults ≡ faults files limit
-  pub reached : (l : LabelParts) → Contains (map (λ n. n.label) a.nodes) l ↔ IsReached (dependencies (evaluated files limit)) labels l
+  pub reached : (l : LabelParts) → Contains (map (λ n. n.label) a.nodes) l ↔ IsReached (dependencies (plain_workspace files limit)) labels l
   pub ordered : AreAscending (map (λ n. label_text n.label) a.nodes)
-  pub outcomes : All (λ n. n.outcome ≡ outcome_of (evaluated files limit) n.label) a.nodes
+  pub outcomes : All (λ n. n.outcome ≡ outcome_of (plain_workspace files limit) n.label) a.nodes
 
 -- the answer to labels of a workspace, whose files stand in any order
 pub record IsAnswer (workspace : List Pair) (limit : ℕ) (labels : List LabelParts) (a : Answer) : Type 0 where

@@ -1,4 +1,3 @@
-pub mod Outcomes
 pub mod Answers
 pub mod Ordered
 pub mod Nodes

@@ -7,7 +7,7 @@ use Rattle.graph.specs.Reached.{TooManyReached}
 use Rattle.outcomes.specs.Workspaces.{dependencies}
 use Rattle.reporting.specs.declared.made.Report.{Report}
 use Rattle.loader.specs.Loaded.{AreFilesOf}
-use Rattle.answers.specs.Outcomes.{evaluated}
+use Rattle.plain_workspaces.specs.Workspaces.{plain_workspace}
 use Rattle.answers.specs.Answers.{Answer, IsAnswer, answer_text, is_loud_answer}
 
 -- A report says just what the answer to labels of a workspace is, where each evaluation may use so many ticks.
@@ -27,4 +27,4 @@ pub record AnswersIn (workspace : List Pair) (labels : List LabelParts) (limit :
 pub record IsTooMany (workspace : List Pair) (labels : List LabelParts) (limit bound : ℕ) : Type 0 where
   pub files : List Pair
   pub are_files : AreFilesOf workspace files
-  pub many : TooManyReached (dependencies (evaluated files limit)) labels same_label bound
+  pub many : TooManyReached (dependencies (plain_workspace files limit)) labels same_label bound

@@ -9,7 +9,7 @@ ghost use Rattle.graph.specs.Graphs.{IsGraphOf};
 ghost use Rattle.outcomes.specs.Workspaces.{dependencies};
 ghost use Rattle.answers.specs.Nodes.{AreOutcomesOf, nodes_of};
 ghost use Rattle.answers.specs.Ordered.{entry_seen, AreInOrder};
-ghost use Rattle.answers.specs.Outcomes.{evaluated};
+ghost use Rattle.plain_workspaces.specs.Workspaces.{evaluated};
 ghost use Rattle.answers.specs.Reports.{IsTooMany, Reports};
 
 use crate::found::found;

@@ -9,7 +9,7 @@ pub returns : goal.returns
 returns c = λ workspace asked legal are is found.
     let t = c.args.targets.now in
     let told = c.args.found.now in
-    reports t.files t.limit asked c.args.graph.now told (map entry_seen c.in_ok-entries.entries.items) is (c.in_ok-entries.ensures.order is.nodes.once) found workspace
-    c.faults.result.now (nodes_seen c.deref-2.result.now) c.make_report.result legal are c.faults.ensures
+    reports t.files t.limit asked c.args.graph.now told (map entry_seen c.in_ok-entries.entries.items) is (c.in_ok-entries.ensures.order is.nodes.once) found workspace legal are
+    c.faults.result.now (nodes_seen c.deref-2.result.now) c.make_report.result c.faults.ensures
     (ap nodes_seen c.deref-2.ensures.value ∙ c.in_ok-nodes.ensures ∙ ap (λ es. nodes_of told (map entry_seen es)) c.deref.ensures.value)
     c.make_report.ensures.text c.make_report.ensures.loud
