@@ -1,7 +1,6 @@
 -- What workers share and hand on may cross threads.
 use denote.Param.Send.{IsSend, IsSync, sendable}
 use Rattle.std.proofs.Crossing as std
-use Rattle.depsets.proofs.element.FileRef.TheSendSync as file
 use Rattle.values.proofs.Crossing.{leaf_send, leaf_sync, frozen_send, frozen_sync}
 use Rattle.values.proofs.key.Key.TheSendSync as key
 use Rattle.values.proofs.leaf.Provider.TheSendSync as provider
@@ -23,31 +22,7 @@ use Rattle.loader.specs.contracts.loaded.LoadedFiles as LoadedFiles
 use Rattle.packages.proofs.kept.Package.TheSendSync as declaring
 use Rattle.packages.specs.contracts.all_targets.Targets as Targets
 use Rattle.graph.proofs.graph.Graph.TheSendSync as graph
-use Rattle.actions.proofs.Crossing.{action_send, action_sync}
-use Rattle.targets.proofs.outcome.TargetFault.TheSendSync as fault
-use Rattle.targets.specs.contracts.outcome.Actions as Actions
-use Rattle.targets.specs.contracts.outcome.Providers as Providers
-use Rattle.targets.specs.contracts.outcome.Outcome as Outcome
-
--- ---- outcomes
-
-pub providers_send : IsSend Providers.the_row
-providers_send = search (frozen_send, std.crosses, sendable) depth 60 fits 20000
-
-pub providers_sync : IsSync Providers.the_row
-providers_sync = search (frozen_sync, std.crosses, sendable) depth 60 fits 20000
-
-pub actions_send : IsSend Actions.the_row
-actions_send = search (action_send, std.crosses, sendable) depth 60 fits 20000
-
-pub actions_sync : IsSync Actions.the_row
-actions_sync = search (action_sync, std.crosses, sendable) depth 60 fits 20000
-
-pub outcome_send : IsSend Outcome.the_row
-outcome_send = search (file.the_send, file.the_sync, providers_send, actions_send, fault.the_field_send, std.crosses, sendable) depth 60 fits 20000
-
-pub outcome_sync : IsSync Outcome.the_row
-outcome_sync = search (file.the_send, file.the_sync, providers_sync, actions_sync, fault.the_field_sync, std.crosses, sendable) depth 60 fits 20000
+use Rattle.reporting.proofs.Crossing.{outcome_send, outcome_sync}
 
 -- ---- values, and modules
 

@@ -8,10 +8,11 @@ ghost use Rattle.plain_workspaces.specs.Workspaces.{evaluated};
 
 use crate::label::LabelAnalysis;
 use crate::refused::{NoReport, without_run};
+use crate::team::{Shelving, Team};
 use edges::NodeId;
 use graph::Graph;
 use packages::Targets;
-use pool::{Analyse, Gate, Gathered, NoMemory, run};
+use pool::{Analyse, Gate, Gathered, NoMemory, Shelf, run_on};
 use std::alloc::Global;
 use std::sync::Wait;
 use std::thread::Threads;
@@ -59,16 +60,20 @@ impl<'a> Analyse<Outcome> for NodeAnalysis<'a> {
     }
 }
 
-/// What becomes of the labels of a graph, found by so many workers.
-pub(crate) fn found<R: Threads + Wait + Sync, G: Gate>(
+/// What becomes of the labels of a graph, found by a team of workers.
+pub(crate) fn found<R, S, F, G>(
     rt: &R,
     alloc: Global,
     targets: &Targets,
     graph: &Graph,
-    workers: usize,
-    gate: &G,
+    team: &Team<'_, F, G>,
 ) -> Result<Gathered<Outcome>, NoReport>
-    requires workers { (0 < workers) × (workers < 65) }
+where
+    R: Threads + Wait + Sync,
+    S: Shelf + Send,
+    F: Shelving<S>,
+    G: Gate,
+    requires workers { (0 < team.now.workers) × (team.now.workers < 65) }
     ensures nodes { IfOk result (λ g. g.nodes ≡ length graph.now.labels) }
     ensures outcomes { let w = evaluated targets.now.files targets.now.limit in
         (asked : List LabelParts) → IsGraphOf (dependencies w) asked graph.now
@@ -80,7 +85,11 @@ pub(crate) fn found<R: Threads + Wait + Sync, G: Gate>(
         labels: &labels,
         graph,
     };
-    match run(rt, alloc, graph.edges(), &analysis, workers, gate) {
+    let edges = graph.edges();
+    let Ok(ends) = team.shelving.ends(alloc, team.workers, edges.nodes()) else {
+        return Err(NoReport::NoMemory);
+    };
+    match run_on(rt, alloc, edges, &analysis, ends, team.gate) {
         Ok(gathered) => Ok(gathered),
         Err(refused) => Err(without_run(refused)),
     }

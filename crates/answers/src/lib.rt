@@ -11,7 +11,9 @@ pub mod laws;
 mod order;
 mod refused;
 mod report;
+mod team;
 
 pub use label::LabelAnalysis;
 pub use refused::NoReport;
-pub use report::{NODE_LIMIT, report_on};
+pub use report::{NODE_LIMIT, report_on, report_on_shelf};
+pub use team::{Deques, OneQueue, Shelving, Team};

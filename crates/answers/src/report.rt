@@ -15,11 +15,12 @@ ghost use Rattle.answers.specs.Reports.{IsTooMany, Reports};
 use crate::found::found;
 use crate::order::{Entry, by_label};
 use crate::refused::{NoReport, without_graph};
+use crate::team::{Deques, Shelving, Team};
 use edges::NodeId;
 use graph::Graph;
 use loader::LoadedFiles;
 use packages::Targets;
-use pool::{Gate, Gathered};
+use pool::{Gate, Gathered, Shelf, StealShelf};
 use reporting::{Node, Report, make_report};
 use std::alloc::{AllocError, Global};
 use std::sync::Wait;
@@ -50,12 +51,14 @@ fn nodes_of<'a>(
     Ok(nodes)
 }
 
-/// The report of what was found of the nodes of a graph.
-fn told(
+/// The report of what was found of the nodes of a graph, written by so many threads.
+fn told<R: Threads + Sync>(
+    rt: &R,
     alloc: Global,
     targets: &Targets,
     graph: &Graph,
     found: &Gathered<Outcome>,
+    threads: usize,
 ) -> Result<Report, AllocError>
     requires nodes { found.now.nodes ≡ length graph.now.labels }
     ensures { let w = evaluated targets.now.files targets.now.limit in
@@ -66,14 +69,12 @@ fn told(
 {
     let entries = by_label(alloc, graph)?;
     let nodes = nodes_of(alloc, found, &entries)?;
-    make_report(alloc, targets.faults(), &nodes)
+    make_report(rt, alloc, targets.faults(), &nodes, threads)
 }
 
 /// The report on labels of a workspace and on all that they depend on, where each evaluation may use so many ticks.
 ///
-/// `rt` is the permission to start threads and to wait. The labels are analysed by so many workers in threads of their own,
-/// which have ended when this returns; what the report says depends on none of them. The gate is called round each label,
-/// by the worker that analyses it. Files are read and evaluated, and the report is written, by the thread that calls.
+/// It is [`report_on_shelf`] where each worker has a deque.
 ///
 /// # Errors
 ///
@@ -93,6 +94,42 @@ pub fn report_on<R: Threads + Wait + Sync, G: Gate>(
     ensures many { result ≡ Err NoReport.TooMany
         → IsTooMany workspace.now labels.now limit NODE_LIMIT }
 {
+    let team = Team {
+        workers,
+        shelving: &Deques,
+        gate,
+    };
+    report_on_shelf::<R, StealShelf, Deques, G>(rt, alloc, workspace, labels, limit, &team)
+}
+
+/// The report on labels of a workspace, by a team of workers at any shelf.
+///
+/// `rt` is the permission to start threads and to wait. The labels are analysed by so many workers in threads of their own,
+/// which have ended when this returns; what the report says depends on none of them, nor on the shelf. The gate is called round
+/// each label, by the worker that analyses it. Files are read and evaluated by the thread that calls; the lines of many labels
+/// are written by as many threads as there were workers.
+///
+/// # Errors
+///
+/// As for [`report_on`].
+pub fn report_on_shelf<R, S, F, G>(
+    rt: &R,
+    alloc: Global,
+    workspace: &Workspace,
+    labels: &[Label],
+    limit: u64,
+    team: &Team<'_, F, G>,
+) -> Result<Report, NoReport>
+where
+    R: Threads + Wait + Sync,
+    S: Shelf + Send,
+    F: Shelving<S>,
+    G: Gate,
+    requires workers { (0 < team.now.workers) × (team.now.workers < 65) }
+    ensures report { IfOk result (Reports workspace.now labels.now limit) }
+    ensures many { result ≡ Err NoReport.TooMany
+        → IsTooMany workspace.now labels.now limit NODE_LIMIT }
+{
     // The paths of a workspace are legal, so none of them is the text of a label.
     let _count = workspace.count();
     let files = LoadedFiles::of(alloc, workspace, limit)?;
@@ -101,6 +138,6 @@ pub fn report_on<R: Threads + Wait + Sync, G: Gate>(
         Ok(graph) => graph,
         Err(refused) => return Err(without_graph(refused)),
     };
-    let found = found(rt, alloc, &targets, &graph, workers, gate)?;
-    Ok(told(alloc, &targets, &graph, &found)?)
+    let found = found::<R, S, F, G>(rt, alloc, &targets, &graph, team)?;
+    Ok(told(rt, alloc, &targets, &graph, &found, team.workers)?)
 }

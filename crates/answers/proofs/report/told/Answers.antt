@@ -6,7 +6,7 @@ use Rattle.answers.proofs.Told.{reports}
 use Rattle.answers.proofs.report.told.Goals as goal
 
 pub returns : goal.returns
-returns c = λ workspace asked legal are is found.
+returns g c = λ workspace asked legal are is found.
     let t = c.args.targets.now in
     let told = c.args.found.now in
     reports t.files t.limit asked c.args.graph.now told (map entry_seen c.in_ok-entries.entries.items) is (c.in_ok-entries.ensures.order is.nodes.once) found workspace legal are

@@ -4,7 +4,7 @@ use Rattle.answers.specs.Reports.{IsTooMany, Reports}
 use Rattle.answers.specs.declared.refused.NoReport.TheVariants.{TooMany}
 use Rattle.answers.specs.declared.report.TheConstants.{NODE_LIMIT}
 use Rattle.answers.proofs.Told.{too_many}
-use Rattle.answers.proofs.report.report_on.Goals as goal
+use Rattle.answers.proofs.report.report_on_shelf.Goals as goal
 
 pub returns-in-Err-clause-many : goal.returns-in-Err-clause-many
 returns-in-Err-clause-many g c e =
