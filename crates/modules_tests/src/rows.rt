@@ -82,7 +82,7 @@ fn file_of(alloc: Global, words: &str) -> Result<Result<FileRead<Names>, (u8, u6
 }
 
 /// The workspace of these files, in their order.
-fn workspace_of(alloc: Global, files: &str) -> Result<Option<Workspace>, AllocError> {
+pub(crate) fn workspace_of(alloc: Global, files: &str) -> Result<Option<Workspace>, AllocError> {
     let mut builder = WorkspaceBuilder::new(alloc);
     for file in files.split(';') {
         let (path, _) = file.trim().split_once(' ').unwrap_or((file, ""));
@@ -109,7 +109,11 @@ fn told(alloc: Global, faults: &[FileFault<u8, u8>]) -> Result<String, fmt::Erro
 }
 
 /// What these files are read as: those of the modules, in the order of their paths, as the table has them.
-fn fake_of(alloc: Global, workspace: &Workspace, files: &str) -> Result<Option<Fake>, AllocError> {
+pub(crate) fn fake_of(
+    alloc: Global,
+    workspace: &Workspace,
+    files: &str,
+) -> Result<Option<Fake>, AllocError> {
     let paths = Paths::of(alloc, workspace)?;
     let mut read = Vec::new(alloc);
     for file in files.split(';') {
