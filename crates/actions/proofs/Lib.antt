@@ -4,3 +4,4 @@ pub mod ClashUnique
 pub mod OwnerLemmas
 pub mod Crossing
 pub mod Ascending
+pub mod SortedClaims

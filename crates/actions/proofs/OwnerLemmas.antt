@@ -19,10 +19,11 @@ use Rattle.actions.specs.declared.action.Owned.{Owned}
 use Rattle.actions.specs.declared.claims.Claim.{Claim}
 use Rattle.actions.specs.Conflicts.{conflicts_of}
 use Rattle.actions.specs.declared.gather.Conflict.{Conflict}
+use Rattle.actions.proofs.Ascending.{Climbs}
 use Rattle.actions.proofs.ClaimLemmas.{all_in_order-append}
 use Rattle.actions.proofs.ClashLemmas.{conflicts_of-law}
 
-claims_total : IsTotalOrder claim_cmp
+pub claims_total : IsTotalOrder claim_cmp
 claims_total =
     then_total (on_total (λ c. c.path) nat_list_cmp_total) (then_total (on_total (λ c. c.label) nat_list_cmp_total) (on_total (λ c. c.place) nat_cmp_total))
 
@@ -32,9 +33,8 @@ module _ {X : Type 0} where
   each-map P Q f (x ∷ xs) h = (f x h.0, each-map P Q f xs h.1)
 
 -- claims strictly in order
-abbrev Up : List Claim → Type 0
-Up [] = Unit {0}
-Up (c ∷ cs) = Each (λ d. claim_cmp c d ≡ Less) cs × Up cs
+abbrev pub Up : List Claim → Type 0
+Up = Climbs claim_cmp
 
 back : (x c : Claim) → claim_cmp c x ≡ Greater → claim_cmp x c ≡ Less
 back x c e = claims_total.antisymm x c ∙ ap ordering_reverse e
@@ -52,7 +52,7 @@ module _ (P : Claim → Type 0) where
   each-put [] c h a = (a, tt)
   each-put (x ∷ xs) c h a = each-at c x xs (put_in_order xs c) (claim_cmp c x) a h.0 h.1 (each-put xs c h.1 a)
 
-  each-all : (ks ds : List Claim) → Each P ks → Each P ds → Each P (all_in_order ks ds)
+  pub each-all : (ks ds : List Claim) → Each P ks → Each P ds → Each P (all_in_order ks ds)
   each-all ks [] h g = h
   each-all ks (d ∷ ds) h g = each-all (put_in_order ks d) ds (each-put ks d h g.0) g.1
 
@@ -68,12 +68,12 @@ up-put [] c h = (tt, tt)
 up-put (x ∷ xs) c h =
     up-at c x xs (put_in_order xs c) (claim_cmp c x) refl h.0 h.1 (λ l. each-put (λ d. claim_cmp x d ≡ Less) xs c h.0 l) (up-put xs c h.1)
 
-up-all : (ks ds : List Claim) → Up ks → Up (all_in_order ks ds)
+pub up-all : (ks ds : List Claim) → Up ks → Up (all_in_order ks ds)
 up-all ks [] h = h
 up-all ks (d ∷ ds) h = up-all (put_in_order ks d) ds (up-put ks d h)
 
 -- an equal claim is there
-abbrev Has : Claim → List Claim → Type 0
+abbrev pub Has : Claim → List Claim → Type 0
 Has d [] = ⊥
 Has d (x ∷ xs) = (claim_cmp d x ≡ Equal) ⊎ Has d xs
 
@@ -82,7 +82,7 @@ has-at d x xs ys Less e h = inl (tied_itself claims_total d)
 has-at d x xs ys Equal e h = inl e
 has-at d x xs ys Greater e h = inr h
 
-has-put : (ks : List Claim) (d : Claim) → Has d (put_in_order ks d)
+pub has-put : (ks : List Claim) (d : Claim) → Has d (put_in_order ks d)
 has-put [] d = inl (tied_itself claims_total d)
 has-put (x ∷ xs) d = has-at d x xs (put_in_order xs d) (claim_cmp d x) refl (has-put xs d)
 
@@ -92,7 +92,7 @@ keeps-at d c x xs ys Equal h f = h
 keeps-at d c x xs ys Greater (inl e) f = inl e
 keeps-at d c x xs ys Greater (inr h) f = inr (f h)
 
-has-keeps : (d c : Claim) (ks : List Claim) → Has d ks → Has d (put_in_order ks c)
+pub has-keeps : (d c : Claim) (ks : List Claim) → Has d ks → Has d (put_in_order ks c)
 has-keeps d c [] h = absurd h
 has-keeps d c (x ∷ xs) h = keeps-at d c x xs (put_in_order xs c) (claim_cmp c x) h (has-keeps d c xs)
 
@@ -149,12 +149,12 @@ module _ (t : Claim → Bool) where
   count-other c [] b = let k = count-cons t c [] in omega (arith, k, b)
   count-other c (x ∷ xs) b = other-at c x xs (put_in_order xs c) (claim_cmp c x) b (count-other c xs b)
 
-then-first : (r o : Ordering) → ordering_then r o ≡ Equal → r ≡ Equal
+pub then-first : (r o : Ordering) → ordering_then r o ≡ Equal → r ≡ Equal
 then-first Less o h = h
 then-first Equal o h = refl
 then-first Greater o h = h
 
-then-second : (r o : Ordering) → ordering_then r o ≡ Equal → o ≡ Equal
+pub then-second : (r o : Ordering) → ordering_then r o ≡ Equal → o ≡ Equal
 then-second Less o h = absurd (cc)
 then-second Equal o h = h
 then-second Greater o h = absurd (cc)

@@ -1,6 +1,6 @@
-//! What actions declare, in order: by path, then by label, then by place in the list.
-ghost use Rattle.std.specs.Prelude.{◌≡◌, ◌+◌, ◌<◌, [], Some, IfOk, OnOk, length, slice_get};
-ghost use Rattle.actions.specs.Claims.{claim_on, claims_of, claims_from, put_in_order, all_in_order, in_order};
+//! What actions declare: as it comes, and then in order, by path, then by label, then by place in the list.
+ghost use Rattle.std.specs.Prelude.{◌≡◌, ◌+◌, ◌++◌, ◌∷◌, ◌<◌, [], Some, IfOk, OnOk, length, slice_get};
+ghost use Rattle.actions.specs.Claims.{claim_on, claims_of, claims_from, in_order};
 ghost use Rattle.actions.specs.Conflicts.{gathered};
 ghost use Rattle.actions.specs.Taken.{nothing, with_action};
 
@@ -9,7 +9,6 @@ use crate::{Action, Owned};
 use depsets::FileRef;
 use plain::{Shared, Text};
 use std::alloc::{AllocError, Global};
-use std::collections::BTreeSet;
 use std::marker::Model;
 
 /// An action declares a path: the path, the label of the action's owner, and the action's place in the list.
@@ -21,19 +20,20 @@ pub(crate) struct Claim {
 }
 
 /// What actions declare, taken one action after the other where they lie: the conflicts of a long list are found without a
-/// copy of it.
+/// copy of it. The claims are kept as they come, and sorted once, when the conflicts are asked for.
 #[derive(Drop)]
 pub struct Claims {
     actions: usize,
-    claims: BTreeSet<Claim>,
+    claims: Vec<Claim>,
 }
 
 impl Model for Claims {
+    ghost use Rattle.actions.specs.Claims.{in_order};
     ghost use Rattle.actions.specs.Taken.{Taken};
 
     ghost Value = { Taken };
 
-    ghost view = { λ c. record { actions = c.actions; claims = c.claims.keys } };
+    ghost view = { λ c. record { actions = c.actions; claims = in_order c.claims.items } };
 }
 
 impl Claims {
@@ -43,7 +43,7 @@ impl Claims {
     {
         Claims {
             actions: 0,
-            claims: BTreeSet::new(alloc),
+            claims: Vec::new(alloc),
         }
     }
 
@@ -69,41 +69,50 @@ impl Claims {
     /// # Errors
     ///
     /// `AllocError` where memory was refused.
-    pub fn conflicts(&self, alloc: Global) -> Result<Vec<Conflict>, AllocError>
-        ensures { IfOk result (λ v. v.items ≡ gathered [] [] self.now.claims) }
+    pub fn conflicts(self, alloc: Global) -> Result<Vec<Conflict>, AllocError>
+        ensures { IfOk result (λ v. v.items ≡ gathered [] [] self.claims) }
     {
-        gather_claims(alloc, &self.claims)
+        let Claims { actions: _, claims } = self;
+        gather_claims(alloc, claims)
     }
 }
 
-/// All claims of these actions, in order and each once.
-pub(crate) fn all_claims(alloc: Global, owned: &[Owned]) -> Result<BTreeSet<Claim>, AllocError>
-    ensures { IfOk result (λ s. s.keys ≡ in_order (claims_from 0 owned.now)) }
+/// All claims of these actions, as they come.
+pub(crate) fn all_claims(alloc: Global, owned: &[Owned]) -> Result<Vec<Claim>, AllocError>
+    ensures { IfOk result (λ v. v.items ≡ claims_from 0 owned.now) }
 {
-    let mut claims = BTreeSet::new(alloc);
+    let mut claims = Vec::new(alloc);
     for i in 0..owned.len() {
         claim_all(&mut claims, i, item_at(owned, i))?;
     }
     Ok(claims)
 }
 
+/// Puts claims in order, each once.
+pub(crate) fn sort_claims(claims: &mut Vec<Claim>) -> Result<(), AllocError>
+    ensures { OnOk result (claims.new.items ≡ in_order claims.old.items) }
+{
+    claims.sort()?;
+    claims.dedup();
+    Ok(())
+}
+
 /// Adds the claims of one action.
-fn claim_all(claims: &mut BTreeSet<Claim>, place: usize, owned: &Owned) -> Result<(), AllocError>
-    ensures { OnOk result (claims.new.keys ≡ all_in_order claims.old.keys
-        (claims_of place owned.now)) }
+fn claim_all(claims: &mut Vec<Claim>, place: usize, owned: &Owned) -> Result<(), AllocError>
+    ensures { OnOk result (claims.new.items ≡ claims.old.items ++ claims_of place owned.now) }
 {
     claim_outputs(claims, place, &owned.label, &owned.action)
 }
 
 /// Adds the claims of an action, which the target of this label registered.
 fn claim_outputs(
-    claims: &mut BTreeSet<Claim>,
+    claims: &mut Vec<Claim>,
     place: usize,
     label: &Text,
     action: &Action,
 ) -> Result<(), AllocError>
-    ensures { OnOk result (claims.new.keys ≡ all_in_order claims.old.keys
-        (claims_of place (record { label = label.now; action = action.now }))) }
+    ensures { OnOk result (claims.new.items ≡ claims.old.items
+        ++ claims_of place (record { label = label.now; action = action.now })) }
 {
     let files = action.outputs.as_slice();
     for i in 0..files.len() {
@@ -112,19 +121,19 @@ fn claim_outputs(
     Ok(())
 }
 
-/// Adds one claim, unless the action has made it already.
+/// Adds one claim.
 fn add_claim(
-    claims: &mut BTreeSet<Claim>,
+    claims: &mut Vec<Claim>,
     place: usize,
     label: &Text,
     file: &Shared<FileRef>,
 ) -> Result<(), AllocError>
-    ensures { OnOk result (claims.new.keys ≡ put_in_order claims.old.keys
-        (claim_on place label.now file.now)) }
+    ensures { OnOk result (claims.new.items
+        ≡ claims.old.items ++ claim_on place label.now file.now ∷ []) }
 {
     let path = file.get().path.share()?;
     let label = label.share()?;
-    claims.insert(Claim { path, label, place })?;
+    claims.push(Claim { path, label, place })?;
     Ok(())
 }
 

@@ -1,15 +1,15 @@
 //! The paths that at least two actions declare.
 ghost use Rattle.std.specs.Prelude.{◌≡◌, ◌++◌, ◌∷◌, [], IfOk, OnOk, List};
+ghost use Rattle.actions.specs.Claims.{in_order};
 ghost use Rattle.actions.specs.Conflicts.{conflict_of, gathered, conflicts_of};
 ghost use Rattle.actions.specs.Clashes.{Each, AreConflicts};
 ghost use Rattle.actions.specs.Labels.{AreLabels};
 ghost use Rattle.actions.specs.declared.claims.Claim.{Claim as Claimed};
 
-use crate::claims::{Claim, all_claims};
+use crate::claims::{Claim, all_claims, sort_claims};
 use crate::{Owned, Words};
 use plain::Text;
 use std::alloc::{AllocError, Global};
-use std::collections::BTreeSet;
 use std::mem;
 
 /// A path that at least two actions declare, and the labels of these actions, in order: one for each action.
@@ -41,23 +41,31 @@ fn gather(alloc: Global, owned: &[Owned]) -> Result<Vec<Conflict>, AllocError>
     ensures { IfOk result (λ v. v.items ≡ conflicts_of owned.now) }
 {
     let claims = all_claims(alloc, owned)?;
-    let found = gather_claims(alloc, &claims)?;
+    let found = gather_claims(alloc, claims)?;
     Ok(found)
 }
 
-/// The conflicts, path by path from the claims in order.
+/// The conflicts of claims, which are put in order first.
 pub(crate) fn gather_claims(
     alloc: Global,
-    claims: &BTreeSet<Claim>,
+    mut claims: Vec<Claim>,
 ) -> Result<Vec<Conflict>, AllocError>
-    ensures { IfOk result (λ v. v.items ≡ gathered [] [] claims.now.keys) }
+    ensures { IfOk result (λ v. v.items ≡ gathered [] [] (in_order claims.items)) }
+{
+    sort_claims(&mut claims)?;
+    gather_sorted(alloc, claims.as_slice())
+}
+
+/// The conflicts, path by path from the claims in order.
+fn gather_sorted(alloc: Global, claims: &[Claim]) -> Result<Vec<Conflict>, AllocError>
+    ensures { IfOk result (λ v. v.items ≡ gathered [] [] claims.now) }
 {
     let mut gatherer = Gatherer {
         found: Vec::new(alloc),
         path: Text::new(alloc, "")?,
         labels: Words::new(alloc),
     };
-    for claim in claims.iter() {
+    for claim in claims {
         gatherer.take(alloc, claim)?;
     }
     gatherer.close(alloc)?;
