@@ -5,3 +5,4 @@ pub mod Same
 pub mod TypeLemmas
 pub mod Walked
 pub mod Crossing
+mod Lent

@@ -5,4 +5,4 @@ use Rattle.depsets.specs.declared.element.Element.{Element}
 use Rattle.depsets.specs.declared.listing.Walker.{Walker}
 
 abbrev pub walk_of : Walker → Walk Id Element
-walk_of w = record { seen = w.seen.keys; items = w.items.keys; steps = w.cursor.steps }
+walk_of w = record { seen = w.seen; items = w.items; steps = w.cursor.steps }

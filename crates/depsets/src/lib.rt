@@ -9,9 +9,11 @@
 #![tactic(auto)]
 
 mod depset;
+mod distinct;
 mod element;
 mod listing;
 
 pub use depset::{Depset, DepsetError, Id, LEVELS, Order};
+pub use distinct::Distinct;
 pub use element::{Element, ElementType, FileRef};
 pub use listing::{ITEMS, ListError, Listing};

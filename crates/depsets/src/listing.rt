@@ -12,20 +12,20 @@ ghost use Rattle.depsets.specs.Keys.{keep};
 ghost use Rattle.depsets.specs.Elements.{same_element};
 ghost use Rattle.depsets.specs.Listed.{visited, visited_all, inside, took, same_id, flat, work, walked, IsCoherent};
 
+use crate::distinct::Distinct;
 use crate::{Depset, Element, Id};
-use indexmap::IndexSet;
 use std::alloc::{AllocError, Global};
 use thiserror::Error;
 
 /// How many items `to_list` gives at most. (This project's own limit, that of every list.)
 pub const ITEMS: usize = 1_048_576;
 
-/// The items of a listing, each once, and the steps that the walk took.
+/// The items of a listing, each once and where it lies, and the steps that the walk took.
 ///
 /// A step is the depset itself, one link to a child, or one direct element.
 #[derive(Drop)]
-pub struct Listing {
-    pub items: IndexSet<Element>,
+pub struct Listing<'a> {
+    pub items: Distinct<'a, Element>,
     pub steps: u64,
 }
 
@@ -50,14 +50,14 @@ impl Depset {
     /// # Errors
     ///
     /// `AllocError` where memory for the items was refused, or where the steps pass the greatest `u64`.
-    pub fn list_whole(&self, alloc: Global) -> Result<Listing, AllocError>
-        ensures walk { IfOk result (λ l. l.items.keys ≡ walked self.now) }
-        ensures items { IfOk result (λ l. IsCoherent self.now → l.items.keys ≡ flat self.now) }
+    pub fn list_whole(&self, alloc: Global) -> Result<Listing<'_>, AllocError>
+        ensures walk { IfOk result (λ l. l.items ≡ walked self.now) }
+        ensures items { IfOk result (λ l. IsCoherent self.now → l.items ≡ flat self.now) }
         ensures steps { IfOk result (λ l. IsCoherent self.now → l.steps ≡ work self.now) }
     {
         let mut walker = Walker {
-            seen: IndexSet::new(alloc),
-            items: IndexSet::new(alloc),
+            seen: Distinct::new(alloc),
+            items: Distinct::new(alloc),
             cursor: Cursor { steps: 1 },
         };
         walker.visit(self, self.order().is_preorder())?;
@@ -77,9 +77,9 @@ impl Depset {
     /// # Errors
     ///
     /// `Large` exactly where the listing has more items; `NoMemory` as for `list_whole`.
-    pub fn to_list(&self, alloc: Global) -> Result<Listing, ListError>
-        ensures walk { IfOk result (λ l. l.items.keys ≡ walked self.now) }
-        ensures items { IfOk result (λ l. IsCoherent self.now → l.items.keys ≡ flat self.now) }
+    pub fn to_list(&self, alloc: Global) -> Result<Listing<'_>, ListError>
+        ensures walk { IfOk result (λ l. l.items ≡ walked self.now) }
+        ensures items { IfOk result (λ l. IsCoherent self.now → l.items ≡ flat self.now) }
         ensures steps { IfOk result (λ l. IsCoherent self.now → l.steps ≡ work self.now) }
         ensures fits { IfOk result (λ l. IsCoherent self.now → length (flat self.now) ≤ ITEMS) }
         ensures large { result ≡ Err ListError.Large → IsCoherent self.now
@@ -123,21 +123,21 @@ impl Cursor {
 
 /// A walk: the ids that it has left, the items that it has taken, and its steps.
 #[derive(Drop)]
-struct Walker {
-    seen: IndexSet<Id>,
-    items: IndexSet<Element>,
+struct Walker<'a> {
+    seen: Distinct<'a, Id>,
+    items: Distinct<'a, Element>,
     cursor: Cursor,
 }
 
-impl Walker {
+impl<'a> Walker<'a> {
     /// Takes the depset's own elements.
-    fn take_own(&mut self, d: &Depset) -> Result<(), AllocError>
+    fn take_own(&mut self, d: &'a Depset) -> Result<(), AllocError>
         ensures { OnOk result (walk_of self.new
             ≡ took (label d.now).direct (label d.now) (walk_of self.old)) }
     {
         let direct = d.direct();
         for i in 0..direct.len() {
-            let element = self.cursor.read(direct, i)?.share()?;
+            let element = self.cursor.read(direct, i)?;
             take(&mut self.items, element)?;
         }
         Ok(())
@@ -145,20 +145,20 @@ impl Walker {
 
     /// Visits the depset, unless its id was seen.
     #[cycle(walk)]
-    fn visit(&mut self, d: &Depset, preorder: bool) -> Result<(), AllocError>
+    fn visit(&mut self, d: &'a Depset, preorder: bool) -> Result<(), AllocError>
         ensures { OnOk result (walk_of self.new ≡ visited preorder d.now (walk_of self.old)) }
     {
         if self.seen.contains(d.id()) {
             return Ok(());
         }
         self.visit_inside(d, preorder)?;
-        self.seen.insert(d.id().share()?)?;
+        self.seen.put(d.id())?;
         Ok(())
     }
 
     /// Takes the elements of the depset and visits its children, in the order asked.
     #[cycle(walk)]
-    fn visit_inside(&mut self, d: &Depset, preorder: bool) -> Result<(), AllocError>
+    fn visit_inside(&mut self, d: &'a Depset, preorder: bool) -> Result<(), AllocError>
         ensures { OnOk result (walk_of self.new ≡ inside preorder d.now (walk_of self.old)) }
     {
         if preorder {
@@ -171,7 +171,7 @@ impl Walker {
 
     /// Visits each child in turn.
     #[cycle(walk)]
-    fn visit_children(&mut self, d: &Depset, preorder: bool) -> Result<(), AllocError>
+    fn visit_children(&mut self, d: &'a Depset, preorder: bool) -> Result<(), AllocError>
         ensures { OnOk result (walk_of self.new
             ≡ visited_all preorder (children d.now) (walk_of self.old)) }
     {
@@ -185,9 +185,8 @@ impl Walker {
 }
 
 /// Takes an element, if it is not among the items.
-fn take(items: &mut IndexSet<Element>, element: Element) -> Result<(), AllocError>
-    ensures { OnOk result (items.new.keys ≡ keep same_element items.old.keys element) }
+fn take<'a>(items: &mut Distinct<'a, Element>, element: &'a Element) -> Result<(), AllocError>
+    ensures { OnOk result (items.new ≡ keep same_element items.old element.now) }
 {
-    items.insert(element)?;
-    Ok(())
+    items.put(element)
 }

@@ -22,7 +22,7 @@ ends d pre seen items w p q r h = h ∙ λ j. visited (r j) d (record { seen = p
 pub returns-clause-walk : goal.returns-clause-walk
 returns-clause-walk c =
     let d = c.args.self.now in
-    let e = ends d c.is_preorder.result c.new.result.keys c.new-2.result.keys (walk_of c.visit.new.self) c.new.ensures.empty c.new-2.ensures.empty
+    let e = ends d c.is_preorder.result c.new.result c.new-2.result (walk_of c.visit.new.self) c.new.ensures c.new-2.ensures
     (c.is_preorder.ensures ∙ ap is_preorder c.order.ensures) c.in_ok-visit.ensures in
     ap (λ w. w.items) e
 
@@ -32,6 +32,6 @@ returns-clause-items c coherent = returns-clause-walk c ∙ walked-flat c.args.s
 pub returns-clause-steps : goal.returns-clause-steps
 returns-clause-steps c coherent =
     let d = c.args.self.now in
-    let e = ends d c.is_preorder.result c.new.result.keys c.new-2.result.keys (walk_of c.visit.new.self) c.new.ensures.empty c.new-2.ensures.empty
+    let e = ends d c.is_preorder.result c.new.result c.new-2.result (walk_of c.visit.new.self) c.new.ensures c.new-2.ensures
     (c.is_preorder.ensures ∙ ap is_preorder c.order.ensures) c.in_ok-visit.ensures in
     ap (λ w. w.steps) e ∙ steps-visit own_id own_direct same_id same_element id_same id_own element_own (is_preorder (label d).order) d coherent

@@ -1,0 +1,64 @@
+//! Items that lie elsewhere, each once.
+ghost use Rattle.std.specs.Prelude.{◌≡◌, [], map, OnOk, length};
+ghost use Rattle.depsets.specs.Keys.{has, keep};
+
+use indexmap::IndexSet;
+use std::alloc::{AllocError, Global};
+use std::hash::Hash;
+use std::marker::Model;
+
+/// Items that lie elsewhere, each once, in the order in which they were put.
+///
+/// No item is copied and no count is touched, so that several threads can list the same depset beside each other.
+#[derive(Drop)]
+pub struct Distinct<'a, T: Eq + Hash> {
+    items: IndexSet<&'a T>,
+}
+
+impl<'a, T: Eq + Hash> Model for Distinct<'a, T> {
+    ghost use Rattle.std.specs.Prelude.{List, map};
+
+    ghost Value = { List T };
+
+    ghost view = { λ d. map (λ r. r.now) d.items.keys };
+}
+
+impl<'a, T: Eq + Hash> Distinct<'a, T> {
+    /// No item.
+    pub(crate) fn new(alloc: Global) -> Self
+        ensures { result ≡ [] }
+    {
+        Distinct {
+            items: IndexSet::new(alloc),
+        }
+    }
+
+    /// Whether an equal item is among them.
+    pub fn contains(&self, item: &T) -> bool
+        ensures { result ≡ has T.eq self.now item.now }
+    {
+        self.items.contains(&item)
+    }
+
+    /// Puts an item last, if no equal one is among them.
+    pub(crate) fn put(&mut self, item: &'a T) -> Result<(), AllocError>
+        ensures { OnOk result (self.new ≡ keep T.eq self.old item.now) }
+    {
+        self.items.insert(item)?;
+        Ok(())
+    }
+
+    /// How many there are.
+    pub fn len(&self) -> usize
+        ensures { result ≡ length self.now }
+    {
+        self.items.len()
+    }
+
+    /// All of them, in order.
+    pub fn as_slice(&self) -> &[&'a T]
+        ensures { map (λ r. r.now) result.now ≡ self.now }
+    {
+        self.items.as_slice()
+    }
+}
