@@ -1,5 +1,5 @@
 //! Items that lie elsewhere, each once.
-ghost use Rattle.std.specs.Prelude.{◌≡◌, [], map, OnOk, length};
+ghost use Rattle.std.specs.Prelude.{◌≡◌, ◌<◌, [], Some, OnOk, length, slice_get};
 ghost use Rattle.depsets.specs.Keys.{has, keep};
 
 use indexmap::IndexSet;
@@ -55,10 +55,11 @@ impl<'a, T: Eq + Hash> Distinct<'a, T> {
         self.items.len()
     }
 
-    /// All of them, in order.
-    pub fn as_slice(&self) -> &[&'a T]
-        ensures { map (λ r. r.now) result.now ≡ self.now }
+    /// The item at a place.
+    pub fn at(&self, place: usize) -> &'a T
+        requires { place < length self.now }
+        ensures { slice_get self.now place ≡ Some result.now }
     {
-        self.items.as_slice()
+        self.items.as_slice()[place]
     }
 }

@@ -44,8 +44,8 @@ fn listed(alloc: Global, depset: &Depset) -> Result<(String, u64), Fail> {
         Err(_) => return Err(Fail::from("a listing is given")),
     };
     let mut text = String::new(alloc);
-    for element in listing.items.iter() {
-        if let Element::Text(item) = element {
+    for place in 0..listing.items.len() {
+        if let Element::Text(item) = listing.items.at(place) {
             if !text.is_empty() {
                 text.push_str(" ")?;
             }

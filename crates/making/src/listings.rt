@@ -1,12 +1,12 @@
 //! The listing of a depset, as a list of the language.
-ghost use Rattle.std.specs.Prelude.{◌≡◌, ◌<◌, ◌++◌, ◌∷◌, [], Ok, Err, Some, MatchResult, IfOk, OnOk, map, length, slice_get};
+ghost use Rattle.std.specs.Prelude.{◌≡◌, ◌++◌, ◌∷◌, [], Ok, Err, MatchResult, IfOk, OnOk, map, length};
 ghost use Rattle.depsets.specs.Listed.{IsCoherent, walked, flat};
 ghost use Rattle.values.specs.Ticking.{FaultOr};
 ghost use Rattle.operations.specs.States.{Does, Stays};
 ghost use Rattle.operations.specs.Making.{new_list};
 ghost use Rattle.operations.specs.Depsets.{element_value, to_list};
 
-use indexmap::IndexSet;
+use depsets::Distinct;
 use operations::State;
 use std::alloc::{AllocError, Global};
 use values::{Broken, Depset, Element, Items, Key, Leaf, Value};
@@ -35,22 +35,14 @@ fn listing(alloc: Global, depset: &Depset) -> Result<Items, AllocError>
 }
 
 /// Elements as values.
-fn element_values(alloc: Global, elements: &IndexSet<Element>) -> Result<Items, AllocError>
-    ensures { IfOk result (λ items. items ≡ map element_value elements.now.keys) }
+fn element_values(alloc: Global, elements: &Distinct<'_, Element>) -> Result<Items, AllocError>
+    ensures { IfOk result (λ items. items ≡ map element_value elements.now) }
 {
     let mut items = Items::with_capacity(alloc, elements.len())?;
     for place in 0..elements.len() {
-        put_element(element_at(elements, place), &mut items)?;
+        put_element(elements.at(place), &mut items)?;
     }
     Ok(items)
-}
-
-/// The element at a place.
-fn element_at(elements: &IndexSet<Element>, place: usize) -> &Element
-    requires { place < length elements.now.keys }
-    ensures { slice_get elements.now.keys place ≡ Some result.now }
-{
-    &elements.as_slice()[place]
 }
 
 /// Puts an element last, as a value.

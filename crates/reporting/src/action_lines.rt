@@ -30,7 +30,7 @@ fn put_inputs(alloc: Global, out: &mut String, inputs: &Inputs) -> Result<(), Al
         Inputs::Files(files) => put_file_list(out, files.as_slice()),
         Inputs::Depset(depset) => {
             let listing = depset.list_whole(alloc)?;
-            put_element_list(alloc, out, listing.items.as_slice())
+            put_element_list(out, &listing.items)
         }
     }
 }

@@ -1,13 +1,13 @@
 //! Lists of strings.
-ghost use Rattle.std.specs.Prelude.{◌≡◌, ◌++◌, map, string_bytes, IfOk, OnOk};
+ghost use Rattle.std.specs.Prelude.{◌≡◌, ◌++◌, map, string_bytes, OnOk};
 ghost use Rattle.std.specs.List.{flat_map};
 ghost use Rattle.printing.specs.Texts.{joined, quoted, separator};
 ghost use Rattle.reporting.specs.Lines.{element_paths, path_of, strings_text};
 
-use depsets::{Element, FileRef};
+use depsets::{Distinct, Element, FileRef};
 use plain::{Shared, Text};
 use printing::{put_quoted, put_separator};
-use std::alloc::{AllocError, Global};
+use std::alloc::AllocError;
 
 /// Appends the string at a place of a list.
 fn put_string_at(out: &mut String, place: usize, text: &str) -> Result<(), AllocError>
@@ -62,28 +62,31 @@ pub(crate) fn put_file_list(out: &mut String, files: &[Shared<FileRef>]) -> Resu
     Ok(())
 }
 
-/// The paths of the Files among elements.
-fn paths_in(alloc: Global, elements: &[Element]) -> Result<Vec<Text>, AllocError>
-    ensures { IfOk result (λ v. v.items ≡ flat_map element_paths elements.now) }
+/// Appends the paths of the Files among elements as strings, with commas between them.
+fn put_element_paths(out: &mut String, elements: &Distinct<'_, Element>) -> Result<(), AllocError>
+    ensures { OnOk result (string_bytes out.new ≡ string_bytes out.old
+        ++ joined (map quoted (flat_map element_paths elements.now))) }
 {
-    let mut paths = Vec::new(alloc);
-    for element in elements {
-        if let Element::File(file) = element {
-            paths.push(file.get().path.share()?)?;
+    let mut place = 0;
+    for i in 0..elements.len() {
+        if let Element::File(file) = elements.at(i) {
+            put_string_at(out, place, file.get().path.as_str())?;
+            place += 1;
         }
     }
-    Ok(paths)
+    Ok(())
 }
 
 /// Appends the list of the paths of the Files among elements.
 pub(crate) fn put_element_list(
-    alloc: Global,
     out: &mut String,
-    elements: &[Element],
+    elements: &Distinct<'_, Element>,
 ) -> Result<(), AllocError>
     ensures { OnOk result (string_bytes out.new
         ≡ string_bytes out.old ++ strings_text (flat_map element_paths elements.now)) }
 {
-    let paths = paths_in(alloc, elements)?;
-    put_text_list(out, &paths)
+    out.push_str("[")?;
+    put_element_paths(out, elements)?;
+    out.push_str("]")?;
+    Ok(())
 }

@@ -9,7 +9,7 @@ ghost use Rattle.contexts.specs.Fields.{attribute_labels, files_listed, files_or
 use crate::attributes::frozen_list;
 use crate::dependencies::Dependencies;
 use crate::files::files_of;
-use depsets::{Depset, Element};
+use depsets::{Depset, Distinct, Element};
 use plain::Shared;
 use std::alloc::{AllocError, Global};
 use targets::AttributeValue;
@@ -108,15 +108,15 @@ fn put_listing(alloc: Global, depset: &Depset, trees: &mut Vec<Frozen>) -> Resul
         ++ map element_tree (walked depset.now)) }
 {
     let listing = depset.list_whole(alloc)?;
-    put_elements(listing.items.as_slice(), trees)
+    put_elements(&listing.items, trees)
 }
 
 /// Puts elements last.
-fn put_elements(elements: &[Element], trees: &mut Vec<Frozen>) -> Result<(), AllocError>
+fn put_elements(elements: &Distinct<'_, Element>, trees: &mut Vec<Frozen>) -> Result<(), AllocError>
     ensures { OnOk result (trees.new.items ≡ trees.old.items ++ map element_tree elements.now) }
 {
-    for element in elements {
-        put_element(element, trees)?;
+    for place in 0..elements.len() {
+        put_element(elements.at(place), trees)?;
     }
     Ok(())
 }
