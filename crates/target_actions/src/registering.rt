@@ -54,9 +54,13 @@ fn are_declared(files: &[Shared<FileRef>], declared: &DeclaredFiles) -> bool
 }
 
 /// Whether a File stands there twice. They are found by hash, so many take no longer each than few.
+#[tactic(auto, using(crate::proofs::Outputs::few_repeat_not))]
 fn repeats(alloc: Global, files: &[Shared<FileRef>]) -> Result<bool, AllocError>
     ensures { IfOk result (λ b. b ≡ repeats files.now) }
 {
+    if files.len() < 2 {
+        return Ok(false);
+    }
     let mut seen = DeclaredFiles::new(alloc);
     for file in files {
         if seen.has(file) {

@@ -86,10 +86,15 @@ impl Actions {
     }
 
     /// Puts an action last. After a refusal of memory they are as they were.
+    ///
+    /// Most targets have one action, so room is taken for one at first.
     pub fn push(&mut self, action: Action) -> Result<(), AllocError>
         ensures ok { OnOk result (self.new ≡ self.old ++ action ∷ []) }
         ensures err { OnErr result (self.new ≡ self.old) }
     {
+        if self.items.is_empty() {
+            self.items.reserve_exact(1)?;
+        }
         self.items.push(action)?;
         Ok(())
     }
