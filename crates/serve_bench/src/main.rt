@@ -4,7 +4,7 @@
 //! Without a word it serves [`FEW`] random workspaces by 1 and by 8 workers, with a deque each and at one queue, and prints for how
 //! many the reports are the same, which never changes; with `same N`, that many. With `time` it prints, for made workspaces, the wall
 //! and the processor time of a request in milliseconds, from the bytes of the input to those of the report, and the report's length;
-//! with `time NAME`, for that one alone. `plain N`, `layers N WIDTH DEGREE`, `chain N` and `random SEED` print a workspace, as `bzlan`
+//! with `time NAME`, for that one alone. `plain N`, `layers N WIDTH DEGREE`, `chain N`, `cycle N` and `random SEED` print a workspace, as `bzlan`
 //! reads it. The status is 1 where reports differ or the words are others.
 #![tactic(auto)]
 
@@ -43,6 +43,10 @@ fn workspace(alloc: Global, words: &[&str]) -> Result<Option<String>, AllocError
         }
         ["chain", count] => match count.parse() {
             Ok(count) => chained_modules(alloc, count, false)?,
+            Err(_) => return Ok(None),
+        },
+        ["cycle", count] => match count.parse() {
+            Ok(count) => chained_modules(alloc, count, true)?,
             Err(_) => return Ok(None),
         },
         ["random", seed] => match seed.parse() {

@@ -16,6 +16,8 @@ pub enum Workload {
     Plain,
     /// 20,000 targets in 40 layers, of which each depends on four, and one above.
     Layers,
+    /// 20,000 targets that depend on nothing, and one that depends on all of them.
+    Single,
     /// 20,000 targets in 20 layers, of which each depends on so many, and one above. By 40, the report has 243 MB.
     Degree(usize),
     /// 10,000 modules in 10 layers, of which each loads from 12 of the layer before.
@@ -36,9 +38,10 @@ pub struct Turn {
 }
 
 /// The workspaces that aren't loops.
-const WHOLE: [Workload; 7] = [
+const WHOLE: [Workload; 8] = [
     Workload::Plain,
     Workload::Layers,
+    Workload::Single,
     Workload::Degree(2),
     Workload::Degree(40),
     Workload::Modules,
@@ -112,6 +115,7 @@ impl Workload {
         match self {
             Workload::Plain => plain_targets(alloc, 65_535),
             Workload::Layers => layered_targets(alloc, 40, 500, 4),
+            Workload::Single => plain_targets(alloc, 20_000),
             Workload::Degree(degree) => layered_targets(alloc, 20, 1_000, degree),
             Workload::Modules => layered_modules(alloc, 10, 1_000, 12),
             Workload::Chain => chained_modules(alloc, 100_000, false),
@@ -124,7 +128,7 @@ impl Workload {
     pub fn has_many_targets(self) -> bool {
         matches!(
             self,
-            Workload::Plain | Workload::Layers | Workload::Degree(_)
+            Workload::Plain | Workload::Layers | Workload::Single | Workload::Degree(_)
         )
     }
 }
@@ -134,6 +138,7 @@ impl Display for Workload {
         match self {
             Workload::Plain => f.write_str("plain"),
             Workload::Layers => f.write_str("layers"),
+            Workload::Single => f.write_str("degree-0"),
             Workload::Degree(degree) => write!(f, "degree-{degree}"),
             Workload::Modules => f.write_str("modules"),
             Workload::Chain => f.write_str("chain"),
