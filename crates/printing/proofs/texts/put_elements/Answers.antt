@@ -1,0 +1,10 @@
+use Rattle.std.proofs.Common.{◌∙◌, string_bytes}
+use Rattle.printing.specs.Texts.{element_text}
+use Rattle.printing.proofs.TextLemmas.{joined-next}
+use Rattle.printing.proofs.texts.put_elements.Goals as goal
+
+pub loop-i-preserved : goal.loop-i-preserved
+loop-i-preserved c =
+    joined-next element_text c.args.elements.now c.loop-i.i (string_bytes c.loop-i.out) c.at.result.now (string_bytes c.put_element_at.new.out) c.at.ensures
+    c.in_ok-put_element_at.ensures
+    ∙ c.loop-i.invariant
