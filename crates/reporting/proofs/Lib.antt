@@ -2,3 +2,4 @@ pub mod Crossing
 pub mod Fields
 pub mod Parts
 pub mod Taken
+pub mod ElementPaths
