@@ -1,4 +1,5 @@
-//! Shelves for tests: under a limit of turns, or such that give numbers more than once.
+//! Shelves for tests: under a limit of turns, or such that give numbers more than once, lose one, or
+//! have no memory for it.
 ghost use Rattle.std.specs.Prelude.{◌≡◌, length, IfOk};
 ghost use Rattle.std.specs.List.{All};
 
@@ -8,12 +9,13 @@ use std::alloc::{AllocError, Global};
 use std::marker::Model;
 use std::sync::atomic::{AtomicU64, Ordering};
 
-/// How often in a row a worker looks at a shelf in vain before the shelf gives up.
+/// How often in a row a worker finds no new number on a shelf before the shelf gives up.
 const TURNS: u64 = 20_000_000;
 
 /// What the ends of a watched shelf saw, together.
 #[derive(Drop)]
 pub struct Watch {
+    turns: u64,
     given: Vec<AtomicU64>,
     ends: AtomicU64,
     given_up: AtomicU64,
@@ -23,11 +25,17 @@ pub struct Watch {
 impl Watch {
     /// For so many nodes. `AllocError` comes where the allocator refuses memory.
     pub fn of(alloc: Global, nodes: usize) -> Result<Watch, AllocError> {
+        Watch::with_turns(alloc, nodes, TURNS)
+    }
+
+    /// The same, but ends give up after so many looks in a row that bring no new number.
+    pub fn with_turns(alloc: Global, nodes: usize, turns: u64) -> Result<Watch, AllocError> {
         let mut given = Vec::with_capacity(alloc, nodes)?;
         for _ in 0..nodes {
             given.push(AtomicU64::new(0))?;
         }
         Ok(Watch {
+            turns,
             given,
             ends: AtomicU64::new(0),
             given_up: AtomicU64::new(0),
@@ -52,9 +60,11 @@ impl Watch {
         }
     }
 
-    fn note(&self, n: NodeId) {
-        if let Some(times) = self.given.get(n.number()) {
-            times.fetch_add(1, Ordering::SeqCst);
+    /// The node was given. Whether that was the first time.
+    fn note(&self, n: NodeId) -> bool {
+        match self.given.get(n.number()) {
+            Some(times) => times.fetch_add(1, Ordering::SeqCst) == 0,
+            None => false,
         }
     }
 }
@@ -70,8 +80,9 @@ impl Gate for Watch {
     fn leave(&self, _n: NodeId) {}
 }
 
-/// An end of a shelf that is watched. Where it has no number for so long that one must be lost, it
-/// gives up, and gives all numbers in turn: so the run ends, and the test can fail.
+/// An end of a shelf that is watched. Where it has no new number for so long that one must be lost,
+/// it gives up, and gives all numbers in turn: so the run ends, and the test can fail. A number that
+/// was given before is none that could be lost.
 #[derive(Drop)]
 pub struct Watched<'w, S: Shelf> {
     inner: S,
@@ -103,14 +114,16 @@ impl<'w, S: Shelf> Shelf for Watched<'w, S> {
             self.began = true;
             self.watch.ends.fetch_add(1, Ordering::SeqCst);
         }
-        if let Some(n) = self.inner.take() {
+        let found = self.inner.take();
+        if let Some(n) = found
+            && self.watch.note(n)
+        {
             self.in_vain = 0;
-            self.watch.note(n);
-            return Some(n);
+            return found;
         }
         self.in_vain = self.in_vain.saturating_add(1);
-        if self.in_vain < TURNS || self.nodes == 0 {
-            return None;
+        if self.in_vain < self.watch.turns || self.nodes == 0 {
+            return found;
         }
         self.watch.given_up.store(1, Ordering::SeqCst);
         self.next = if self.next < self.nodes - 1 {
@@ -222,6 +235,83 @@ pub fn all_twice<S: Shelf>(
     let mut all = Vec::new(alloc);
     for end in ends {
         all.push(doubled(end, nodes))?;
+    }
+    Ok(all)
+}
+
+/// What an end does with one number that it is to put on the shelf.
+#[derive(Clone, Copy, PartialEq, Eq)]
+pub enum Fault {
+    /// It loses the number, and says nothing.
+    Loses,
+    /// It says that there is no memory for it.
+    Refuses,
+}
+
+/// An end with a fault at one number.
+#[derive(Drop)]
+pub struct Faulty<S: Shelf> {
+    inner: S,
+    nodes: usize,
+    at: usize,
+    fault: Fault,
+    ghost same: { S.nodes inner ≡ nodes },
+}
+
+impl<S: Shelf> Model for Faulty<S> {
+    ghost use Rattle.std.specs.Prelude.{ℕ};
+
+    ghost Value = { ℕ };
+
+    ghost view = { λ s. s.nodes };
+}
+
+impl<S: Shelf> Shelf for Faulty<S> {
+    ghost nodes = { λ s. s };
+
+    fn put(&mut self, n: NodeId) -> Result<(), NoMemory> {
+        if n.number() != self.at {
+            return self.inner.put(n);
+        }
+        match self.fault {
+            Fault::Loses => Ok(()),
+            Fault::Refuses => Err(NoMemory),
+        }
+    }
+
+    fn take(&mut self) -> Option<NodeId> {
+        self.inner.take()
+    }
+}
+
+fn at_fault<S: Shelf>(inner: S, nodes: usize, at: usize, fault: Fault) -> Faulty<S>
+    requires { S.nodes inner ≡ nodes }
+    ensures { result ≡ nodes }
+{
+    Faulty {
+        inner,
+        nodes,
+        at,
+        fault,
+    }
+}
+
+/// The same ends, but with a fault at one number. `AllocError` comes where the allocator refuses
+/// memory.
+pub fn all_faulty<S: Shelf>(
+    alloc: Global,
+    ends: Vec<S>,
+    nodes: usize,
+    at: usize,
+    fault: Fault,
+) -> Result<Vec<Faulty<S>>, AllocError>
+    requires { All (λ e. S.nodes e ≡ nodes) ends.items }
+    ensures count { IfOk result (λ v. length v.items ≡ length ends.items) }
+    ensures nodes { IfOk result (λ v. All (λ e. e ≡ nodes) v.items) }
+{
+    let mut all = Vec::new(alloc);
+    for end in ends {
+        all.push(at_fault(end, nodes, at, fault))?;
     }
     Ok(all)
 }

@@ -74,7 +74,12 @@ impl Counting {
 
     /// Whether each node was entered and left once.
     pub fn once(&self) -> bool {
-        all_one(self.entered.as_slice()) && all_one(self.left.as_slice())
+        self.once_below(self.entered.len())
+    }
+
+    /// Whether each of the first `count` nodes was entered and left once, and no other ever was.
+    pub fn once_below(&self, count: usize) -> bool {
+        are_one_below(&self.entered, count) && are_one_below(&self.left, count)
     }
 }
 
@@ -103,9 +108,11 @@ fn zeros(alloc: Global, nodes: usize) -> Result<Vec<AtomicU64>, AllocError> {
     Ok(all)
 }
 
-fn all_one(counts: &[AtomicU64]) -> bool {
-    for count in counts {
-        if count.load(Ordering::SeqCst) != 1 {
+/// Whether the first so many counts are 1, and the others 0.
+fn are_one_below(counts: &[AtomicU64], ones: usize) -> bool {
+    for (n, count) in counts.iter().enumerate() {
+        let wanted = if n < ones { 1 } else { 0 };
+        if count.load(Ordering::SeqCst) != wanted {
             return false;
         }
     }

@@ -54,3 +54,37 @@ fn what_one_deque_was_given_another_steals(rt: HostRuntime) -> Result<(), Fail> 
     assert!(rt; matches!(are_passed_on(ends, 4), Ok(true)));
     Ok(())
 }
+
+/// Whether each of three ends takes first what it was given itself, and then from the one after it.
+fn are_taken_in_order<S: Shelf>(mut ends: Vec<S>, nodes: usize) -> Result<bool, NoMemory>
+    requires ends { All (λ e. S.nodes e ≡ nodes) ends.items }
+    requires nodes { 3 < nodes }
+{
+    let (Some(mut third), Some(mut second), Some(mut first)) = (
+        pop_end(&mut ends, nodes),
+        pop_end(&mut ends, nodes),
+        pop_end(&mut ends, nodes),
+    ) else {
+        return Ok(false);
+    };
+    first.put(NodeId::of(1))?;
+    third.put(NodeId::of(3))?;
+    second.put(NodeId::of(2))?;
+    second.put(NodeId::of(0))?;
+    Ok(
+        second.take() == Some(NodeId::of(2))
+            && first.take() == Some(NodeId::of(1))
+            && first.take() == Some(NodeId::of(0))
+            && second.take() == Some(NodeId::of(3))
+            && third.take().is_none(),
+    )
+}
+
+#[test]
+fn a_worker_steals_from_the_next_one_first(rt: HostRuntime) -> Result<(), Fail> {
+    let Ok(ends) = StealShelf::ends(rt.alloc(), 3, 4) else {
+        panic!(rt; "no memory")
+    };
+    assert!(rt; matches!(are_taken_in_order(ends, 4), Ok(true)));
+    Ok(())
+}

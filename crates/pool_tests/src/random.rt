@@ -4,8 +4,8 @@ ghost use Rattle.std.specs.Prelude.{◌<◌};
 use crate::analysers::CYCLE;
 use crate::runs::{KINDS, Kind, has, mix};
 use edges::{Adjacency, NodeId};
+use fakes::gates::Counting;
 use fakes::graphs::graph_of;
-use pool::NoGate;
 use std::alloc::{AllocError, Global};
 use std::sync::Wait;
 use std::test::Fail;
@@ -122,7 +122,8 @@ fn walked(alloc: Global, rows: &Adjacency) -> Result<Vec<u64>, AllocError> {
     Ok(outcomes)
 }
 
-/// Whether a random graph has its outcomes on such a shelf. Tells also whether some are of a cycle.
+/// Whether a random graph has its outcomes on such a shelf, and its nodes are entered and left once,
+/// but none that is cyclic. Tells also whether some are.
 fn is_found<R: Threads + Wait + Sync>(
     rt: &R,
     alloc: Global,
@@ -135,9 +136,14 @@ fn is_found<R: Threads + Wait + Sync>(
         return Ok((false, false));
     };
     let by = (kind, dice.workers());
-    let gathered = mix(rt, alloc, &graph, by, &NoGate);
+    let gate = Counting::of(alloc, graph.edges.nodes())?;
+    let gathered = mix(rt, alloc, &graph, by, &gate);
     let same = has(&graph, gathered, wanted.as_slice());
-    Ok((same, graph.edges.acyclic() < graph.edges.nodes()))
+    let acyclic = graph.edges.acyclic();
+    Ok((
+        same && gate.once_below(acyclic),
+        acyclic < graph.edges.nodes(),
+    ))
 }
 
 /// Whether random graphs have the outcomes of a plain walk, on each shelf in turn, and some of them

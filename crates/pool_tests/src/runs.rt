@@ -5,7 +5,7 @@ ghost use Rattle.std.specs.List.{All};
 
 use crate::analysers::{CYCLE, Mixing, Refusing};
 use edges::Numbered;
-use fakes::ends::{Watch, all_twice, all_watched};
+use fakes::ends::{Fault, Watch, all_faulty, all_twice, all_watched};
 use fakes::gates::{Both, Counting, Meeting};
 use fakes::graphs::{apart, chain, diamond, small};
 use pool::{
@@ -204,6 +204,11 @@ fn cyclic_nodes_have_their_outcome_without_a_worker(rt: HostRuntime) -> Result<(
         panic!(rt; "no graph")
     };
     assert!(rt; found_by_all(&rt, alloc, &graph, &[0, CYCLE, CYCLE, CYCLE, 4]));
+    for kind in KINDS {
+        let gate = Counting::of(alloc, 5)?;
+        assert!(rt; mix(&rt, alloc, &graph, (kind, 8), &gate).is_some());
+        assert!(rt; graph.edges.acyclic() == 2 && gate.once_below(2));
+    }
     let rows: [&[usize]; 1] = [&[0]];
     let Some(graph) = small(alloc, &rows)? else {
         panic!(rt; "no graph")
@@ -357,5 +362,59 @@ fn no_more_workers_start_than_there_are_nodes_to_run(rt: HostRuntime) -> Result<
     };
     assert!(rt; ends_in_use(&rt, alloc, &none).is_some_and(|n| n <= 1));
     assert!(rt; ends_in_use(&rt, alloc, &three).is_some_and(|n| n <= 3));
+    Ok(())
+}
+
+/// A run of two workers whose ends have a fault at one number, and whether the watch over them finds
+/// it fine. Where the number is lost, the watch waits for few turns alone.
+fn with_fault<R: Threads + Wait + Sync>(
+    rt: &R,
+    alloc: Global,
+    graph: &Numbered,
+    at: usize,
+    fault: Fault,
+) -> Option<(Option<Refused>, bool)> {
+    let nodes = graph.edges.nodes();
+    let mixing = Mixing {
+        names: graph.origin.as_slice(),
+    };
+    if mixing.names.len() != nodes {
+        return None;
+    }
+    let watch = match fault {
+        Fault::Loses => Watch::with_turns(alloc, nodes, 10_000).ok()?,
+        Fault::Refuses => Watch::of(alloc, nodes).ok()?,
+    };
+    let ends = StealShelf::ends(alloc, 2, nodes).ok()?;
+    let ends = all_faulty(alloc, ends, nodes, at, fault).ok()?;
+    let ends = all_watched(alloc, ends, nodes, &watch).ok()?;
+    let refused = run_on(rt, alloc, &graph.edges, &mixing, ends, &watch).err();
+    Some((refused, watch.is_fine()))
+}
+
+#[test]
+fn a_number_that_a_shelf_loses_is_seen_and_hangs_no_run(rt: HostRuntime) -> Result<(), Fail> {
+    let alloc = rt.alloc();
+    let Some(graph) = diamond(alloc)? else {
+        panic!(rt; "no graph")
+    };
+    // Node 0 is lost before the workers begin, node 1 by a worker while the other has node 2.
+    for at in [0, 1, 3] {
+        let found = with_fault(&rt, alloc, &graph, at, Fault::Loses);
+        assert!(rt; found == Some((None, false)), "{at}");
+    }
+    Ok(())
+}
+
+#[test]
+fn a_shelf_without_memory_ends_the_run(rt: HostRuntime) -> Result<(), Fail> {
+    let alloc = rt.alloc();
+    let Some(graph) = diamond(alloc)? else {
+        panic!(rt; "no graph")
+    };
+    for at in [0, 1, 3] {
+        let found = with_fault(&rt, alloc, &graph, at, Fault::Refuses);
+        assert!(rt; found == Some((Some(Refused::NoMemory), true)), "{at}");
+    }
     Ok(())
 }
