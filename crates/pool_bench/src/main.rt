@@ -1,5 +1,6 @@
 //! Times whole runs of `pool`: how long a board takes to open and to close, and a run between, for
-//! chains, layers and nodes without edges, by 1, 2, 4 and 64 workers.
+//! chains, layers and nodes without edges, by 1, 2, 4 and 64 workers, on a deque a worker and on one
+//! locked queue.
 //!
 //! Without the word `time` it runs small graphs and prints whether all workers found the same
 //! outcomes, which never changes. With it, it prints for each row the milliseconds of opening and
@@ -9,7 +10,7 @@
 mod rows;
 mod work;
 
-use rows::{Row, agree, time_row};
+use rows::{Kind, Row, agree, time_row};
 use std::alloc::Global;
 use std::rt::Clock;
 use std::sync::Wait;
@@ -32,7 +33,7 @@ const WORKERS: [usize; 4] = [1, 2, 4, 64];
 /// The kinds of graph: a chain, layers of 1,000 nodes that depend on four each, and no edges.
 const SHAPES: [(&str, usize, usize); 3] = [("chain", 1, 1), ("layers", 1_000, 4), ("wide", 1, 0)];
 
-/// Whether one worker and four find the same outcomes, for each kind of graph.
+/// Whether one worker and four find the same outcomes on both shelves, for each kind of graph.
 fn check<R: Print + Threads + Wait + Sync>(rt: &R, alloc: Global) -> io::Result<()> {
     for (name, width, degree) in SHAPES {
         let row = Row {
@@ -41,7 +42,9 @@ fn check<R: Print + Threads + Wait + Sync>(rt: &R, alloc: Global) -> io::Result<
             degree,
             nodes: FEW,
         };
-        let found = if agree(rt, alloc, &row)? {
+        let found = if agree(rt, alloc, &row, Kind::Deques)?
+            && agree(rt, alloc, &row, Kind::Queue)?
+        {
             "the same outcomes"
         } else {
             "no answer"
@@ -66,7 +69,8 @@ fn time<R: Print + Clock + CpuClock + Threads + Wait + Sync>(
             nodes,
         };
         for workers in WORKERS {
-            time_row(rt, alloc, &row, workers, micros, steps)?;
+            time_row(rt, alloc, &row, (Kind::Deques, workers), micros, steps)?;
+            time_row(rt, alloc, &row, (Kind::Queue, workers), micros, steps)?;
         }
     }
     Ok(())

@@ -4,7 +4,7 @@ ghost use Rattle.std.specs.Prelude.{◌≡◌, length, IfSome};
 use crate::work::Busy;
 use edges::{Edges, Numbered};
 use fakes::graphs::layers;
-use pool::{Gathered, NoGate, NodeId, open_board, run};
+use pool::{Gathered, LockShelf, NoGate, NodeId, open_board, run, run_on};
 use std::alloc::{AllocError, Global};
 use std::io;
 use std::rt::Clock;
@@ -21,20 +21,39 @@ pub struct Row {
     pub nodes: usize,
 }
 
+/// On which shelf the workers of a run find their nodes.
+#[derive(Clone, Copy)]
+pub enum Kind {
+    /// A deque a worker.
+    Deques,
+    /// One queue under one lock.
+    Queue,
+}
+
+impl Kind {
+    fn name(self) -> &'static str {
+        match self {
+            Kind::Deques => "deques",
+            Kind::Queue => "queue",
+        }
+    }
+}
+
 fn graph_of(alloc: Global, row: &Row) -> Result<Option<Numbered>, AllocError> {
     layers(alloc, row.nodes, row.width, row.degree)
 }
 
-/// A run of so many workers, from 1 to 64.
+/// A run of so many workers, from 1 to 64, on such a shelf.
 fn run_by<R: Threads + Wait + Sync>(
     rt: &R,
     alloc: Global,
     graph: &Edges,
-    workers: usize,
+    by: (Kind, usize),
     steps: u64,
 ) -> Option<Gathered<u64>>
     ensures { IfSome result (λ g. g.nodes ≡ length graph.now.deps) }
 {
+    let (kind, workers) = by;
     if workers == 0 || workers > 64 {
         return None;
     }
@@ -42,7 +61,13 @@ fn run_by<R: Threads + Wait + Sync>(
         nodes: graph.nodes(),
         steps,
     };
-    run(rt, alloc, graph, &busy, workers, &NoGate).ok()
+    match kind {
+        Kind::Deques => run(rt, alloc, graph, &busy, workers, &NoGate).ok(),
+        Kind::Queue => {
+            let ends = LockShelf::ends(rt, alloc, workers, graph.nodes()).ok()?;
+            run_on(rt, alloc, graph, &busy, ends, &NoGate).ok()
+        }
+    }
 }
 
 /// Whether both have the same outcome for each of so many nodes.
@@ -58,14 +83,19 @@ fn are_same(one: &Gathered<u64>, other: &Gathered<u64>, nodes: usize) -> bool
     true
 }
 
-/// Whether one worker and four find the same outcomes.
-pub fn agree<R: Threads + Wait + Sync>(rt: &R, alloc: Global, row: &Row) -> io::Result<bool> {
+/// Whether one worker, and four on such a shelf, find the same outcomes.
+pub fn agree<R: Threads + Wait + Sync>(
+    rt: &R,
+    alloc: Global,
+    row: &Row,
+    kind: Kind,
+) -> io::Result<bool> {
     let Some(graph) = graph_of(alloc, row)? else {
         return Ok(false);
     };
     let (Some(one), Some(four)) = (
-        run_by(rt, alloc, &graph.edges, 1, 0),
-        run_by(rt, alloc, &graph.edges, 4, 0),
+        run_by(rt, alloc, &graph.edges, (Kind::Deques, 1), 0),
+        run_by(rt, alloc, &graph.edges, (kind, 4), 0),
     ) else {
         return Ok(false);
     };
@@ -91,12 +121,12 @@ fn open_and_close<R: Clock>(
     Ok((opened, time))
 }
 
-/// Prints the times of a row by so many workers.
+/// Prints the times of a row by so many workers on such a shelf.
 pub fn time_row<R: Print + Clock + CpuClock + Threads + Wait + Sync>(
     rt: &R,
     alloc: Global,
     row: &Row,
-    workers: usize,
+    (kind, workers): (Kind, usize),
     micros: u64,
     steps: u64,
 ) -> io::Result<()> {
@@ -106,7 +136,7 @@ pub fn time_row<R: Print + Clock + CpuClock + Threads + Wait + Sync>(
     let (opened, closed) = open_and_close(rt, alloc, &graph.edges, workers)?;
     let used = rt.process_cpu_time()?;
     let start = Instant::now(rt)?;
-    let gathered = run_by(rt, alloc, &graph.edges, workers, steps);
+    let gathered = run_by(rt, alloc, &graph.edges, (kind, workers), steps);
     let wall = start.elapsed(rt)?.as_nanos();
     let used = rt.process_cpu_time()?.saturating_sub(used).as_nanos();
     let answer = if gathered.is_some() {
@@ -116,9 +146,10 @@ pub fn time_row<R: Print + Clock + CpuClock + Threads + Wait + Sync>(
     };
     let nodes = row.nodes.max(1) as u128;
     println!(rt;
-        "{} of {}, {micros} us a node, {workers} workers: open {} ms, close {} ms, run {} ns a node, processor {} ns a node{answer}",
+        "{} of {}, {micros} us a node, {workers} workers, {}: open {} ms, close {} ms, run {} ns a node, processor {} ns a node{answer}",
         row.name,
         row.nodes,
+        kind.name(),
         opened / 1_000_000,
         closed / 1_000_000,
         wall / nodes,
