@@ -227,6 +227,12 @@ fn report<R: Print + Clock>(
     Ok(())
 }
 
+/// The steps of a depset's listing.
+fn steps_of(alloc: Global, depset: &Depset) -> Result<u64> {
+    let listing = depset.list_whole(alloc)?;
+    Ok(listing.steps)
+}
+
 /// The depsets: made and listed.
 fn depsets<R: Print + Clock>(rt: &R, alloc: Global, timed: bool) -> Result<()> {
     let start = Instant::now(rt)?;
@@ -236,8 +242,8 @@ fn depsets<R: Print + Clock>(rt: &R, alloc: Global, timed: bool) -> Result<()> {
     };
     report(rt, "depsets made", DEPSETS, start, timed)?;
     let start = Instant::now(rt)?;
-    let listing = depset.list_whole(alloc)?;
-    report(rt, "steps of a listing", listing.steps, start, timed)
+    let steps = steps_of(alloc, &depset)?;
+    report(rt, "steps of a listing", steps, start, timed)
 }
 
 /// Small lists frozen, and two long lists compared.
