@@ -12,13 +12,59 @@ use std::sync::Wait;
 use std::thread::Threads;
 use std::time::{CpuClock, Instant};
 
-/// A kind of graph: layers of `width` nodes, each of which depends on `degree` nodes.
+/// A kind of graph: layers of `width` nodes, each of which depends on `degree` nodes of the layer
+/// before.
 #[derive(Clone, Copy)]
-pub struct Row {
+pub struct Shape {
     pub name: &'static str,
     pub width: usize,
     pub degree: usize,
+}
+
+/// A chain, layers of 1,000 nodes that depend on four or on ten each, and nodes without edges.
+pub const SHAPES: [Shape; 4] = [
+    Shape {
+        name: "chain",
+        width: 1,
+        degree: 1,
+    },
+    Shape {
+        name: "layers",
+        width: 1_000,
+        degree: 4,
+    },
+    Shape {
+        name: "dense",
+        width: 1_000,
+        degree: 10,
+    },
+    Shape {
+        name: "wide",
+        width: 1,
+        degree: 0,
+    },
+];
+
+/// A graph of some kind with so many nodes.
+#[derive(Clone, Copy)]
+pub struct Row {
+    pub shape: Shape,
     pub nodes: usize,
+}
+
+impl Row {
+    /// The row of these words, if they name one.
+    pub fn named(name: &str, nodes: &str) -> Option<Row> {
+        let Ok(nodes) = nodes.parse() else {
+            return None;
+        };
+        for shape in SHAPES {
+            if shape.name == name {
+                return Some(Row { shape, nodes });
+            }
+        }
+        None
+    }
 }
 
 /// On which shelf the workers of a run find their nodes.
@@ -31,6 +77,15 @@ pub enum Kind {
 }
 
 impl Kind {
+    /// The shelf of this name, if there is one.
+    pub fn named(name: &str) -> Option<Kind> {
+        match name {
+            "deques" => Some(Kind::Deques),
+            "queue" => Some(Kind::Queue),
+            _ => None,
+        }
+    }
+
     fn name(self) -> &'static str {
         match self {
             Kind::Deques => "deques",
@@ -40,7 +95,7 @@ impl Kind {
 }
 
 fn graph_of(alloc: Global, row: &Row) -> Result<Option<Numbered>, AllocError> {
-    layers(alloc, row.nodes, row.width, row.degree)
+    layers(alloc, row.nodes, row.shape.width, row.shape.degree)
 }
 
 /// A run of so many workers, from 1 to 64, on such a shelf.
@@ -121,6 +176,33 @@ fn open_and_close<R: Clock>(
     Ok((opened, time))
 }
 
+/// Prints how long the graph of a row takes to be made, its rows among it, and how many edges it has.
+pub fn time_graph<R: Print + Clock>(rt: &R, alloc: Global, row: &Row) -> io::Result<()> {
+    let start = Instant::now(rt)?;
+    let Some(graph) = graph_of(alloc, row)? else {
+        return println!(rt; "no graph");
+    };
+    let nanos = start.elapsed(rt)?.as_nanos();
+    let edges = edges_of(&graph.edges);
+    let parts = edges.saturating_add(row.nodes).max(1) as u128;
+    println!(rt;
+        "{} of {}: {edges} edges, made in {} ms, {} ns a node or edge",
+        row.shape.name,
+        row.nodes,
+        nanos / 1_000_000,
+        nanos / parts
+    )
+}
+
+/// How many edges the graph has.
+fn edges_of(graph: &Edges) -> usize {
+    let mut edges: usize = 0;
+    for n in 0..graph.nodes() {
+        edges = edges.saturating_add(graph.deps(NodeId::of(n)).len());
+    }
+    edges
+}
+
 /// Prints the times of a row by so many workers on such a shelf.
 pub fn time_row<R: Print + Clock + CpuClock + Threads + Wait + Sync>(
     rt: &R,
@@ -147,7 +229,7 @@ pub fn time_row<R: Print + Clock + CpuClock + Threads + Wait + Sync>(
     let nodes = row.nodes.max(1) as u128;
     println!(rt;
         "{} of {}, {micros} us a node, {workers} workers, {}: open {} ms, close {} ms, run {} ns a node, processor {} ns a node{answer}",
-        row.name,
+        row.shape.name,
         row.nodes,
         kind.name(),
         opened / 1_000_000,
