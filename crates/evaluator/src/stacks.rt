@@ -59,7 +59,7 @@ pub(crate) fn left_of(alloc: Global, walked: &Seen<'_>) -> Result<Stack<Value>, 
 fn items_left(alloc: Global, group: Group<'_>) -> Result<Stack<Value>, AllocError>
     ensures { IfOk result (λ left. left ≡ group_items group.entry) }
 {
-    let mut left = Stack::new(alloc);
+    let mut left = Stack::with_capacity(alloc, group.len())?;
     let mut place = group.len();
     while place > 0 {
         place -= 1;
@@ -72,7 +72,7 @@ fn items_left(alloc: Global, group: Group<'_>) -> Result<Stack<Value>, AllocErro
 fn keys_left(alloc: Global, entries: Table<'_>) -> Result<Stack<Value>, AllocError>
     ensures { IfOk result (λ left. left ≡ map Value.Key (keys_of (table_entries entries.entry))) }
 {
-    let mut left = Stack::new(alloc);
+    let mut left = Stack::with_capacity(alloc, entries.len())?;
     let mut place = entries.len();
     while place > 0 {
         place -= 1;

@@ -29,6 +29,18 @@ impl<T> Stack<T> {
         }
     }
 
+    /// A stack without items, with memory for so many.
+    ///
+    /// # Errors
+    ///
+    /// Memory was refused.
+    pub fn with_capacity(alloc: Global, items: usize) -> Result<Stack<T>, AllocError>
+        ensures { IfOk result (λ s. s ≡ []) }
+    {
+        let items = Vec::with_capacity(alloc, items)?;
+        Ok(Stack { items })
+    }
+
     /// How many items it has.
     pub fn len(&self) -> usize
         ensures { result ≡ length self.now }

@@ -176,14 +176,21 @@ fn open_and_close<R: Clock>(
     Ok((opened, time))
 }
 
-/// Prints how long the graph of a row takes to be made, its rows among it, and how many edges it has.
-pub fn time_graph<R: Print + Clock>(rt: &R, alloc: Global, row: &Row) -> io::Result<()> {
+/// How many nanoseconds the graph of a row takes to be made, its rows among it, and how many edges it has.
+fn graph_times<R: Clock>(rt: &R, alloc: Global, row: &Row) -> io::Result<Option<(u128, usize)>> {
     let start = Instant::now(rt)?;
     let Some(graph) = graph_of(alloc, row)? else {
-        return println!(rt; "no graph");
+        return Ok(None);
     };
     let nanos = start.elapsed(rt)?.as_nanos();
-    let edges = edges_of(&graph.edges);
+    Ok(Some((nanos, edges_of(&graph.edges))))
+}
+
+/// Prints how long the graph of a row takes to be made, and how many edges it has.
+pub fn time_graph<R: Print + Clock>(rt: &R, alloc: Global, row: &Row) -> io::Result<()> {
+    let Some((nanos, edges)) = graph_times(rt, alloc, row)? else {
+        return println!(rt; "no graph");
+    };
     let parts = edges.saturating_add(row.nodes).max(1) as u128;
     println!(rt;
         "{} of {}: {edges} edges, made in {} ms, {} ns a node or edge",
@@ -203,6 +210,62 @@ fn edges_of(graph: &Edges) -> usize {
     edges
 }
 
+/// How many nanoseconds a run takes by the clock and of processors, and whether it has an answer.
+#[derive(Clone, Copy)]
+struct Ran {
+    wall: u128,
+    used: u128,
+    is_answered: bool,
+}
+
+/// Times a run by so many workers on such a shelf.
+fn ran<R: Clock + CpuClock + Threads + Wait + Sync>(
+    rt: &R,
+    alloc: Global,
+    graph: &Edges,
+    by: (Kind, usize),
+    steps: u64,
+) -> io::Result<Ran> {
+    let used = rt.process_cpu_time()?;
+    let start = Instant::now(rt)?;
+    let gathered = run_by(rt, alloc, graph, by, steps);
+    let wall = start.elapsed(rt)?.as_nanos();
+    let used = rt.process_cpu_time()?.saturating_sub(used).as_nanos();
+    Ok(Ran {
+        wall,
+        used,
+        is_answered: gathered.is_some(),
+    })
+}
+
+/// What a row takes: opening and closing a board, and a run.
+#[derive(Clone, Copy)]
+struct Times {
+    opened: u128,
+    closed: u128,
+    ran: Ran,
+}
+
+/// Times a row, if there is a graph of it.
+fn times<R: Clock + CpuClock + Threads + Wait + Sync>(
+    rt: &R,
+    alloc: Global,
+    row: &Row,
+    by: (Kind, usize),
+    steps: u64,
+) -> io::Result<Option<Times>> {
+    let Some(graph) = graph_of(alloc, row)? else {
+        return Ok(None);
+    };
+    let (opened, closed) = open_and_close(rt, alloc, &graph.edges, by.1)?;
+    let ran = ran(rt, alloc, &graph.edges, by, steps)?;
+    Ok(Some(Times {
+        opened,
+        closed,
+        ran,
+    }))
+}
+
 /// Prints the times of a row by so many workers on such a shelf.
 pub fn time_row<R: Print + Clock + CpuClock + Threads + Wait + Sync>(
     rt: &R,
@@ -212,16 +275,10 @@ pub fn time_row<R: Print + Clock + CpuClock + Threads + Wait + Sync>(
     micros: u64,
     steps: u64,
 ) -> io::Result<()> {
-    let Some(graph) = graph_of(alloc, row)? else {
+    let Some(times) = times(rt, alloc, row, (kind, workers), steps)? else {
         return println!(rt; "no graph");
     };
-    let (opened, closed) = open_and_close(rt, alloc, &graph.edges, workers)?;
-    let used = rt.process_cpu_time()?;
-    let start = Instant::now(rt)?;
-    let gathered = run_by(rt, alloc, &graph.edges, (kind, workers), steps);
-    let wall = start.elapsed(rt)?.as_nanos();
-    let used = rt.process_cpu_time()?.saturating_sub(used).as_nanos();
-    let answer = if gathered.is_some() {
+    let answer = if times.ran.is_answered {
         ""
     } else {
         " (no answer)"
@@ -232,9 +289,9 @@ pub fn time_row<R: Print + Clock + CpuClock + Threads + Wait + Sync>(
         row.shape.name,
         row.nodes,
         kind.name(),
-        opened / 1_000_000,
-        closed / 1_000_000,
-        wall / nodes,
-        used / nodes
+        times.opened / 1_000_000,
+        times.closed / 1_000_000,
+        times.ran.wall / nodes,
+        times.ran.used / nodes
     )
 }

@@ -1,5 +1,5 @@
 -- Nodes where they lie, as the definitions of a report see them.
-use Rattle.std.specs.Prelude.{◌≡◌, ℕ, ◌<◌, List, length, map, slice_index_or, string_bytes, IfOk, String, Result}
+use Rattle.std.specs.Prelude.{◌≡◌, ℕ, ◌+◌, ◌*◌, ◌<◌, List, length, map, slice_index_or, string_bytes, IfOk, String, Vec, Result}
 use Rattle.std.specs.Fork.{slice_chunk}
 use Rattle.std.specs.List.{flat_map}
 use Rattle.depsets.specs.Listed.{walked}
@@ -16,6 +16,12 @@ nodes_seen ns = map node_seen ns
 abbrev pub lines_of : List Node → List ℕ
 lines_of ns = flat_map (node_text walked) (nodes_seen ns)
 
--- of each part of nodes, of so many each, a text has the lines, if there is one
-abbrev pub AreLinesOf : {A E : Type 0} → List Node → ℕ → List (Result (String A) E) → Type 0
-AreLinesOf {A} {E} ns size texts = (n : ℕ) (d : Result (String A) E) → n < length texts → IfOk (slice_index_or texts n d) (λ t. string_bytes t ≡ lines_of (slice_chunk ns size n))
+-- texts of every so many-th part of nodes, from the first one on, of parts of so many nodes each
+abbrev pub HaveLines : {A : Type 0} → List Node → ℕ → ℕ → ℕ → List (String A) → Type 0
+HaveLines {A} ns size first step texts = (k : ℕ) (d : String A) → k < length texts →
+    string_bytes (slice_index_or texts k d) ≡ lines_of (slice_chunk ns size (first + k * step))
+
+-- lists of such texts, one from each part on that is less than their number; a list may be missing
+abbrev pub AreLinesOf : {A B E : Type 0} → List Node → ℕ → List (Result (Vec (String A) B) E) → Type 0
+AreLinesOf {A} {B} {E} ns size lists = (i : ℕ) (d : Result (Vec (String A) B) E) → i < length lists →
+    IfOk (slice_index_or lists i d) (λ v. HaveLines ns size i (length lists) v.items)

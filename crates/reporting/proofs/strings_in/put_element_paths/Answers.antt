@@ -1,4 +1,4 @@
-use Rattle.std.proofs.Common.{◌≡◌, ◌++◌, ◌∙◌, ap, map, flat_map, drop, string_bytes, ◌+◌, ◌≤◌, arith}
+use Rattle.std.proofs.Common.{◌++◌, ◌∙◌, ap, map, flat_map, drop, string_bytes, ◌+◌, arith}
 use Rattle.printing.specs.Texts.{joined_from, quoted, separator}
 use Rattle.reporting.specs.Lines.{element_paths}
 use Rattle.reporting.proofs.ElementPaths.{file-next, other-next, no_paths}
