@@ -1,5 +1,4 @@
 pub mod Crossing
-pub mod Ordered
 pub mod Labelled
 pub mod Plainly
 pub mod Told

@@ -24,9 +24,9 @@ use Rattle.plain_workspaces.specs.Workspaces.{evaluated}
 use Rattle.plain_workspaces.proofs.Files.{faults_same}
 use Rattle.plain_workspaces.proofs.Outcomes.{dependencies_same, outcomes_same}
 use Rattle.answers.specs.Answers.{Answer, IsAnswerOf}
-use Rattle.answers.specs.Ordered.{Entry, AreInOrder}
+use Rattle.label_order.specs.Ordered.{Entry, AreInOrder}
 use Rattle.answers.specs.Nodes.{AreOutcomesOf, node_of, nodes_of}
-use Rattle.answers.proofs.Ordered.{map_twice}
+use Rattle.label_order.proofs.Ordered.{map_twice}
 use Rattle.answers.proofs.Plainly.{told_plainly}
 
 module _ (files : List Pair) (limit : ℕ) (asked : List LabelParts) (g : GraphView) (r : GatheredView Outcome) (es : List Entry)

@@ -6,7 +6,7 @@ use Rattle.outcomes.specs.Workspaces.{Workspace, outcome_of}
 use Rattle.targets.specs.declared.outcome.Outcome.{Outcome}
 use Rattle.pool.specs.Gathered.{GatheredView, outcome_in}
 use Rattle.reporting.specs.Answers.{Node}
-use Rattle.answers.specs.Ordered.{Entry}
+use Rattle.label_order.specs.Ordered.{Entry}
 
 -- what was found of each node is what becomes of its label
 abbrev pub AreOutcomesOf : Workspace → List LabelParts → GatheredView Outcome → Type 0

@@ -8,7 +8,6 @@
 mod found;
 mod label;
 pub mod laws;
-mod order;
 mod refused;
 mod report;
 mod team;

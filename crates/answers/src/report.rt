@@ -8,16 +8,16 @@ ghost use Rattle.loader.specs.Loaded.{AreFilesOf};
 ghost use Rattle.graph.specs.Graphs.{IsGraphOf};
 ghost use Rattle.outcomes.specs.Workspaces.{dependencies};
 ghost use Rattle.answers.specs.Nodes.{AreOutcomesOf, nodes_of};
-ghost use Rattle.answers.specs.Ordered.{entry_seen, AreInOrder};
+ghost use Rattle.label_order.specs.Ordered.{entry_seen, AreInOrder};
 ghost use Rattle.plain_workspaces.specs.Workspaces.{evaluated};
 ghost use Rattle.answers.specs.Reports.{IsTooMany, Reports};
 
 use crate::found::found;
-use crate::order::{Entry, by_label};
 use crate::refused::{NoReport, without_graph};
 use crate::team::{Deques, Shelving, Team};
 use edges::NodeId;
 use graph::Graph;
+use label_order::{Entry, by_label};
 use loader::LoadedFiles;
 use packages::Targets;
 use pool::{Gate, Gathered, Shelf, StealShelf};

@@ -1,7 +1,7 @@
 use Rattle.std.proofs.Common.{◌∙◌, map, ap}
 use Rattle.reporting.specs.Seen.{nodes_seen}
 use Rattle.answers.specs.Nodes.{nodes_of}
-use Rattle.answers.specs.Ordered.{entry_seen}
+use Rattle.label_order.specs.Ordered.{entry_seen}
 use Rattle.answers.proofs.Told.{reports}
 use Rattle.answers.proofs.report.told.Goals as goal
 

@@ -1,5 +1,5 @@
-use Rattle.answers.proofs.Ordered.{in_order, within}
-use Rattle.answers.proofs.order.by_label.Goals as goal
+use Rattle.label_order.proofs.Ordered.{in_order, within}
+use Rattle.label_order.proofs.order.by_label.Goals as goal
 
 pub returns-clause-numbers : goal.returns-clause-numbers
 returns-clause-numbers c =

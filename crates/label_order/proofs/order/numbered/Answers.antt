@@ -1,6 +1,6 @@
 use Rattle.std.proofs.Common.{refl}
-use Rattle.answers.proofs.Ordered.{one_more}
-use Rattle.answers.proofs.order.numbered.Goals as goal
+use Rattle.label_order.proofs.Ordered.{one_more}
+use Rattle.label_order.proofs.order.numbered.Goals as goal
 
 pub loop-n-preserved : goal.loop-n-preserved
 loop-n-preserved c =

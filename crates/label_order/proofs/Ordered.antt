@@ -1,5 +1,5 @@
 -- Labels that are put in the order of their texts.
-use Rattle.std.proofs.Common.{◌≡◌, ◌↔◌, ◌∙◌, ℕ, ◌+◌, ◌<◌, Bool, true, false, List, [], ◌∷◌, ◌++◌, length, map, get_or, All, Contains, sym, ap, subst, refl, arith, true≢false}
+use Rattle.std.proofs.Common.{◌≡◌, ◌∙◌, ℕ, ◌+◌, ◌<◌, Bool, true, false, List, [], ◌∷◌, ◌++◌, length, map, get_or, All, Contains, sym, ap, subst, refl, arith, true≢false}
 use Rattle.std.specs.Prelude.{bytes_eq}
 use Rattle.std.specs.Borrow.{Bor}
 use Rattle.std.specs.List.{range_with_len, IsDistinct, AllByRecursion}
@@ -12,14 +12,14 @@ use Rattle.std.proofs.lemmas.Cmp.{nat_list_eq_equiv}
 use Rattle.std.proofs.lemmas.List.{get_or-map, length-map}
 use Rattle.std.proofs.lemmas.List.Elements.{All-map, All-push, All-contains, Contains-get_or, recursion_from_All}
 use Rattle.std.proofs.lemmas.List.FromFn.{fill_by_all, map-range_with_len_more, length-range_with_len, get_or-range_with_len}
-use Rattle.std.proofs.lemmas.List.Sorted.{IsPermutation-map, IsPermutation-sym, IsPermutation-keeps, Contains-permutation}
-use Rattle.std.proofs.lemmas.Map.Keys.{IsDistinct-head, IsDistinct-tail, IsDistinct-cons, IsDistinct-IsPermutation}
+use Rattle.std.proofs.lemmas.List.Sorted.{IsPermutation-map, IsPermutation-sym, Contains-permutation}
+use Rattle.std.proofs.lemmas.Map.Keys.{IsDistinct-head, IsDistinct-tail, IsDistinct-IsPermutation}
 use Rattle.std.proofs.lemmas.Slice.Eq.{bytes_eq-Decides}
 use Rattle.workspace.specs.Labels.{LabelParts, is_label, label_text}
 use Rattle.graph.specs.Same.{label_at, same_label, no_label, same_label-decides}
 use Rattle.actions.specs.Clashes.{AreAscending}
 use Rattle.actions.proofs.Ascending.{sorted_ascends}
-use Rattle.answers.specs.Ordered.{Entry, entry_seen, entries, AreInOrder}
+use Rattle.label_order.specs.Ordered.{Entry, entry_seen, entries, AreInOrder}
 use Rattle.outcomes.proofs.Owners.{texts_apart}
 
 -- ---- the entries of all nodes

@@ -4,7 +4,7 @@ ghost use Rattle.std.specs.List.{All};
 ghost use Rattle.workspace.specs.Labels.{is_label};
 ghost use Rattle.graph.specs.Same.{label_at, same_label};
 ghost use Rattle.std.specs.List.{IsDistinct};
-ghost use Rattle.answers.specs.Ordered.{entry_seen, entries, AreInOrder};
+ghost use Rattle.label_order.specs.Ordered.{entry_seen, entries, AreInOrder};
 
 use edges::NodeId;
 use graph::Graph;
@@ -12,7 +12,7 @@ use std::alloc::{AllocError, Global};
 use workspace::Label;
 
 /// A label, and the number of its node.
-pub(crate) type Entry<'g> = (&'g Label, usize);
+pub type Entry<'g> = (&'g Label, usize);
 
 /// The label of a node.
 fn label_of(graph: &Graph, n: usize) -> &Label
@@ -42,7 +42,7 @@ fn numbered(alloc: Global, graph: &Graph) -> Result<Vec<Entry<'_>>, AllocError>
 /// # Errors
 ///
 /// `AllocError` where memory was refused.
-pub(crate) fn by_label(alloc: Global, graph: &Graph) -> Result<Vec<Entry<'_>>, AllocError>
+pub fn by_label(alloc: Global, graph: &Graph) -> Result<Vec<Entry<'_>>, AllocError>
     ensures numbers { IfOk result (λ v. All (λ e. e.1 < length graph.now.labels) v.items) }
     ensures order { IfOk result (λ v. IsDistinct same_label graph.now.labels
         → AreInOrder graph.now.labels (map entry_seen v.items)) }
