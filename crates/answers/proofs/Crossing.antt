@@ -1,7 +1,7 @@
 -- What workers share and hand on may cross threads.
 use denote.Param.Send.{IsSend, IsSync, sendable}
 use Rattle.std.proofs.Crossing as std
-use Rattle.values.proofs.Crossing.{leaf_send, leaf_sync, frozen_send, frozen_sync}
+use Rattle.values.proofs.Crossing.{leaf_send, leaf_sync, frozen_sync}
 use Rattle.values.proofs.key.Key.TheSendSync as key
 use Rattle.values.proofs.leaf.Provider.TheSendSync as provider
 use Rattle.values.proofs.frozen.Branch.TheLaws.TheKnot as frozen

@@ -1,5 +1,5 @@
 -- What a run finds of the nodes of a graph is what becomes of their labels.
-use Rattle.std.proofs.Common.{◌≡◌, ◌∙◌, ℕ, ◌<◌, List, length, arith}
+use Rattle.std.proofs.Common.{◌∙◌, ℕ, List, length, arith}
 use Rattle.std.specs.Prelude.{nat_eq}
 use Rattle.std.specs.List.{range_with_len}
 use Rattle.std.specs.Cmp.{unsigned_Decides}
@@ -17,7 +17,7 @@ use Rattle.targets.specs.declared.outcome.Outcome.TheVariants.{Failed}
 use Rattle.targets.specs.declared.outcome.TargetFault.TheVariants.{Cycle}
 use Rattle.outcomes.specs.Workspaces.{Workspace, AllAreListed, dependencies, cycle_of, step_of, outcome_of}
 use Rattle.outcomes.proofs.Together.{are_outcomes}
-use Rattle.pool.specs.Gathered.{GatheredView, HasOutcomes, outcome_in}
+use Rattle.pool.specs.Gathered.{GatheredView, HasOutcomes}
 use Rattle.answers.specs.Nodes.{AreOutcomesOf}
 
 lawful : (deps : List (List ℕ)) (cycle : ℕ → Outcome) (step : ℕ → List Outcome → Outcome) → AreLawful deps cycle step

@@ -1,5 +1,5 @@
 -- What a report tells is the answer.
-use Rattle.std.proofs.Common.{◌≡◌, ◌∙◌, ◌↔◌, ℕ, List, [], ◌∷◌, map, All, Contains, Result, Ok, Err, IfOk, sym, ap, subst, refl}
+use Rattle.std.proofs.Common.{◌≡◌, ◌∙◌, ◌↔◌, ℕ, List, map, All, Contains, Result, Ok, Err, IfOk, sym, ap, subst}
 use Rattle.std.specs.Prelude.{string_bytes}
 use Rattle.depsets.specs.Listed.{walked}
 use Rattle.lexer.specs.declared.fault.FaultKind.{FaultKind}
@@ -16,8 +16,8 @@ use Rattle.graph.specs.Graphs.{GraphView, IsGraphOf}
 use Rattle.graph.specs.Reached.{IsReached, TooManyReached}
 use Rattle.graph.specs.Same.{same_label}
 use Rattle.targets.specs.declared.outcome.Outcome.{Outcome}
-use Rattle.outcomes.specs.Workspaces.{Workspace, dependencies, outcome_of}
-use Rattle.pool.specs.Gathered.{GatheredView, outcome_in}
+use Rattle.outcomes.specs.Workspaces.{dependencies, outcome_of}
+use Rattle.pool.specs.Gathered.{GatheredView}
 use Rattle.reporting.specs.Answers.{Node, is_loud, report_text}
 use Rattle.loader.specs.Files.{faults}
 use Rattle.plain_workspaces.specs.Workspaces.{evaluated}

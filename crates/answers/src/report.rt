@@ -6,6 +6,8 @@ ghost use Rattle.workspace.specs.Workspaces.{IsWorkspace, Pair};
 ghost use Rattle.reporting.specs.Seen.{nodes_seen};
 ghost use Rattle.loader.specs.Loaded.{AreFilesOf};
 ghost use Rattle.graph.specs.Graphs.{IsGraphOf};
+ghost use Rattle.graph.specs.Reached.{TooManyReached};
+ghost use Rattle.graph.specs.Same.{same_label};
 ghost use Rattle.outcomes.specs.Workspaces.{dependencies};
 ghost use Rattle.answers.specs.Nodes.{AreOutcomesOf, nodes_of};
 ghost use Rattle.label_order.specs.Ordered.{entry_seen, AreInOrder};
@@ -72,6 +74,53 @@ fn told<R: Threads + Sync>(
     make_report(rt, alloc, targets.faults(), &nodes, threads)
 }
 
+/// The targets of a workspace that is read and evaluated, where each evaluation may use so many ticks.
+fn targets_of(alloc: Global, workspace: &Workspace, limit: u64) -> Result<Targets, AllocError>
+    ensures files { IfOk result (λ t. AreFilesOf workspace.now t.files) }
+    ensures limit { IfOk result (λ t. t.limit ≡ limit) }
+{
+    let files = LoadedFiles::of(alloc, workspace, limit)?;
+    Targets::declare(alloc, files)
+}
+
+/// The graph of these labels and of all that they depend on.
+fn graph_of(alloc: Global, targets: &Targets, labels: &[Label]) -> Result<Graph, NoReport>
+    ensures graph { let w = evaluated targets.now.files targets.now.limit in
+        IfOk result (IsGraphOf (dependencies w) labels.now) }
+    ensures many { let w = evaluated targets.now.files targets.now.limit in
+        result ≡ Err NoReport.TooMany
+        → TooManyReached (dependencies w) labels.now same_label NODE_LIMIT }
+{
+    match Graph::of(alloc, targets, labels, NODE_LIMIT) {
+        Ok(graph) => Ok(graph),
+        Err(refused) => Err(without_graph(refused)),
+    }
+}
+
+/// The report on the labels of a graph, by a team of workers at any shelf.
+fn report_on_graph<R, S, F, G>(
+    rt: &R,
+    alloc: Global,
+    targets: &Targets,
+    graph: &Graph,
+    team: &Team<'_, F, G>,
+) -> Result<Report, NoReport>
+where
+    R: Threads + Wait + Sync,
+    S: Shelf + Send,
+    F: Shelving<S>,
+    G: Gate,
+    requires workers { (0 < team.now.workers) × (team.now.workers < 65) }
+    ensures report { let w = evaluated targets.now.files targets.now.limit in
+        (workspace : List Pair) (asked : List LabelParts) → IsWorkspace workspace
+        → AreFilesOf workspace targets.now.files → IsGraphOf (dependencies w) asked graph.now
+        → IfOk result (Reports workspace asked targets.now.limit) }
+    ensures few { result ≡ Err NoReport.TooMany → ⊥ }
+{
+    let found = found::<R, S, F, G>(rt, alloc, targets, graph, team)?;
+    Ok(told(rt, alloc, targets, graph, &found, team.workers)?)
+}
+
 /// The report on labels of a workspace and on all that they depend on, where each evaluation may use so many ticks.
 ///
 /// It is [`report_on_shelf`] where each worker has a deque.
@@ -132,12 +181,10 @@ where
 {
     // The paths of a workspace are legal, so none of them is the text of a label.
     let _count = workspace.count();
-    let files = LoadedFiles::of(alloc, workspace, limit)?;
-    let targets = Targets::declare(alloc, files)?;
-    let graph = match Graph::of(alloc, &targets, labels, NODE_LIMIT) {
+    let targets = targets_of(alloc, workspace, limit)?;
+    let graph = match graph_of(alloc, &targets, labels) {
         Ok(graph) => graph,
-        Err(refused) => return Err(without_graph(refused)),
+        Err(refused) => return Err(refused),
     };
-    let found = found::<R, S, F, G>(rt, alloc, &targets, &graph, team)?;
-    Ok(told(rt, alloc, &targets, &graph, &found, team.workers)?)
+    report_on_graph::<R, S, F, G>(rt, alloc, &targets, &graph, team)
 }

@@ -1,7 +1,8 @@
 //! The workspaces whose requests are timed.
 
 use made_workspaces::{
-    chained_modules, layered_modules, layered_targets, looping_module, plain_targets,
+    chained_modules, layered_modules, layered_targets, listing_module, looping_module,
+    plain_targets,
 };
 use std::alloc::{AllocError, Global};
 use std::fmt::{Display, Error, Formatter, Write};
@@ -26,6 +27,8 @@ pub enum Workload {
     Chain,
     /// A cycle of 100,000 modules.
     Cycle,
+    /// A module whose list of 1,000,000 tuples is frozen; a turn of `tuple` makes one that isn't.
+    Frozen,
     /// A module that goes 1,000,000 times round a loop.
     Loop(Turn),
 }
@@ -38,7 +41,7 @@ pub struct Turn {
 }
 
 /// The workspaces that aren't loops.
-const WHOLE: [Workload; 8] = [
+const WHOLE: [Workload; 9] = [
     Workload::Plain,
     Workload::Layers,
     Workload::Single,
@@ -47,10 +50,11 @@ const WHOLE: [Workload; 8] = [
     Workload::Modules,
     Workload::Chain,
     Workload::Cycle,
+    Workload::Frozen,
 ];
 
 /// The turns: of each group of operations one or two.
-const TURNS_OF: [Turn; 14] = [
+const TURNS_OF: [Turn; 27] = [
     Turn {
         name: "nothing",
         statement: "pass",
@@ -104,6 +108,58 @@ const TURNS_OF: [Turn; 14] = [
         statement: "x = p.x",
     },
     Turn {
+        name: "index",
+        statement: "x = l[i % 3]",
+    },
+    Turn {
+        name: "byte",
+        statement: "x = s[i % 4]",
+    },
+    Turn {
+        name: "append",
+        statement: "l.append(i)",
+    },
+    Turn {
+        name: "extend",
+        statement: "l.extend([i])",
+    },
+    Turn {
+        name: "increase",
+        statement: "l += [i]",
+    },
+    Turn {
+        name: "tuple",
+        statement: "x = (i, i)",
+    },
+    Turn {
+        name: "unpacking",
+        statement: "x, y = (i, i)",
+    },
+    Turn {
+        name: "splitting",
+        statement: "x = 'a b c'.split(' ')",
+    },
+    Turn {
+        name: "get",
+        statement: "x = d.get(i % 64)",
+    },
+    Turn {
+        name: "keys",
+        statement: "x = d.keys()",
+    },
+    Turn {
+        name: "depset",
+        statement: "x = depset([i], transitive = [e])",
+    },
+    Turn {
+        name: "listing",
+        statement: "x = e.to_list()",
+    },
+    Turn {
+        name: "instance",
+        statement: "x = P(x = i)",
+    },
+    Turn {
         name: "comprehension",
         statement: "x = [y for y in l]",
     },
@@ -120,6 +176,7 @@ impl Workload {
             Workload::Modules => layered_modules(alloc, 10, 1_000, 12),
             Workload::Chain => chained_modules(alloc, 100_000, false),
             Workload::Cycle => chained_modules(alloc, 100_000, true),
+            Workload::Frozen => listing_module(alloc, TURNS),
             Workload::Loop(turn) => looping_module(alloc, TURNS, turn.statement),
         }
     }
@@ -143,6 +200,7 @@ impl Display for Workload {
             Workload::Modules => f.write_str("modules"),
             Workload::Chain => f.write_str("chain"),
             Workload::Cycle => f.write_str("cycle"),
+            Workload::Frozen => f.write_str("frozen"),
             Workload::Loop(turn) => f.write_str(turn.name),
         }
     }

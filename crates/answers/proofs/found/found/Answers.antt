@@ -1,4 +1,4 @@
-use Rattle.std.proofs.Common.{◌≡◌, subst}
+use Rattle.std.proofs.Common.{subst}
 use Rattle.outcomes.specs.Workspaces.{step_of}
 use Rattle.edges.specs.Edges.{EdgesView}
 use Rattle.graph.specs.Same.{label_at}

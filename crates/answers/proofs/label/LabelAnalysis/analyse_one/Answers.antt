@@ -1,4 +1,4 @@
-use Rattle.std.proofs.Common.{◌≡◌, ◌∙◌, IfOk, List, map, sym, ap, subst}
+use Rattle.std.proofs.Common.{◌≡◌, ◌∙◌, IfOk, List, map, ap, subst}
 use Rattle.workspace.specs.Labels.{LabelParts}
 use Rattle.workspace.specs.Workspaces.{paths_of}
 use Rattle.targets.specs.Resolving.{named}
