@@ -212,26 +212,26 @@ fn edges_of(graph: &Edges) -> usize {
 
 /// How many nanoseconds a run takes by the clock and of processors, and whether it has an answer.
 #[derive(Clone, Copy)]
-struct Ran {
+struct RunTime {
     wall: u128,
     used: u128,
     is_answered: bool,
 }
 
 /// Times a run by so many workers on such a shelf.
-fn ran<R: Clock + CpuClock + Threads + Wait + Sync>(
+fn time_run<R: Clock + CpuClock + Threads + Wait + Sync>(
     rt: &R,
     alloc: Global,
     graph: &Edges,
     by: (Kind, usize),
     steps: u64,
-) -> io::Result<Ran> {
+) -> io::Result<RunTime> {
     let used = rt.process_cpu_time()?;
     let start = Instant::now(rt)?;
     let gathered = run_by(rt, alloc, graph, by, steps);
     let wall = start.elapsed(rt)?.as_nanos();
     let used = rt.process_cpu_time()?.saturating_sub(used).as_nanos();
-    Ok(Ran {
+    Ok(RunTime {
         wall,
         used,
         is_answered: gathered.is_some(),
@@ -240,29 +240,29 @@ fn ran<R: Clock + CpuClock + Threads + Wait + Sync>(
 
 /// What a row takes: opening and closing a board, and a run.
 #[derive(Clone, Copy)]
-struct Times {
+struct RowTime {
     opened: u128,
     closed: u128,
-    ran: Ran,
+    run: RunTime,
 }
 
 /// Times a row, if there is a graph of it.
-fn times<R: Clock + CpuClock + Threads + Wait + Sync>(
+fn measure<R: Clock + CpuClock + Threads + Wait + Sync>(
     rt: &R,
     alloc: Global,
     row: &Row,
     by: (Kind, usize),
     steps: u64,
-) -> io::Result<Option<Times>> {
+) -> io::Result<Option<RowTime>> {
     let Some(graph) = graph_of(alloc, row)? else {
         return Ok(None);
     };
     let (opened, closed) = open_and_close(rt, alloc, &graph.edges, by.1)?;
-    let ran = ran(rt, alloc, &graph.edges, by, steps)?;
-    Ok(Some(Times {
+    let run = time_run(rt, alloc, &graph.edges, by, steps)?;
+    Ok(Some(RowTime {
         opened,
         closed,
-        ran,
+        run,
     }))
 }
 
@@ -275,10 +275,10 @@ pub fn time_row<R: Print + Clock + CpuClock + Threads + Wait + Sync>(
     micros: u64,
     steps: u64,
 ) -> io::Result<()> {
-    let Some(times) = times(rt, alloc, row, (kind, workers), steps)? else {
+    let Some(time) = measure(rt, alloc, row, (kind, workers), steps)? else {
         return println!(rt; "no graph");
     };
-    let answer = if times.ran.is_answered {
+    let answer = if time.run.is_answered {
         ""
     } else {
         " (no answer)"
@@ -289,9 +289,9 @@ pub fn time_row<R: Print + Clock + CpuClock + Threads + Wait + Sync>(
         row.shape.name,
         row.nodes,
         kind.name(),
-        times.opened / 1_000_000,
-        times.closed / 1_000_000,
-        times.ran.wall / nodes,
-        times.ran.used / nodes
+        time.opened / 1_000_000,
+        time.closed / 1_000_000,
+        time.run.wall / nodes,
+        time.run.used / nodes
     )
 }
