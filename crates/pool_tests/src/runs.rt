@@ -11,7 +11,7 @@ use fakes::graphs::{apart, chain, diamond, small};
 use pool::{
     Analyse, Edges, Gate, Gathered, LockShelf, NoGate, NodeId, Refused, Shelf, StealShelf, run_on,
 };
-use std::alloc::Global;
+use std::alloc::{AllocError, Global};
 use std::sync::Wait;
 use std::test::Fail;
 use std::thread::Threads;
@@ -195,6 +195,21 @@ fn the_empty_graph(rt: HostRuntime) -> Result<(), Fail> {
     Ok(())
 }
 
+/// Whether two nodes of five are not cyclic, and these alone are entered and left, once, on each shelf.
+fn two_alone_run<R: Threads + Wait + Sync>(
+    rt: &R,
+    alloc: Global,
+    graph: &Numbered,
+) -> Result<bool, AllocError> {
+    for kind in KINDS {
+        let gate = Counting::of(alloc, 5)?;
+        if mix(rt, alloc, graph, (kind, 8), &gate).is_none() || !gate.once_below(2) {
+            return Ok(false);
+        }
+    }
+    Ok(graph.edges.acyclic() == 2)
+}
+
 #[test]
 fn cyclic_nodes_have_their_outcome_without_a_worker(rt: HostRuntime) -> Result<(), Fail> {
     let alloc = rt.alloc();
@@ -204,11 +219,13 @@ fn cyclic_nodes_have_their_outcome_without_a_worker(rt: HostRuntime) -> Result<(
         panic!(rt; "no graph")
     };
     assert!(rt; found_by_all(&rt, alloc, &graph, &[0, CYCLE, CYCLE, CYCLE, 4]));
-    for kind in KINDS {
-        let gate = Counting::of(alloc, 5)?;
-        assert!(rt; mix(&rt, alloc, &graph, (kind, 8), &gate).is_some());
-        assert!(rt; graph.edges.acyclic() == 2 && gate.once_below(2));
-    }
+    assert!(rt; two_alone_run(&rt, alloc, &graph)?);
+    Ok(())
+}
+
+#[test]
+fn a_node_that_depends_on_itself_is_cyclic(rt: HostRuntime) -> Result<(), Fail> {
+    let alloc = rt.alloc();
     let rows: [&[usize]; 1] = [&[0]];
     let Some(graph) = small(alloc, &rows)? else {
         panic!(rt; "no graph")

@@ -53,116 +53,35 @@ const WHOLE: [Workload; 9] = [
     Workload::Frozen,
 ];
 
-/// The turns: of each group of operations one or two.
-const TURNS_OF: [Turn; 27] = [
-    Turn {
-        name: "nothing",
-        statement: "pass",
-    },
-    Turn {
-        name: "arithmetic",
-        statement: "x = i * 3 + 1",
-    },
-    Turn {
-        name: "division",
-        statement: "x = i // 7 % 5",
-    },
-    Turn {
-        name: "comparison",
-        statement: "x = i < 5 or i == 7",
-    },
-    Turn {
-        name: "equality",
-        statement: "x = l == [1, 2, 4]",
-    },
-    Turn {
-        name: "concatenation",
-        statement: "x = s + str(i)",
-    },
-    Turn {
-        name: "method",
-        statement: "x = s.startswith('te')",
-    },
-    Turn {
-        name: "joining",
-        statement: "x = s.join([s, s])",
-    },
-    Turn {
-        name: "call",
-        statement: "x = f(i)",
-    },
-    Turn {
-        name: "list",
-        statement: "l[i % 3] = i",
-    },
-    Turn {
-        name: "dict",
-        statement: "d[i % 64] = i",
-    },
-    Turn {
-        name: "membership",
-        statement: "x = i in d",
-    },
-    Turn {
-        name: "field",
-        statement: "x = p.x",
-    },
-    Turn {
-        name: "index",
-        statement: "x = l[i % 3]",
-    },
-    Turn {
-        name: "byte",
-        statement: "x = s[i % 4]",
-    },
-    Turn {
-        name: "append",
-        statement: "l.append(i)",
-    },
-    Turn {
-        name: "extend",
-        statement: "l.extend([i])",
-    },
-    Turn {
-        name: "increase",
-        statement: "l += [i]",
-    },
-    Turn {
-        name: "tuple",
-        statement: "x = (i, i)",
-    },
-    Turn {
-        name: "unpacking",
-        statement: "x, y = (i, i)",
-    },
-    Turn {
-        name: "splitting",
-        statement: "x = 'a b c'.split(' ')",
-    },
-    Turn {
-        name: "get",
-        statement: "x = d.get(i % 64)",
-    },
-    Turn {
-        name: "keys",
-        statement: "x = d.keys()",
-    },
-    Turn {
-        name: "depset",
-        statement: "x = depset([i], transitive = [e])",
-    },
-    Turn {
-        name: "listing",
-        statement: "x = e.to_list()",
-    },
-    Turn {
-        name: "instance",
-        statement: "x = P(x = i)",
-    },
-    Turn {
-        name: "comprehension",
-        statement: "x = [y for y in l]",
-    },
+/// The turns, each by its name and its statement: of each group of operations one or two.
+const TURNS_OF: [(&str, &str); 27] = [
+    ("nothing", "pass"),
+    ("arithmetic", "x = i * 3 + 1"),
+    ("division", "x = i // 7 % 5"),
+    ("comparison", "x = i < 5 or i == 7"),
+    ("equality", "x = l == [1, 2, 4]"),
+    ("concatenation", "x = s + str(i)"),
+    ("method", "x = s.startswith('te')"),
+    ("joining", "x = s.join([s, s])"),
+    ("call", "x = f(i)"),
+    ("list", "l[i % 3] = i"),
+    ("dict", "d[i % 64] = i"),
+    ("membership", "x = i in d"),
+    ("field", "x = p.x"),
+    ("index", "x = l[i % 3]"),
+    ("byte", "x = s[i % 4]"),
+    ("append", "l.append(i)"),
+    ("extend", "l.extend([i])"),
+    ("increase", "l += [i]"),
+    ("tuple", "x = (i, i)"),
+    ("unpacking", "x, y = (i, i)"),
+    ("splitting", "x = 'a b c'.split(' ')"),
+    ("get", "x = d.get(i % 64)"),
+    ("keys", "x = d.keys()"),
+    ("depset", "x = depset([i], transitive = [e])"),
+    ("listing", "x = e.to_list()"),
+    ("instance", "x = P(x = i)"),
+    ("comprehension", "x = [y for y in l]"),
 ];
 
 impl Workload {
@@ -212,8 +131,8 @@ pub fn all(alloc: Global) -> Result<Vec<Workload>, AllocError> {
     for workload in WHOLE {
         found.push(workload)?;
     }
-    for turn in TURNS_OF {
-        found.push(Workload::Loop(turn))?;
+    for (name, statement) in TURNS_OF {
+        found.push(Workload::Loop(Turn { name, statement }))?;
     }
     Ok(found)
 }
