@@ -4,8 +4,9 @@ ghost use Rattle.pool.specs.Gathered.{outcome_in};
 ghost use Rattle.pool_tests.specs.Examples.{bracketed};
 
 use crate::analysers::{Nesting, Text};
+use crate::runs::run_at;
 use edges::Adjacency;
-use pool::{Edges, Gathered, NoGate, NodeId, run};
+use pool::{Edges, Gathered, NoGate, NodeId, StealShelf};
 use std::alloc::{AllocError, Global};
 use std::sync::Wait;
 use std::test::Fail;
@@ -27,10 +28,11 @@ fn texts<R: Threads + Wait + Sync>(rt: &R, alloc: Global, graph: &Edges) -> Opti
     ensures nodes { IfSome result (λ g. g.nodes ≡ length graph.now.deps) }
     ensures text { IfSome result (λ g. outcome_in g 1 ≡ bracketed (bracketed [] ∷ [])) }
 {
-    let nesting = Nesting {
-        nodes: graph.nodes(),
-    };
-    match run(rt, alloc, graph, &nesting, 2, &NoGate) {
+    let nodes = graph.nodes();
+    let nesting = Nesting { nodes };
+    let ends = StealShelf::ends(alloc, 2, nodes).ok()?;
+    let ran = run_at(rt, alloc, graph, &nesting, ends, &NoGate)?;
+    match ran {
         Ok(gathered) => Some(gathered),
         Err(_) => None,
     }

@@ -2,6 +2,7 @@
 //! test and doesn't hang it.
 ghost use Rattle.std.specs.Prelude.{◌≡◌, ◌<◌, length, IfOk, IfSome};
 ghost use Rattle.std.specs.List.{All};
+ghost use Rattle.pool.specs.Gathered.{HasOutcomes};
 
 use crate::analysers::{CYCLE, Mixing, Refusing};
 use edges::Numbered;
@@ -28,23 +29,26 @@ pub(crate) const KINDS: [Kind; 3] = [Kind::Lock, Kind::Steal, Kind::StealTwice];
 
 /// A run of workers at these ends. `None` where an end gave up, or a node was worked on that the
 /// shelf hadn't given.
-fn run_at<S, A, G, R>(
+pub(crate) fn run_at<V, S, A, G, R>(
     rt: &R,
     alloc: Global,
     graph: &Edges,
     analyse: &A,
     ends: Vec<S>,
     gate: &G,
-) -> Option<Result<Gathered<u64>, Refused>>
+) -> Option<Result<Gathered<V>, Refused>>
 where
+    V: Send + Sync + Drop,
     S: Shelf + Send,
-    A: Analyse<u64>,
+    A: Analyse<V>,
     G: Gate,
     R: Threads + Wait + Sync,
     requires ends { All (λ e. S.nodes e ≡ length graph.now.deps) ends.items }
     requires count { (0 < length ends.items) × (length ends.items < 65) }
     requires nodes { A.nodes analyse.now ≡ length graph.now.deps }
-    ensures { IfSome result (λ a. IfOk a (λ g. g.nodes ≡ length graph.now.deps)) }
+    ensures nodes { IfSome result (λ a. IfOk a (λ g. g.nodes ≡ length graph.now.deps)) }
+    ensures outcomes { let a = analyse.now in IfSome result
+        (λ r. IfOk r (HasOutcomes (A.cycle a) (A.step a) (A.fits a) graph.now.deps)) }
 {
     let watch = Watch::of(alloc, graph.nodes()).ok()?;
     let ends = all_watched(alloc, ends, graph.nodes(), &watch).ok()?;

@@ -1,7 +1,8 @@
-//! Outcomes that are texts, by `run` itself.
+//! Outcomes that are texts.
 use crate::analysers::Nesting;
+use crate::runs::run_at;
 use fakes::graphs::diamond;
-use pool::{NoGate, NodeId, run};
+use pool::{NoGate, NodeId, StealShelf};
 use std::alloc::Global;
 use std::sync::Wait;
 use std::test::Fail;
@@ -20,15 +21,16 @@ fn is_nested<R: Threads + Wait + Sync>(
         return Ok(false);
     };
     let graph = &graph.edges;
-    let nesting = Nesting {
-        nodes: graph.nodes(),
-    };
-    if graph.nodes() != 4 {
+    let nodes = graph.nodes();
+    if nodes != 4 {
         return Ok(false);
     }
-    Ok(match run(rt, alloc, graph, &nesting, workers, &NoGate) {
-        Ok(gathered) => gathered.outcome(NodeId::of(3)).as_bytes() == b"[[[]][[]]]".as_slice(),
-        Err(_) => false,
+    let nesting = Nesting { nodes };
+    let ends = StealShelf::ends(alloc, workers, nodes)?;
+    Ok(match run_at(rt, alloc, graph, &nesting, ends, &NoGate) {
+        Some(Ok(gathered)) => gathered.outcome(NodeId::of(3)).as_bytes()
+            == b"[[[]][[]]]".as_slice(),
+        Some(Err(_)) | None => false,
     })
 }
 
