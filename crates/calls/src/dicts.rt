@@ -19,8 +19,8 @@ use values::{Broken, Heap, Item, Items, Key, Kind, Leaf, Seen, Table, Value};
 /// # Errors
 ///
 /// `arity`; `type`, where the key can't be one.
-pub fn get(state: &State, dict: &Value, arguments: &[Value]) -> Result<Value, Broken>
-    ensures { Does (get (entries_in (shape state.now.heap dict.now)) arguments.now) state.now result
+pub fn get(state: &State, dict: Item<'_>, arguments: &[Value]) -> Result<Value, Broken>
+    ensures { Does (get (entries_in (shape state.now.heap (item_value dict.entry))) arguments.now) state.now result
         state.now }
 {
     match arguments {
@@ -32,8 +32,8 @@ pub fn get(state: &State, dict: &Value, arguments: &[Value]) -> Result<Value, Br
 }
 
 /// The value of a key, or None.
-fn got_or_none(heap: &Heap, dict: &Value, key: &Value) -> Result<Value, Broken>
-    ensures { Gives (got (entries_in (shape heap.now dict.now)) none (shape heap.now key.now))
+fn got_or_none(heap: &Heap, dict: Item<'_>, key: &Value) -> Result<Value, Broken>
+    ensures { Gives (got (entries_in (shape heap.now (item_value dict.entry))) none (shape heap.now key.now))
         result }
 {
     let none = Value::Leaf(Leaf::None);
@@ -41,11 +41,11 @@ fn got_or_none(heap: &Heap, dict: &Value, key: &Value) -> Result<Value, Broken>
 }
 
 /// The value of a key, or another.
-fn got(heap: &Heap, dict: &Value, default: Item<'_>, key: &Value) -> Result<Value, Broken>
-    ensures { Gives (got (entries_in (shape heap.now dict.now)) (item_value default.entry)
+fn got(heap: &Heap, dict: Item<'_>, default: Item<'_>, key: &Value) -> Result<Value, Broken>
+    ensures { Gives (got (entries_in (shape heap.now (item_value dict.entry))) (item_value default.entry)
         (shape heap.now key.now)) result }
 {
-    match heap.see(dict) {
+    match heap.see_item(dict) {
         Seen::Dict(entries) => state::get(entries, default, &heap.see(key)),
         _ => without_entries(default, &heap.see(key)),
     }
@@ -63,10 +63,10 @@ fn without_entries(default: Item<'_>, key: &Seen<'_>) -> Result<Value, Broken>
 }
 
 /// `dict.keys()`: a new list.
-pub fn keys(alloc: Global, state: &mut State, dict: &Value) -> Result<Value, Broken>
-    ensures { Does (keys (entries_in (shape state.old.heap dict.now))) state.old result state.new }
+pub fn keys(alloc: Global, state: &mut State, dict: Item<'_>) -> Result<Value, Broken>
+    ensures { Does (keys (entries_in (shape state.old.heap (item_value dict.entry)))) state.old result state.new }
 {
-    let items = keys_in(alloc, &state.heap.see(dict))?;
+    let items = keys_in(alloc, &state.heap.see_item(dict))?;
     new_list(state, items)
 }
 
@@ -103,11 +103,11 @@ fn put_key(key: &Key, items: &mut Items) -> Result<(), AllocError>
 }
 
 /// `dict.values()`: a new list.
-pub fn values(alloc: Global, state: &mut State, dict: &Value) -> Result<Value, Broken>
-    ensures { Does (values (entries_in (shape state.old.heap dict.now))) state.old result
+pub fn values(alloc: Global, state: &mut State, dict: Item<'_>) -> Result<Value, Broken>
+    ensures { Does (values (entries_in (shape state.old.heap (item_value dict.entry)))) state.old result
         state.new }
 {
-    let items = values_in(alloc, &state.heap.see(dict))?;
+    let items = values_in(alloc, &state.heap.see_item(dict))?;
     new_list(state, items)
 }
 

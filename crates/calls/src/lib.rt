@@ -13,6 +13,7 @@ mod functions;
 mod methods;
 mod pairs;
 mod ranges;
+mod receivers;
 
 pub use arguments::{Parameter, argument, got, only, positions};
 pub use binding::check_arguments;

@@ -2,7 +2,7 @@
 ghost use Rattle.std.specs.Prelude.{◌≡◌, ◌∷◌, [], Ok, Err, Some, None, MatchResult, MatchOption, List, option_copied};
 ghost use Rattle.values.specs.Ticking.{FaultOr};
 ghost use Rattle.values.specs.Shape.{shape};
-ghost use Rattle.values.specs.declared.cells.Cell.{Cell as Kept};
+ghost use Rattle.values.specs.Seeing.{item_value};
 ghost use Rattle.operations.specs.States.{Does, Stays};
 ghost use Rattle.operations.specs.Reading.{string_in, depset_in};
 ghost use Rattle.operations.specs.Making.{entries_in};
@@ -16,11 +16,12 @@ ghost use Rattle.operations.specs.Calls.{of_text, of_depset, method_of, method_w
 use crate::arguments::{only, positions};
 use crate::dicts::{get, keys, values};
 use crate::pairs::items;
+use crate::receivers::{depset_of, string_of};
+use operands::as_value;
 use operations::{Arguments, Method, State};
-use plain::Text;
 use std::alloc::Global;
 use text_calls::{ends_with, join, split, starts_with};
-use values::{Broken, Depset, Key, Kind, Leaf, Value};
+use values::{Broken, Item, Kind, Value};
 
 /// The call of a method of a list, a dict, a string or a depset.
 ///
@@ -31,10 +32,10 @@ pub fn call_method(
     alloc: Global,
     state: &mut State,
     method: Method,
-    receiver: &Value,
+    receiver: Item<'_>,
     arguments: &Arguments<'_>,
 ) -> Result<Value, Broken>
-    ensures { Does (method_call method receiver.now (given arguments.now)) state.old result
+    ensures { Does (method_call method (item_value receiver.entry) (given arguments.now)) state.old result
         state.new }
 {
     match positions(arguments) {
@@ -48,10 +49,10 @@ fn method_of(
     alloc: Global,
     state: &mut State,
     method: Method,
-    receiver: &Value,
+    receiver: Item<'_>,
     items: &[Value],
 ) -> Result<Value, Broken>
-    ensures { Does (method_of method receiver.now items.now) state.old result state.new }
+    ensures { Does (method_of method (item_value receiver.entry) items.now) state.old result state.new }
 {
     match method {
         Method::Append => append_one(state, receiver, items),
@@ -68,32 +69,41 @@ fn method_of(
     }
 }
 
-fn append_one(state: &mut State, list: &Value, items: &[Value]) -> Result<Value, Broken>
-    ensures { Does (with_one (append list.now) items.now) state.old result state.new }
+fn append_one(state: &mut State, list: Item<'_>, items: &[Value]) -> Result<Value, Broken>
+    ensures { Does (with_one (append (item_value list.entry)) items.now) state.old result state.new }
 {
     let Some(item) = only(items) else {
         return Err(Broken::Kind(Kind::Arity));
     };
     let item = item.share()?;
-    state::append(state, list, item)
+    let list = as_value(list)?;
+    state::append(state, list.get(), item)
 }
 
 fn extend_one(
     alloc: Global,
     state: &mut State,
-    list: &Value,
+    list: Item<'_>,
     items: &[Value],
 ) -> Result<Value, Broken>
-    ensures { Does (with_one (extend list.now) items.now) state.old result state.new }
+    ensures { Does (with_one (extend (item_value list.entry)) items.now) state.old result state.new }
 {
     match only(items) {
-        Some(sequence) => state::extend(alloc, state, list, sequence),
+        Some(sequence) => {
+            let list = as_value(list)?;
+            state::extend(alloc, state, list.get(), sequence)
+        }
         None => Err(Broken::Kind(Kind::Arity)),
     }
 }
 
-fn keys_of(alloc: Global, state: &mut State, dict: &Value, items: &[Value]) -> Result<Value, Broken>
-    ensures { Does (with_none (keys (entries_in (shape state.old.heap dict.now))) items.now)
+fn keys_of(
+    alloc: Global,
+    state: &mut State,
+    dict: Item<'_>,
+    items: &[Value],
+) -> Result<Value, Broken>
+    ensures { Does (with_none (keys (entries_in (shape state.old.heap (item_value dict.entry)))) items.now)
         state.old result state.new }
 {
     if !items.is_empty() {
@@ -105,10 +115,10 @@ fn keys_of(alloc: Global, state: &mut State, dict: &Value, items: &[Value]) -> R
 fn values_of(
     alloc: Global,
     state: &mut State,
-    dict: &Value,
+    dict: Item<'_>,
     items: &[Value],
 ) -> Result<Value, Broken>
-    ensures { Does (with_none (values (entries_in (shape state.old.heap dict.now))) items.now)
+    ensures { Does (with_none (values (entries_in (shape state.old.heap (item_value dict.entry)))) items.now)
         state.old result state.new }
 {
     if !items.is_empty() {
@@ -120,10 +130,10 @@ fn values_of(
 fn pairs_of(
     alloc: Global,
     state: &mut State,
-    dict: &Value,
+    dict: Item<'_>,
     arguments: &[Value],
 ) -> Result<Value, Broken>
-    ensures { Does (with_none (pairs (entries_in (shape state.old.heap dict.now))) arguments.now)
+    ensures { Does (with_none (pairs (entries_in (shape state.old.heap (item_value dict.entry)))) arguments.now)
         state.old result state.new }
 {
     if !arguments.is_empty() {
@@ -132,33 +142,13 @@ fn pairs_of(
     items(alloc, state, dict)
 }
 
-/// The string that a value is, whatever the heap.
-fn string_of(value: &Value) -> Option<&Text>
-    ensures { (h : List Kept) → option_copied result ≡ string_in (shape h value.now) }
-{
-    match value {
-        Value::Key(Key::Text(text)) => Some(text),
-        _ => None,
-    }
-}
-
-/// The depset that a value is, whatever the heap.
-fn depset_of(value: &Value) -> Option<&Depset>
-    ensures { (h : List Kept) → option_copied result ≡ depset_in (shape h value.now) }
-{
-    match value {
-        Value::Leaf(Leaf::Depset(depset)) => Some(depset),
-        _ => None,
-    }
-}
-
 fn join_one(
     alloc: Global,
     state: &State,
-    receiver: &Value,
+    receiver: Item<'_>,
     items: &[Value],
 ) -> Result<Value, Broken>
-    ensures { Does (of_text join (string_in (shape state.now.heap receiver.now)) items.now) state.now
+    ensures { Does (of_text join (string_in (shape state.now.heap (item_value receiver.entry))) items.now) state.now
         result state.now }
 {
     let Some(text) = string_of(receiver) else {
@@ -173,10 +163,10 @@ fn join_one(
 fn split_one(
     alloc: Global,
     state: &mut State,
-    receiver: &Value,
+    receiver: Item<'_>,
     items: &[Value],
 ) -> Result<Value, Broken>
-    ensures { Does (of_text split (string_in (shape state.old.heap receiver.now)) items.now)
+    ensures { Does (of_text split (string_in (shape state.old.heap (item_value receiver.entry))) items.now)
         state.old result state.new }
 {
     let Some(text) = string_of(receiver) else {
@@ -188,8 +178,8 @@ fn split_one(
     }
 }
 
-fn starts_with_one(state: &State, receiver: &Value, items: &[Value]) -> Result<Value, Broken>
-    ensures { Does (of_text starts_with (string_in (shape state.now.heap receiver.now)) items.now)
+fn starts_with_one(state: &State, receiver: Item<'_>, items: &[Value]) -> Result<Value, Broken>
+    ensures { Does (of_text starts_with (string_in (shape state.now.heap (item_value receiver.entry))) items.now)
         state.now result state.now }
 {
     let Some(text) = string_of(receiver) else {
@@ -201,8 +191,8 @@ fn starts_with_one(state: &State, receiver: &Value, items: &[Value]) -> Result<V
     }
 }
 
-fn ends_with_one(state: &State, receiver: &Value, items: &[Value]) -> Result<Value, Broken>
-    ensures { Does (of_text ends_with (string_in (shape state.now.heap receiver.now)) items.now)
+fn ends_with_one(state: &State, receiver: Item<'_>, items: &[Value]) -> Result<Value, Broken>
+    ensures { Does (of_text ends_with (string_in (shape state.now.heap (item_value receiver.entry))) items.now)
         state.now result state.now }
 {
     let Some(text) = string_of(receiver) else {
@@ -217,10 +207,10 @@ fn ends_with_one(state: &State, receiver: &Value, items: &[Value]) -> Result<Val
 fn list_of(
     alloc: Global,
     state: &mut State,
-    receiver: &Value,
+    receiver: Item<'_>,
     items: &[Value],
 ) -> Result<Value, Broken>
-    ensures { Does (of_depset (depset_in (shape state.old.heap receiver.now)) items.now) state.old
+    ensures { Does (of_depset (depset_in (shape state.old.heap (item_value receiver.entry))) items.now) state.old
         result state.new }
 {
     let Some(depset) = depset_of(receiver) else {

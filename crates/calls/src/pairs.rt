@@ -2,6 +2,7 @@
 ghost use Rattle.std.specs.Prelude.{◌≡◌, ◌<◌, ◌++◌, ◌∷◌, [], Ok, Err, Some, MatchResult, IfOk, OnOk, length, slice_get};
 ghost use Rattle.values.specs.Ticking.{FaultOr};
 ghost use Rattle.values.specs.Shape.{shape};
+ghost use Rattle.values.specs.Seeing.{item_value};
 ghost use Rattle.operations.specs.States.{Does, Stays, then_do};
 ghost use Rattle.operations.specs.Making.{new_list, new_tuple, entries_in};
 ghost use Rattle.operations.specs.Methods.{pairs};
@@ -11,14 +12,14 @@ use crate::dicts::{keys_in, values_in};
 use operations::State;
 use state::{new_list, new_tuple};
 use std::alloc::{AllocError, Global};
-use values::{Broken, Items, Value};
+use values::{Broken, Item, Items, Value};
 
 /// `dict.items()`: a new list of tuples of two, which take the next cells in the order of the entries.
-pub fn items(alloc: Global, state: &mut State, dict: &Value) -> Result<Value, Broken>
-    ensures { Does (pairs (entries_in (shape state.old.heap dict.now))) state.old result state.new }
+pub fn items(alloc: Global, state: &mut State, dict: Item<'_>) -> Result<Value, Broken>
+    ensures { Does (pairs (entries_in (shape state.old.heap (item_value dict.entry)))) state.old result state.new }
 {
-    let keys = keys_in(alloc, &state.heap.see(dict))?;
-    let values = values_in(alloc, &state.heap.see(dict))?;
+    let keys = keys_in(alloc, &state.heap.see_item(dict))?;
+    let values = values_in(alloc, &state.heap.see_item(dict))?;
     list_or_undo(alloc, state, keys.as_slice(), values.as_slice())
 }
 

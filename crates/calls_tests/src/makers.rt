@@ -5,7 +5,7 @@ use plain::{Shared, Text};
 use state::{State, new_list};
 use state_tests::states::{fresh, gives, string};
 use std::alloc::{AllocError, Global};
-use values::{Broken, BuiltIn, Items, Names, Provider, ProviderRef, Value};
+use values::{Broken, BuiltIn, Item, Items, Names, Provider, ProviderRef, Value};
 
 fn one_item(alloc: Global, value: Value) -> Result<Items, AllocError> {
     let mut items = Items::new(alloc);
@@ -42,7 +42,13 @@ fn depsets_are_listed(rt: HostRuntime) -> Result<(), Broken> {
         values: &[],
     };
     let depset = depset(alloc, &mut state, "direct")?;
-    let list = call_method(alloc, &mut state, Method::ToList, &depset, &none);
+    let list = call_method(
+        alloc,
+        &mut state,
+        Method::ToList,
+        Item::Value(&depset),
+        &none,
+    );
     assert!(rt; gives(alloc, &state, &list, "[\"x\"]"));
     Ok(())
 }

@@ -1,6 +1,7 @@
 //! For tests: the state of a file that has done nothing yet, arguments by name, and what stands outside of the file.
 use declaring::Attributes;
 use file_places::Rules;
+use operands::Bindings;
 use operations::{Arguments, Defaults, State};
 use plain::{Shared, Text};
 use std::alloc::{AllocError, Global};
@@ -8,7 +9,7 @@ use targets::{Attribute, Rule, Sequence};
 use values::{Fields, FunctionRef, Heap, Items, Key, Leaf, MadeId, Names, Ticks, Value};
 
 /// The state of a file that may use 1,000 ticks.
-pub fn begun(alloc: Global) -> Result<State, AllocError> {
+pub fn begun(alloc: Global) -> Result<State<'static>, AllocError> {
     Ok(State {
         heap: Heap::new(alloc),
         ticks: Ticks::new(1000),
@@ -16,7 +17,7 @@ pub fn begun(alloc: Global) -> Result<State, AllocError> {
         depsets: 0,
         file: 0,
         globals: Fields::with_capacity(alloc, 0)?,
-        loaded: Fields::with_capacity(alloc, 0)?,
+        loaded: Bindings::unbound(alloc, 0)?,
         defaults: Defaults::new(alloc),
     })
 }

@@ -23,7 +23,7 @@ fn rule_leaf(alloc: Global) -> Result<Leaf, AllocError> {
 }
 
 /// A package that has declared nothing yet.
-fn package(alloc: Global) -> Result<Whole<PackageTargets>, Broken> {
+fn package(alloc: Global) -> Result<Whole<'static, PackageTargets>, Broken> {
     Ok(Whole {
         state: begun(alloc)?,
         work: PackageTargets::new(alloc, Text::new(alloc, "a")?),

@@ -53,7 +53,7 @@ fn provider(alloc: Global, whole: &mut Whole<Declarations>, fields: &str) -> Res
 }
 
 /// A module that has done nothing yet.
-fn module(alloc: Global) -> Result<Whole<Declarations>, Broken> {
+fn module(alloc: Global) -> Result<Whole<'static, Declarations>, Broken> {
     Ok(Whole {
         state: begun(alloc)?,
         work: Declarations::new(alloc),

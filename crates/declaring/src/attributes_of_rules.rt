@@ -20,7 +20,7 @@ use values::{AttributeRef, Item, Key, Leaf, Seen, Table, Value};
 #[derive(Drop)]
 struct Known<'a, A> {
     linked: &'a A,
-    state: &'a State,
+    state: &'a State<'a>,
     declared: &'a Declarations,
 }
 

@@ -141,11 +141,11 @@ pub fn end_module(
     alloc: Global,
     path: &Text,
     names: Shared<TopNames>,
-    state: State,
+    state: State<'_>,
     made: Made,
 ) -> Result<Result<Module, Ending<Kind>>, AllocError>
     ensures { IfOk result
-        (λ r. r ≡ module_ended path.now state.file names state made) }
+        (λ r. r ≡ module_ended path.now state.entry.file names state.entry made) }
 {
     let State {
         heap,
@@ -158,10 +158,13 @@ pub fn end_module(
         defaults,
     } = state;
     match freeze_all(alloc, &heap, globals.as_slice(), &defaults, &mut ticks) {
-        Ok(left) => match named_module(alloc, path, file, names, &left, loaded, made)? {
-            Some(module) => Ok(Ok(module)),
-            None => Ok(Err(Ending::Unnamed)),
-        },
+        Ok(left) => {
+            let loaded = loaded.to_fields(alloc)?;
+            match named_module(alloc, path, file, names, &left, loaded, made)? {
+                Some(module) => Ok(Ok(module)),
+                None => Ok(Err(Ending::Unnamed)),
+            }
+        }
         Err(Broken::Kind(kind)) => Ok(Err(not_frozen(path, kind)?)),
         Err(Broken::NoMemory) => Err(AllocError),
     }

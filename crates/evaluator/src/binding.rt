@@ -1,5 +1,5 @@
 //! Names of top levels, what loads ask for, and what a `def` makes.
-ghost use Rattle.std.specs.Prelude.{◌≡◌, Ok, Err, Some, None, MatchResult, option_copied, nat_eq};
+ghost use Rattle.std.specs.Prelude.{◌≡◌, Ok, Err, Some, None, MatchResult, IfOk, option_copied, nat_eq};
 ghost use Rattle.values.specs.Ticking.{FaultOr};
 ghost use Rattle.values.specs.Seeing.{option_value};
 ghost use Rattle.operations.specs.States.{Gives};
@@ -13,10 +13,11 @@ use crate::functions::made_id;
 use crate::stacks::all_of;
 use frames::{FunctionId, Stack};
 use language::Whole;
+use operands::Operand;
 use operations::State;
 use places::Link;
 use plain::Text;
-use std::alloc::Global;
+use std::alloc::{AllocError, Global};
 use values::{Broken, Item, Items, Kind, Value};
 
 /// The value of a name of the top level of a file.
@@ -24,58 +25,73 @@ use values::{Broken, Item, Items, Kind, Value};
 /// # Errors
 ///
 /// `unset`, before it is bound.
-pub(crate) fn global<L: Link, W>(
+pub(crate) fn global<'a, L: Link<'a>, W>(
     linked: &L,
-    whole: &Whole<W>,
+    whole: &Whole<'a, W>,
     file: usize,
     number: usize,
-) -> Result<Value, Broken>
+) -> Result<Operand<'a>, Broken>
     ensures { Says (of_state (global (L.linked linked.now) file number) whole.now) result
         whole.now }
 {
     if file == whole.state.file as usize {
         own_name(&whole.state, number)
     } else {
-        shared(linked.name(file, number))
+        lent(linked.name(file, number))
     }
 }
 
 /// The value of a name of the file that is evaluated, or `unset`.
-fn own_name(state: &State, number: usize) -> Result<Value, Broken>
+fn own_name<'a>(state: &State<'a>, number: usize) -> Result<Operand<'a>, Broken>
     ensures { Gives (or_fault Kind.Unset (name_value state.now number)) result }
 {
-    match making::name_value(state, number) {
-        Some(value) => Ok(value.share()?),
+    match making::name_value(state, number)? {
+        Some(value) => Ok(value),
         None => Err(Broken::Kind(Kind::Unset)),
     }
 }
 
-/// A value that is there, or `unset`.
-fn shared(value: Option<Item<'_>>) -> Result<Value, Broken>
+/// A value that is there, which is lent, or `unset`.
+fn lent<'a>(value: Option<Item<'a>>) -> Result<Operand<'a>, Broken>
     ensures { Gives (or_fault Kind.Unset (option_value value.entry)) result }
 {
     match value {
-        Some(value) => Ok(value.to_value()?),
+        Some(value) => Ok(Operand::lent(value)),
         None => Err(Broken::Kind(Kind::Unset)),
     }
 }
 
 /// A global of the file that is evaluated gets its value.
-pub(crate) fn set_global<W>(whole: &mut Whole<W>, file: usize, number: usize, value: Value)
-    ensures { whole.new ≡ record whole.old {
-      state = set_global file number value whole.old.state;
-    } }
+///
+/// # Errors
+///
+/// `AllocError` where a count is at its greatest.
+pub(crate) fn set_global<W>(
+    whole: &mut Whole<W>,
+    file: usize,
+    number: usize,
+    value: Operand<'_>,
+) -> Result<(), AllocError>
+    ensures { IfOk result (λ _. whole.new ≡ record whole.old {
+      state = set_global file number value.entry whole.old.state;
+    }) }
 {
     let own = whole.state.file;
     if file == own as usize {
-        making::set_global(&mut whole.state, own, number, value);
+        making::set_global(&mut whole.state, own, number, value.into_value()?);
     }
+    Ok(())
 }
 
 /// A name that one of its loads binds gets its value.
-pub(crate) fn set_loaded<W>(whole: &mut Whole<W>, file: usize, number: usize, value: Value)
+pub(crate) fn set_loaded<'a, W>(
+    whole: &mut Whole<'a, W>,
+    file: usize,
+    number: usize,
+    value: Operand<'a>,
+)
     ensures { whole.new ≡ record whole.old {
-      state = set_loaded file number value whole.old.state;
+      state = set_loaded file number value.entry whole.old.state;
     } }
 {
     let own = whole.state.file;
@@ -89,18 +105,18 @@ pub(crate) fn set_loaded<W>(whole: &mut Whole<W>, file: usize, number: usize, va
 /// # Errors
 ///
 /// `unset`, where there is no such name.
-pub(crate) fn load<L: Link, W>(
+pub(crate) fn load<'a, L: Link<'a>, W>(
     linked: &L,
     whole: &Whole<W>,
     file: usize,
     from: &Text,
     name: &Text,
-) -> Result<Value, Broken>
+) -> Result<Operand<'a>, Broken>
     ensures { Says (of_state (load (L.linked linked.now) file from.now name.now) whole.now) result
         whole.now }
 {
     match linked.asked(file, from, name) {
-        Ok(value) => shared(value),
+        Ok(value) => lent(value),
         Err(_) => Err(Broken::NoMemory),
     }
 }
@@ -112,9 +128,10 @@ pub(crate) fn define<W>(
     whole: &mut Whole<W>,
     function: FunctionId,
     name: &Text,
-    defaults: Stack<Value>,
+    defaults: Stack<Operand<'_>>,
 ) -> Result<Value, Broken>
-    ensures { Says (of_state (define (made_id (id_seen function)) name.now defaults) whole.old)
+    ensures { Says (of_state (define (made_id (id_seen function)) name.now defaults.entry)
+        whole.old)
         result whole.new }
 {
     let defaults = all_of(alloc, defaults)?;
@@ -125,11 +142,11 @@ pub(crate) fn define<W>(
 }
 
 /// The defaults that a function's `def` kept.
-pub(crate) fn defaults<'a, L: Link>(
-    linked: &'a L,
-    state: &'a State,
+pub(crate) fn defaults<'a, 'b, L: Link<'a>>(
+    linked: &'b L,
+    state: &'b State<'_>,
     function: FunctionId,
-) -> &'a [Value]
+) -> &'b [Value]
     ensures { result.now ≡ defaults (L.linked linked.now) (made_id (id_seen function)) state.now }
 {
     if function.file == state.file as usize {

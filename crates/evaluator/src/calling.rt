@@ -1,9 +1,10 @@
 //! Calls of what isn't written in Starlark.
 ghost use Rattle.std.specs.Prelude.{◌≡◌, Ok, Err, Some, None, MatchResult};
 ghost use Rattle.values.specs.Ticking.{FaultOr};
+ghost use Rattle.values.specs.Seeing.{item_value};
 ghost use Rattle.values.specs.declared.leaf.Leaf.{Leaf as Plain};
 ghost use Rattle.operations.specs.Arguments.{given};
-ghost use Rattle.language.specs.Language.{call_of, value_call, leaf_call, or_place, given_of};
+ghost use Rattle.language.specs.Language.{call_of, value_call, leaf_call, leaf_of, or_place, given_of};
 ghost use Rattle.language.specs.Language.{method_or_place, place_method, of_place};
 ghost use Rattle.operations.specs.Calls.{built_in_call};
 ghost use Rattle.operations.specs.Fields.{shape_method};
@@ -15,25 +16,26 @@ use crate::world::World;
 use finding::method_named;
 use frames::{Callee, Stack};
 use language::Whole;
-use language_calls::of_place;
+use language_calls::{leaf_of, of_place};
+use operands::Operand;
 use operations::Arguments;
 use places::{Link, Place};
 use plain::Text;
-use values::{Broken, BuiltIn, Kind, Leaf, Value};
+use values::{Broken, BuiltIn, Item, Kind, Leaf, Value};
 
 /// A call of what isn't written in Starlark: its values by position, of which the first is at the top, and those by name
 /// with their names.
-pub(crate) fn call<L: Link, P: Place>(
+pub(crate) fn call<'a, L: Link<'a>, P: Place>(
     world: &World<'_, L, P>,
     whole: &mut Whole<P::Work>,
-    callee: &Callee,
-    items: Stack<Value>,
+    callee: &Callee<'_>,
+    items: Stack<Operand<'_>>,
     names: &[Text],
-    named: Stack<Value>,
+    named: Stack<Operand<'_>>,
 ) -> Result<Value, Broken>
     ensures { Says (call_of (L.linked world.now.linked.now) (P.place world.now.place.now)
-        (callee_seen callee.now) (given_of (machine_given items names.now named)) whole.old) result
-        whole.new }
+        (callee_seen callee.now) (given_of (machine_given items.entry names.now named.entry)) whole.old)
+        result whole.new }
 {
     let items = all_of(world.alloc, items)?;
     let values = all_of(world.alloc, named)?;
@@ -63,39 +65,39 @@ fn arguments<'a>(items: &'a [Value], names: &'a [Text], values: &'a [Value]) -> 
 }
 
 /// A call with arguments.
-fn call_with<L: Link, P: Place>(
+fn call_with<'a, L: Link<'a>, P: Place>(
     world: &World<'_, L, P>,
     whole: &mut Whole<P::Work>,
-    callee: &Callee,
+    callee: &Callee<'_>,
     arguments: &Arguments<'_>,
 ) -> Result<Value, Broken>
     ensures { Says (call_of (L.linked world.now.linked.now) (P.place world.now.place.now)
         (callee_seen callee.now) (given arguments.now) whole.old) result whole.new }
 {
     match callee {
-        Callee::Plain(value) => call_value(world, whole, value, arguments),
-        Callee::Method(value, name) => call_method(world, whole, value, name, arguments),
+        Callee::Plain(value) => call_value(world, whole, value.item(), arguments),
+        Callee::Method(value, name) => call_method(world, whole, value.item(), name, arguments),
     }
 }
 
 /// A call of a value.
-fn call_value<L: Link, P: Place>(
+fn call_value<'a, L: Link<'a>, P: Place>(
     world: &World<'_, L, P>,
     whole: &mut Whole<P::Work>,
-    value: &Value,
+    value: Item<'_>,
     arguments: &Arguments<'_>,
 ) -> Result<Value, Broken>
     ensures { Says (value_call (L.linked world.now.linked.now) (P.place world.now.place.now)
-        value.now (given arguments.now) whole.old) result whole.new }
+        (item_value value.entry) (given arguments.now) whole.old) result whole.new }
 {
-    match value {
-        Value::Leaf(leaf) => call_leaf(world, whole, leaf, arguments),
-        _ => Err(Broken::Kind(Kind::Wrong)),
+    match leaf_of(value) {
+        Some(leaf) => call_leaf(world, whole, leaf, arguments),
+        None => Err(Broken::Kind(Kind::Wrong)),
     }
 }
 
 /// A call of a built-in function, a provider or a rule.
-fn call_leaf<L: Link, P: Place>(
+fn call_leaf<'a, L: Link<'a>, P: Place>(
     world: &World<'_, L, P>,
     whole: &mut Whole<P::Work>,
     leaf: &Leaf,
@@ -115,7 +117,7 @@ fn call_leaf<L: Link, P: Place>(
 }
 
 /// A call of a built-in function, which may be one of the place.
-fn call_built_in<L: Link, P: Place>(
+fn call_built_in<'a, L: Link<'a>, P: Place>(
     world: &World<'_, L, P>,
     whole: &mut Whole<P::Work>,
     function: BuiltIn,
@@ -135,18 +137,18 @@ fn call_built_in<L: Link, P: Place>(
 }
 
 /// A call of a method of a value.
-fn call_method<L: Link, P: Place>(
+fn call_method<'a, L: Link<'a>, P: Place>(
     world: &World<'_, L, P>,
     whole: &mut Whole<P::Work>,
-    value: &Value,
+    value: Item<'_>,
     name: &Text,
     arguments: &Arguments<'_>,
 ) -> Result<Value, Broken>
     ensures { Says (method_or_place (L.linked world.now.linked.now) (P.place world.now.place.now)
-        (shape_method (shape whole.old.state.heap value.now) name.now) value.now name.now
-        (given arguments.now) whole.old) result whole.new }
+        (shape_method (shape whole.old.state.heap (item_value value.entry)) name.now)
+        (item_value value.entry) name.now (given arguments.now) whole.old) result whole.new }
 {
-    match method_named(&whole.state.heap.see(value), name.as_str()) {
+    match method_named(&whole.state.heap.see_item(value), name.as_str()) {
         Some(method) => {
             calls::call_method(world.alloc, &mut whole.state, method, value, arguments)
         }
@@ -155,15 +157,15 @@ fn call_method<L: Link, P: Place>(
 }
 
 /// A call of a method of a target or an object.
-fn call_placed<L: Link, P: Place>(
+fn call_placed<'a, L: Link<'a>, P: Place>(
     world: &World<'_, L, P>,
     whole: &mut Whole<P::Work>,
-    value: &Value,
+    value: Item<'_>,
     name: &Text,
     arguments: &Arguments<'_>,
 ) -> Result<Value, Broken>
     ensures { Says (place_method (L.linked world.now.linked.now) (P.place world.now.place.now)
-        (of_place value.now) name.now (given arguments.now) whole.old) result whole.new }
+        (of_place (item_value value.entry)) name.now (given arguments.now) whole.old) result whole.new }
 {
     match of_place(value) {
         Some(leaf) => world

@@ -1,6 +1,7 @@
 //! New lists, tuples and dicts, and what displays and comprehensions put into them.
 ghost use Rattle.std.specs.Prelude.{◌≡◌, Ok, Err, MatchResult};
 ghost use Rattle.values.specs.Ticking.{FaultOr};
+ghost use Rattle.values.specs.Seeing.{item_value};
 ghost use Rattle.operations.specs.Making.{new_list, new_tuple, new_dict, collect, enter, keep};
 ghost use Rattle.operations.specs.Changes.{set_item};
 ghost use Rattle.language.specs.Place.{of_state};
@@ -9,16 +10,17 @@ ghost use Rattle.frames.specs.Answers.{Says};
 use crate::stacks::all_of;
 use frames::Stack;
 use language::Whole;
+use operands::{Operand, as_value};
 use std::alloc::Global;
-use values::{Broken, Value};
+use values::{Broken, Item, Value};
 
 /// A new list of these items, of which the first is at the top.
 pub(crate) fn new_list<W>(
     alloc: Global,
     whole: &mut Whole<W>,
-    items: Stack<Value>,
+    items: Stack<Operand<'_>>,
 ) -> Result<Value, Broken>
-    ensures { Says (of_state (new_list items) whole.old) result whole.new }
+    ensures { Says (of_state (new_list items.entry) whole.old) result whole.new }
 {
     let items = all_of(alloc, items)?;
     state::new_list(&mut whole.state, items)
@@ -28,9 +30,9 @@ pub(crate) fn new_list<W>(
 pub(crate) fn new_tuple<W>(
     alloc: Global,
     whole: &mut Whole<W>,
-    items: Stack<Value>,
+    items: Stack<Operand<'_>>,
 ) -> Result<Value, Broken>
-    ensures { Says (of_state (new_tuple items) whole.old) result whole.new }
+    ensures { Says (of_state (new_tuple items.entry) whole.old) result whole.new }
 {
     let items = all_of(alloc, items)?;
     state::new_tuple(&mut whole.state, items)
@@ -44,44 +46,64 @@ pub(crate) fn new_dict<W>(alloc: Global, whole: &mut Whole<W>) -> Result<Value, 
 }
 
 /// An item more of a comprehension's list.
-pub(crate) fn collect<W>(whole: &mut Whole<W>, list: &Value, item: Value) -> Result<(), Broken>
-    ensures { Says (of_state (collect list.now item) whole.old) result whole.new }
+pub(crate) fn collect<W>(
+    whole: &mut Whole<W>,
+    list: Item<'_>,
+    item: Operand<'_>,
+) -> Result<(), Broken>
+    ensures { Says (of_state (collect (item_value list.entry) item.entry) whole.old) result
+        whole.new }
 {
-    state::collect(&mut whole.state, list, item)
+    let list = as_value(list)?;
+    state::collect(&mut whole.state, list.get(), item.into_value()?)
 }
 
 /// An entry more of a display's dict.
 pub(crate) fn enter<W>(
     whole: &mut Whole<W>,
-    dict: &Value,
-    key: &Value,
-    value: Value,
+    dict: Item<'_>,
+    key: Item<'_>,
+    value: Operand<'_>,
 ) -> Result<(), Broken>
-    ensures { Says (of_state (enter dict.now key.now value) whole.old) result whole.new }
+    ensures { Says (of_state (enter (item_value dict.entry) (item_value key.entry) value.entry)
+        whole.old) result whole.new }
 {
-    state::enter(&mut whole.state, dict, key, value)
+    let dict = as_value(dict)?;
+    let key = as_value(key)?;
+    state::enter(&mut whole.state, dict.get(), key.get(), value.into_value()?)
 }
 
 /// An entry more of a comprehension's dict.
 pub(crate) fn keep<W>(
     whole: &mut Whole<W>,
-    dict: &Value,
-    key: &Value,
-    value: Value,
+    dict: Item<'_>,
+    key: Item<'_>,
+    value: Operand<'_>,
 ) -> Result<(), Broken>
-    ensures { Says (of_state (keep dict.now key.now value) whole.old) result whole.new }
+    ensures { Says (of_state (keep (item_value dict.entry) (item_value key.entry) value.entry)
+        whole.old) result whole.new }
 {
-    state::keep(&mut whole.state, dict, key, value)
+    let dict = as_value(dict)?;
+    let key = as_value(key)?;
+    state::keep(&mut whole.state, dict.get(), key.get(), value.into_value()?)
 }
 
 /// `base[index] = value`.
 pub(crate) fn set_item<W>(
     whole: &mut Whole<W>,
-    base: &Value,
-    index: &Value,
-    value: Value,
+    base: Item<'_>,
+    index: Item<'_>,
+    value: Operand<'_>,
 ) -> Result<(), Broken>
-    ensures { Says (of_state (set_item base.now index.now value) whole.old) result whole.new }
+    ensures { Says (of_state (set_item (item_value base.entry) (item_value index.entry) value.entry)
+        whole.old) result whole.new }
 {
-    state::set_item(&mut whole.state, base, index, value)
+    let base = as_value(base)?;
+    let index = as_value(index)?;
+    state::set_item(
+        &mut whole.state,
+        base.get(),
+        index.get(),
+        value.into_value()?,
+    )
 }

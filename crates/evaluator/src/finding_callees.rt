@@ -1,77 +1,93 @@
 //! What is called where a name of a value is called.
-ghost use Rattle.std.specs.Prelude.{◌≡◌, Ok, Err, Some, None, MatchResult, IfOk};
+ghost use Rattle.std.specs.Prelude.{◌≡◌, Ok, Err, Some, None, MatchResult};
 ghost use Rattle.values.specs.Ticking.{FaultOr};
+ghost use Rattle.values.specs.Seeing.{item_value};
 ghost use Rattle.language.specs.Language.{of_place, find_of};
 ghost use Rattle.frames.specs.Answers.{SaysAs, callee_seen};
+ghost use Rattle.evaluator.specs.Callees.{callee_found};
 
 use crate::world::World;
 use finding::Found;
 use frames::Callee;
 use language::Whole;
 use language_calls::of_place;
+use operands::Operand;
 use places::{Link, Place};
 use plain::Text;
-use std::alloc::AllocError;
 use values::{Broken, Item, Leaf, Value};
 
-/// What `value.name` is where it is called: of a target or an object its place's.
-pub(crate) fn find<L: Link, P: Place>(
+/// What `owner.name` is where it is called: of a target or an object its place's. The owner of a method is moved, and its
+/// name lies in the code.
+pub(crate) fn find<'a, L: Link<'a>, P: Place>(
     world: &World<'_, L, P>,
     whole: &Whole<P::Work>,
-    value: &Value,
-    name: &Text,
-) -> Result<Callee, Broken>
+    owner: Operand<'a>,
+    name: &'a Text,
+) -> Result<Callee<'a>, Broken>
     ensures { SaysAs callee_seen (find_of (L.linked world.now.linked.now)
-        (P.place world.now.place.now) value.now name.now (of_place value.now) whole.now) result
+        (P.place world.now.place.now) owner.entry name.now (of_place owner.entry) whole.now) result
         whole.now }
 {
-    match of_place(value) {
-        Some(leaf) => find_placed(world, whole, value, leaf, name),
-        None => find_plain(world, whole, value, name),
+    match found(world, whole, owner.item(), name) {
+        Ok(Some(value)) => Ok(Callee::Plain(Operand::own(value))),
+        Ok(None) => Ok(Callee::Method(owner, name)),
+        Err(broken) => Err(broken),
+    }
+}
+
+/// The field that is called, or None where it is a method.
+fn found<'a, L: Link<'a>, P: Place>(
+    world: &World<'_, L, P>,
+    whole: &Whole<P::Work>,
+    owner: Item<'_>,
+    name: &Text,
+) -> Result<Option<Value>, Broken>
+    ensures { SaysAs (callee_found (item_value owner.entry) name.now)
+        (find_of (L.linked world.now.linked.now) (P.place world.now.place.now)
+        (item_value owner.entry) name.now (of_place (item_value owner.entry)) whole.now) result
+        whole.now }
+{
+    match of_place(owner) {
+        Some(leaf) => found_at_place(world, whole, owner, leaf, name),
+        None => found_in_value(world, whole, owner, name),
     }
 }
 
 /// The same, of a target or an object.
-fn find_placed<L: Link, P: Place>(
+fn found_at_place<'a, L: Link<'a>, P: Place>(
     world: &World<'_, L, P>,
     whole: &Whole<P::Work>,
-    value: &Value,
+    _owner: Item<'_>,
     leaf: &Leaf,
     name: &Text,
-) -> Result<Callee, Broken>
-    ensures { SaysAs callee_seen (find_of (L.linked world.now.linked.now)
-        (P.place world.now.place.now) value.now name.now (Some leaf.now) whole.now) result
-        whole.now }
+) -> Result<Option<Value>, Broken>
+    ensures { SaysAs (callee_found (item_value _owner.entry) name.now)
+        (find_of (L.linked world.now.linked.now) (P.place world.now.place.now)
+        (item_value _owner.entry) name.now (Some leaf.now) whole.now) result whole.now }
 {
     if world.place.has_method(leaf, name) {
-        return Ok(method(value, name)?);
+        return Ok(None);
     }
     match world.place.field(world.alloc, whole, leaf, name) {
-        Ok(value) => Ok(Callee::Plain(value)),
+        Ok(value) => Ok(Some(value)),
         Err(broken) => Err(broken),
     }
 }
 
 /// The same, of another value.
-fn find_plain<L: Link, P: Place>(
+fn found_in_value<'a, L: Link<'a>, P: Place>(
     world: &World<'_, L, P>,
     whole: &Whole<P::Work>,
-    value: &Value,
+    owner: Item<'_>,
     name: &Text,
-) -> Result<Callee, Broken>
-    ensures { SaysAs callee_seen (find_of (L.linked world.now.linked.now)
-        (P.place world.now.place.now) value.now name.now None whole.now) result whole.now }
+) -> Result<Option<Value>, Broken>
+    ensures { SaysAs (callee_found (item_value owner.entry) name.now)
+        (find_of (L.linked world.now.linked.now) (P.place world.now.place.now)
+        (item_value owner.entry) name.now None whole.now) result whole.now }
 {
-    match finding::find(world.alloc, &whole.state, Item::Value(value), name) {
-        Ok(Found::Value(found)) => Ok(Callee::Plain(found)),
-        Ok(Found::Method(_)) => Ok(method(value, name)?),
+    match finding::find(world.alloc, &whole.state, owner, name) {
+        Ok(Found::Value(found)) => Ok(Some(found)),
+        Ok(Found::Method(_)) => Ok(None),
         Err(broken) => Err(broken),
     }
-}
-
-/// A method of a value: a count more of each.
-fn method(value: &Value, name: &Text) -> Result<Callee, AllocError>
-    ensures { IfOk result (λ c. c ≡ Callee.Method value.now name.now) }
-{
-    Ok(Callee::Method(value.share()?, name.share()?))
 }

@@ -1,13 +1,15 @@
 //! What a file writes out and what the machine names, as values and kinds: numbers, functions, refusals.
 ghost use Rattle.std.specs.Prelude.{◌≡◌, pos, Some, None, IfOk, IfSome, option_map};
+ghost use Rattle.values.specs.Seeing.{item_value};
 ghost use Rattle.operations.specs.Making.{number};
 ghost use Rattle.operations.specs.Names.{function_of};
 ghost use Rattle.language.specs.Language.{made_id, function_id, refusal_kind};
 ghost use Rattle.frames.specs.Answers.{id_seen, refusal_seen};
 
 use frames::{FunctionId, Refusal};
+use language_calls::leaf_of;
 use std::alloc::AllocError;
-use values::{Key, Kind, Leaf, MadeId, Value};
+use values::{Item, Key, Kind, Leaf, MadeId, Value};
 
 /// A number that a file writes out. One from 2^63 on, which no text that is read has, is answered as want of memory.
 pub(crate) fn number_value(written: u64) -> Result<Value, AllocError>
@@ -39,11 +41,12 @@ pub(crate) fn function_id(id: MadeId) -> FunctionId
 }
 
 /// Which function written in Starlark a value is, if it is one.
-pub(crate) fn function_of(value: &Value) -> Option<FunctionId>
-    ensures { option_map id_seen result ≡ option_map function_id (function_of value.now) }
+pub(crate) fn function_of(value: Item<'_>) -> Option<FunctionId>
+    ensures { option_map id_seen result
+        ≡ option_map function_id (function_of (item_value value.entry)) }
 {
-    match value {
-        Value::Leaf(Leaf::Function(function)) => Some(function_id(function.get().id)),
+    match leaf_of(value) {
+        Some(Leaf::Function(function)) => Some(function_id(function.get().id)),
         _ => None,
     }
 }

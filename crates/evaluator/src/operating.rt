@@ -2,6 +2,7 @@
 ghost use Rattle.std.specs.Prelude.{◌≡◌, Ok, Err, Some, None, MatchResult};
 ghost use Rattle.grammar.specs.TreeView.{operator_seen, sign_seen};
 ghost use Rattle.values.specs.Ticking.{FaultOr};
+ghost use Rattle.values.specs.Seeing.{item_value};
 ghost use Rattle.operations.specs.Operators.{add_in_place};
 ghost use Rattle.language.specs.Place.{of_state};
 ghost use Rattle.language.specs.Language.{target_of, with_target, binary_of, sign_of};
@@ -11,21 +12,22 @@ use crate::world::World;
 use grammar::{Operator, Sign};
 use language::Whole;
 use language_calls::target_of;
+use operands::Operand;
 use places::{Link, Place};
 use std::alloc::Global;
 use values::{Broken, Item, Key, Value};
 
 /// An operator between two values, but `and` and `or`.
-pub(crate) fn binary<L: Link, P: Place>(
+pub(crate) fn binary<'a, L: Link<'a>, P: Place>(
     world: &World<'_, L, P>,
     whole: &mut Whole<P::Work>,
     operator: Operator,
-    left: &Value,
-    right: &Value,
+    left: Item<'_>,
+    right: Item<'_>,
 ) -> Result<Value, Broken>
     ensures { Says (with_target (L.linked world.now.linked.now) (P.place world.now.place.now)
-        (operator_seen operator) left.now right.now (target_of right.now) whole.old) result
-        whole.new }
+        (operator_seen operator) (item_value left.entry) (item_value right.entry)
+        (target_of (item_value right.entry)) whole.old) result whole.new }
 {
     match target_of(right) {
         Some(target) => binary_with(world, whole, operator, left, right, target),
@@ -34,16 +36,17 @@ pub(crate) fn binary<L: Link, P: Place>(
 }
 
 /// An operator whose right side is a target.
-fn binary_with<L: Link, P: Place>(
+fn binary_with<'a, L: Link<'a>, P: Place>(
     world: &World<'_, L, P>,
     whole: &mut Whole<P::Work>,
     operator: Operator,
-    left: &Value,
-    right: &Value,
+    left: Item<'_>,
+    right: Item<'_>,
     target: usize,
 ) -> Result<Value, Broken>
     ensures { Says (with_target (L.linked world.now.linked.now) (P.place world.now.place.now)
-        (operator_seen operator) left.now right.now (Some target) whole.old) result whole.new }
+        (operator_seen operator) (item_value left.entry) (item_value right.entry) (Some target)
+        whole.old) result whole.new }
 {
     match operator {
         Operator::In => match world.place.offers(whole, target, left) {
@@ -59,21 +62,21 @@ fn binary_with<L: Link, P: Place>(
 }
 
 /// `not` or `-`.
-pub(crate) fn sign<L: Link, P: Place>(
+pub(crate) fn sign<'a, L: Link<'a>, P: Place>(
     world: &World<'_, L, P>,
     whole: &Whole<P::Work>,
     sign: Sign,
-    value: &Value,
+    value: Item<'_>,
 ) -> Result<Value, Broken>
     ensures { Says (sign_of (L.linked world.now.linked.now) (P.place world.now.place.now)
-        (sign_seen sign) value.now whole.now) result whole.now }
+        (sign_seen sign) (item_value value.entry) whole.now) result whole.now }
 {
     match sign {
         Sign::Not => {
-            let truth = state::truth(&whole.state, Item::Value(value));
+            let truth = state::truth(&whole.state, value);
             Ok(Value::Key(Key::Truth(!truth)))
         }
-        Sign::Minus => state::negate(&whole.state, Item::Value(value)),
+        Sign::Minus => state::negate(&whole.state, value),
     }
 }
 
@@ -81,11 +84,12 @@ pub(crate) fn sign<L: Link, P: Place>(
 pub(crate) fn increase<W>(
     alloc: Global,
     whole: &mut Whole<W>,
-    old: &Value,
-    more: &Value,
+    old: Operand<'_>,
+    more: Item<'_>,
 ) -> Result<Value, Broken>
-    ensures { Says (of_state (add_in_place old.now more.now) whole.old) result whole.new }
+    ensures { Says (of_state (add_in_place old.entry (item_value more.entry)) whole.old) result
+        whole.new }
 {
-    let old = old.share()?;
+    let old = old.into_value()?;
     state::add_in_place(alloc, &mut whole.state, old, more)
 }

@@ -5,6 +5,7 @@ ghost use Rattle.values.specs.Visits.{keys_of};
 ghost use Rattle.operations.specs.Walks.{walked_items};
 
 use frames::Stack;
+use operands::Operand;
 use std::alloc::{AllocError, Global};
 use values::{Group, Items, Seen, Table, Value};
 
@@ -13,13 +14,13 @@ use values::{Group, Items, Seen, Table, Value};
 /// # Errors
 ///
 /// `AllocError` where memory was refused.
-pub(crate) fn all_of(alloc: Global, stack: Stack<Value>) -> Result<Items, AllocError>
-    ensures { IfOk result (λ items. items ≡ stack) }
+pub(crate) fn all_of(alloc: Global, stack: Stack<Operand<'_>>) -> Result<Items, AllocError>
+    ensures { IfOk result (λ items. items ≡ stack.entry) }
 {
     let mut stack = stack;
     let mut items = Items::with_capacity(alloc, stack.len())?;
     while let Some(value) = stack.pop() {
-        items.push(value)?;
+        items.push(value.into_value()?)?;
     }
     Ok(items)
 }

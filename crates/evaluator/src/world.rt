@@ -8,6 +8,7 @@ use frames::{Callee, FunctionId, Operate, Refusal, Stack};
 use grammar::{Operator, Sign};
 use language::Whole;
 use language_calls::DefaultInfo;
+use operands::Operand;
 use places::{Link, Place};
 use plain::Text;
 use std::alloc::{AllocError, Global};
@@ -23,8 +24,8 @@ pub struct World<'a, L, P> {
     pub default_info: &'a DefaultInfo,
 }
 
-impl<'a, L: Link, P: Place> Operate for World<'a, L, P> {
-    type State = Whole<P::Work>;
+impl<'a, L: Link<'a>, P: Place> Operate<'a> for World<'a, L, P> {
+    type State = Whole<'a, P::Work>;
 
     type Walk = Stack<Value>;
 
@@ -52,41 +53,46 @@ impl<'a, L: Link, P: Place> Operate for World<'a, L, P> {
         language_calls::predeclared(self.default_info, name)
     }
 
-    fn truth(&self, state: &Whole<P::Work>, value: &Value) -> bool {
-        state::truth(&state.state, Item::Value(value))
+    fn truth(&self, state: &Whole<'a, P::Work>, value: Item<'_>) -> bool {
+        state::truth(&state.state, value)
     }
 
-    fn tick(&self, state: &mut Whole<P::Work>) -> Result<(), Broken> {
+    fn tick(&self, state: &mut Whole<'a, P::Work>) -> Result<(), Broken> {
         turns::tick(state)
     }
 
     fn binary(
         &self,
-        state: &mut Whole<P::Work>,
+        state: &mut Whole<'a, P::Work>,
         operator: Operator,
-        left: &Value,
-        right: &Value,
+        left: Item<'_>,
+        right: Item<'_>,
     ) -> Result<Value, Broken> {
         operating::binary(self, state, operator, left, right)
     }
 
-    fn sign(&self, state: &mut Whole<P::Work>, sign: Sign, value: &Value) -> Result<Value, Broken> {
+    fn sign(
+        &self,
+        state: &mut Whole<'a, P::Work>,
+        sign: Sign,
+        value: Item<'_>,
+    ) -> Result<Value, Broken> {
         operating::sign(self, state, sign, value)
     }
 
     fn increase(
         &self,
-        state: &mut Whole<P::Work>,
-        old: &Value,
-        more: &Value,
+        state: &mut Whole<'a, P::Work>,
+        old: Operand<'a>,
+        more: Item<'_>,
     ) -> Result<Value, Broken> {
         operating::increase(self.alloc, state, old, more)
     }
 
     fn field(
         &self,
-        state: &mut Whole<P::Work>,
-        value: &Value,
+        state: &mut Whole<'a, P::Work>,
+        value: Item<'_>,
         name: &Text,
     ) -> Result<Value, Broken> {
         looks::field(self, state, value, name)
@@ -94,105 +100,125 @@ impl<'a, L: Link, P: Place> Operate for World<'a, L, P> {
 
     fn item(
         &self,
-        state: &mut Whole<P::Work>,
-        base: &Value,
-        index: &Value,
+        state: &mut Whole<'a, P::Work>,
+        base: Item<'_>,
+        index: Item<'_>,
     ) -> Result<Value, Broken> {
         looks::item(self, state, base, index)
     }
 
     fn set_item(
         &self,
-        state: &mut Whole<P::Work>,
-        base: &Value,
-        index: &Value,
-        value: Value,
+        state: &mut Whole<'a, P::Work>,
+        base: Item<'_>,
+        index: Item<'_>,
+        value: Operand<'a>,
     ) -> Result<(), Broken> {
         displays::set_item(state, base, index, value)
     }
 
-    fn new_list(&self, state: &mut Whole<P::Work>, items: Stack<Value>) -> Result<Value, Broken> {
+    fn new_list(
+        &self,
+        state: &mut Whole<'a, P::Work>,
+        items: Stack<Operand<'a>>,
+    ) -> Result<Value, Broken> {
         displays::new_list(self.alloc, state, items)
     }
 
-    fn new_tuple(&self, state: &mut Whole<P::Work>, items: Stack<Value>) -> Result<Value, Broken> {
+    fn new_tuple(
+        &self,
+        state: &mut Whole<'a, P::Work>,
+        items: Stack<Operand<'a>>,
+    ) -> Result<Value, Broken> {
         displays::new_tuple(self.alloc, state, items)
     }
 
-    fn collect(&self, state: &mut Whole<P::Work>, list: &Value, item: Value) -> Result<(), Broken> {
+    fn collect(
+        &self,
+        state: &mut Whole<'a, P::Work>,
+        list: Item<'_>,
+        item: Operand<'a>,
+    ) -> Result<(), Broken> {
         displays::collect(state, list, item)
     }
 
-    fn new_dict(&self, state: &mut Whole<P::Work>) -> Result<Value, Broken> {
+    fn new_dict(&self, state: &mut Whole<'a, P::Work>) -> Result<Value, Broken> {
         displays::new_dict(self.alloc, state)
     }
 
     fn enter(
         &self,
-        state: &mut Whole<P::Work>,
-        dict: &Value,
-        key: Value,
-        value: Value,
+        state: &mut Whole<'a, P::Work>,
+        dict: Item<'_>,
+        key: Item<'_>,
+        value: Operand<'a>,
     ) -> Result<(), Broken> {
-        displays::enter(state, dict, &key, value)
+        displays::enter(state, dict, key, value)
     }
 
     fn keep(
         &self,
-        state: &mut Whole<P::Work>,
-        dict: &Value,
-        key: Value,
-        value: Value,
+        state: &mut Whole<'a, P::Work>,
+        dict: Item<'_>,
+        key: Item<'_>,
+        value: Operand<'a>,
     ) -> Result<(), Broken> {
-        displays::keep(state, dict, &key, value)
+        displays::keep(state, dict, key, value)
     }
 
-    fn begin(&self, state: &mut Whole<P::Work>, walked: &Value) -> Result<Stack<Value>, Broken> {
+    fn begin(
+        &self,
+        state: &mut Whole<'a, P::Work>,
+        walked: Item<'_>,
+    ) -> Result<Stack<Value>, Broken> {
         turns::begin(self.alloc, state, walked)
     }
 
     fn next(
         &self,
-        _state: &Whole<P::Work>,
+        _state: &Whole<'a, P::Work>,
         walk: &mut Stack<Value>,
     ) -> Result<Option<Value>, AllocError> {
         Ok(walk.pop())
     }
 
-    fn end(&self, state: &mut Whole<P::Work>, walked: &Value) {
+    fn end(&self, state: &mut Whole<'a, P::Work>, walked: Item<'_>) {
         turns::end(state, walked);
     }
 
-    fn parts(&self, state: &mut Whole<P::Work>, sequence: &Value) -> Result<Vec<Value>, Broken> {
+    fn parts(
+        &self,
+        state: &mut Whole<'a, P::Work>,
+        sequence: Item<'_>,
+    ) -> Result<Vec<Value>, Broken> {
         turns::parts(self.alloc, state, sequence)
     }
 
     fn global(
         &self,
-        state: &mut Whole<P::Work>,
+        state: &mut Whole<'a, P::Work>,
         file: usize,
         number: usize,
-    ) -> Result<Value, Broken> {
+    ) -> Result<Operand<'a>, Broken> {
         binding::global(self.linked, state, file, number)
     }
 
     fn set_global(
         &self,
-        state: &mut Whole<P::Work>,
+        state: &mut Whole<'a, P::Work>,
         file: usize,
         number: usize,
-        value: Value,
+        value: Operand<'a>,
     ) -> Result<(), AllocError> {
-        binding::set_global(state, file, number, value);
-        Ok(())
+        binding::set_global(state, file, number, value)
     }
 
     fn set_loaded(
         &self,
-        state: &mut Whole<P::Work>,
+        state: &mut Whole<'a, P::Work>,
         file: usize,
         number: usize,
-        value: Value,
+        value: Operand<'a>,
     ) -> Result<(), AllocError> {
         binding::set_loaded(state, file, number, value);
         Ok(())
@@ -200,48 +226,48 @@ impl<'a, L: Link, P: Place> Operate for World<'a, L, P> {
 
     fn loaded(
         &self,
-        state: &mut Whole<P::Work>,
+        state: &mut Whole<'a, P::Work>,
         file: usize,
         from: &Text,
         name: &Text,
-    ) -> Result<Value, Broken> {
+    ) -> Result<Operand<'a>, Broken> {
         binding::load(self.linked, state, file, from, name)
     }
 
     fn define(
         &self,
-        state: &mut Whole<P::Work>,
+        state: &mut Whole<'a, P::Work>,
         function: FunctionId,
         name: &Text,
-        defaults: Stack<Value>,
+        defaults: Stack<Operand<'a>>,
     ) -> Result<Value, Broken> {
         binding::define(self.alloc, state, function, name, defaults)
     }
 
-    fn defaults<'b>(&'b self, state: &'b Whole<P::Work>, function: FunctionId) -> &'b [Value] {
+    fn defaults<'b>(&'b self, state: &'b Whole<'a, P::Work>, function: FunctionId) -> &'b [Value] {
         binding::defaults(self.linked, &state.state, function)
     }
 
-    fn function(&self, value: &Value) -> Option<FunctionId> {
+    fn function(&self, value: Item<'_>) -> Option<FunctionId> {
         functions::function_of(value)
     }
 
     fn find(
         &self,
-        state: &mut Whole<P::Work>,
-        value: &Value,
-        name: &Text,
-    ) -> Result<Callee, Broken> {
-        finding_callees::find(self, state, value, name)
+        state: &mut Whole<'a, P::Work>,
+        owner: Operand<'a>,
+        name: &'a Text,
+    ) -> Result<Callee<'a>, Broken> {
+        finding_callees::find(self, state, owner, name)
     }
 
     fn call(
         &self,
-        state: &mut Whole<P::Work>,
-        callee: &Callee,
-        items: Stack<Value>,
+        state: &mut Whole<'a, P::Work>,
+        callee: &Callee<'a>,
+        items: Stack<Operand<'a>>,
         names: &[Text],
-        named: Stack<Value>,
+        named: Stack<Operand<'a>>,
     ) -> Result<Value, Broken> {
         calling::call(self, state, callee, items, names, named)
     }

@@ -17,7 +17,7 @@ use plain::{Shared, Text};
 use rule_calls::{PackageTargets, call_rule};
 use std::alloc::Global;
 use targets::Rule;
-use values::{Broken, BuiltIn, Kind, Leaf, MadeId, Value};
+use values::{Broken, BuiltIn, Item, Kind, Leaf, MadeId, Value};
 
 /// The rules of the modules that are linked.
 pub trait Rules {
@@ -89,7 +89,7 @@ impl<'a, R: Rules> Place for BuildPlace<'a, R> {
         _alloc: Global,
         _whole: &Whole<PackageTargets>,
         _target: usize,
-        _provider: &Value,
+        _provider: Item<'_>,
     ) -> Result<Value, Broken> {
         Err(Broken::Kind(Kind::Wrong))
     }
@@ -98,7 +98,7 @@ impl<'a, R: Rules> Place for BuildPlace<'a, R> {
         &self,
         _whole: &Whole<PackageTargets>,
         _target: usize,
-        _provider: &Value,
+        _provider: Item<'_>,
     ) -> Result<bool, Broken> {
         Err(Broken::Kind(Kind::Wrong))
     }

@@ -13,7 +13,7 @@ use operations::Arguments;
 use places::Place;
 use plain::Text;
 use std::alloc::Global;
-use values::{AttributeKind, Broken, BuiltIn, Kind, Leaf, Value};
+use values::{AttributeKind, Broken, BuiltIn, Item, Kind, Leaf, Value};
 
 /// The place of a module, beside those that were evaluated before: calls of `provider`, `rule` and the methods of `attr`
 /// declare; calls of rules are `place`.
@@ -76,7 +76,7 @@ impl<'a, A: Attributes> Place for ModulePlace<'a, A> {
         _alloc: Global,
         _whole: &Whole<Declarations>,
         _target: usize,
-        _provider: &Value,
+        _provider: Item<'_>,
     ) -> Result<Value, Broken> {
         Err(Broken::Kind(Kind::Wrong))
     }
@@ -85,7 +85,7 @@ impl<'a, A: Attributes> Place for ModulePlace<'a, A> {
         &self,
         _whole: &Whole<Declarations>,
         _target: usize,
-        _provider: &Value,
+        _provider: Item<'_>,
     ) -> Result<bool, Broken> {
         Err(Broken::Kind(Kind::Wrong))
     }

@@ -9,14 +9,15 @@ use crate::stack::Stack;
 use crate::stop::{Step, Stop, stop_at};
 use crate::taking::take;
 use crate::world::Operate;
+use operands::Operand;
 
 /// A list of so many values.
 #[tactic(auto, using(crate::proofs::Popping::pops_popped))]
-pub fn make_list<W: Operate>(
+pub fn make_list<'a, W: Operate<'a>>(
     world: &W,
     line: usize,
     count: usize,
-    f: &mut Frame<W::Walk>,
+    f: &mut Frame<'a, W::Walk>,
     state: &mut W::State,
 ) -> Result<Step, Stop>
     requires { f.old.place < 2 ^ 63 }
@@ -32,18 +33,18 @@ pub fn make_list<W: Operate>(
         Ok(value) => value,
         Err(broken) => return Err(stop_at(broken, f.function.file, line)),
     };
-    f.values.push(value)?;
+    f.values.push(Operand::own(value))?;
     f.place += 1;
     Ok(Step::More)
 }
 
 /// A tuple of so many values.
 #[tactic(auto, using(crate::proofs::Popping::pops_popped))]
-pub fn make_tuple<W: Operate>(
+pub fn make_tuple<'a, W: Operate<'a>>(
     world: &W,
     line: usize,
     count: usize,
-    f: &mut Frame<W::Walk>,
+    f: &mut Frame<'a, W::Walk>,
     state: &mut W::State,
 ) -> Result<Step, Stop>
     requires { f.old.place < 2 ^ 63 }
@@ -59,16 +60,16 @@ pub fn make_tuple<W: Operate>(
         Ok(value) => value,
         Err(broken) => return Err(stop_at(broken, f.function.file, line)),
     };
-    f.values.push(value)?;
+    f.values.push(Operand::own(value))?;
     f.place += 1;
     Ok(Step::More)
 }
 
 /// A dict without entries.
-pub fn new_dict<W: Operate>(
+pub fn new_dict<'a, W: Operate<'a>>(
     world: &W,
     line: usize,
-    f: &mut Frame<W::Walk>,
+    f: &mut Frame<'a, W::Walk>,
     state: &mut W::State,
 ) -> Result<Step, Stop>
     requires { f.old.place < 2 ^ 63 }
@@ -79,16 +80,16 @@ pub fn new_dict<W: Operate>(
         Ok(value) => value,
         Err(broken) => return Err(stop_at(broken, f.function.file, line)),
     };
-    f.values.push(value)?;
+    f.values.push(Operand::own(value))?;
     f.place += 1;
     Ok(Step::More)
 }
 
 /// An item for the list below it, which stays.
-pub fn collect<W: Operate>(
+pub fn collect<'a, W: Operate<'a>>(
     world: &W,
     line: usize,
-    f: &mut Frame<W::Walk>,
+    f: &mut Frame<'a, W::Walk>,
     state: &mut W::State,
 ) -> Result<Step, Stop>
     requires { f.old.place < 2 ^ 63 }
@@ -101,7 +102,7 @@ pub fn collect<W: Operate>(
     let Some(list) = f.values.pop() else {
         return Ok(Step::Stuck);
     };
-    if let Err(broken) = world.collect(state, &list, item) {
+    if let Err(broken) = world.collect(state, list.item(), item) {
         return Err(stop_at(broken, f.function.file, line));
     }
     f.values.push(list)?;
@@ -110,10 +111,10 @@ pub fn collect<W: Operate>(
 }
 
 /// An entry of a display for the dict below it, which stays.
-pub fn enter<W: Operate>(
+pub fn enter<'a, W: Operate<'a>>(
     world: &W,
     line: usize,
-    f: &mut Frame<W::Walk>,
+    f: &mut Frame<'a, W::Walk>,
     state: &mut W::State,
 ) -> Result<Step, Stop>
     requires { f.old.place < 2 ^ 63 }
@@ -129,7 +130,7 @@ pub fn enter<W: Operate>(
     let Some(dict) = f.values.pop() else {
         return Ok(Step::Stuck);
     };
-    if let Err(broken) = world.enter(state, &dict, key, value) {
+    if let Err(broken) = world.enter(state, dict.item(), key.item(), value) {
         return Err(stop_at(broken, f.function.file, line));
     }
     f.values.push(dict)?;
@@ -138,10 +139,10 @@ pub fn enter<W: Operate>(
 }
 
 /// An entry of a comprehension for the dict below it, which stays.
-pub fn keep<W: Operate>(
+pub fn keep<'a, W: Operate<'a>>(
     world: &W,
     line: usize,
-    f: &mut Frame<W::Walk>,
+    f: &mut Frame<'a, W::Walk>,
     state: &mut W::State,
 ) -> Result<Step, Stop>
     requires { f.old.place < 2 ^ 63 }
@@ -157,7 +158,7 @@ pub fn keep<W: Operate>(
     let Some(dict) = f.values.pop() else {
         return Ok(Step::Stuck);
     };
-    if let Err(broken) = world.keep(state, &dict, key, value) {
+    if let Err(broken) = world.keep(state, dict.item(), key.item(), value) {
         return Err(stop_at(broken, f.function.file, line));
     }
     f.values.push(dict)?;

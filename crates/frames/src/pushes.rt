@@ -7,15 +7,16 @@ ghost use Rattle.frames.specs.Seen.{Performs};
 use crate::frame::Frame;
 use crate::stop::{Step, Stop};
 use crate::world::Operate;
+use operands::Operand;
 use plain::Text;
 use syntax::Predeclared;
 
 /// A number that the file writes out.
-pub fn push_number<W: Operate>(
+pub fn push_number<'a, W: Operate<'a>>(
     world: &W,
     line: usize,
     number: u64,
-    f: &mut Frame<W::Walk>,
+    f: &mut Frame<'a, W::Walk>,
 ) -> Result<Step, Stop>
     requires { f.old.place < 2 ^ 63 }
     ensures { (s : W.State) → Performs W.rest (W.operations world.now) line (instr.push_number
@@ -23,17 +24,17 @@ pub fn push_number<W: Operate>(
         result f.new s }
 {
     let value = world.number(number)?;
-    f.values.push(value)?;
+    f.values.push(Operand::own(value))?;
     f.place += 1;
     Ok(Step::More)
 }
 
 /// A string that the file writes out.
-pub fn push_text<W: Operate>(
+pub fn push_text<'a, W: Operate<'a>>(
     world: &W,
     line: usize,
     text: &Text,
-    f: &mut Frame<W::Walk>,
+    f: &mut Frame<'a, W::Walk>,
 ) -> Result<Step, Stop>
     requires { f.old.place < 2 ^ 63 }
     ensures { (s : W.State) → Performs W.rest (W.operations world.now) line (instr.push_text
@@ -41,29 +42,33 @@ pub fn push_text<W: Operate>(
         result f.new s }
 {
     let value = world.string(text)?;
-    f.values.push(value)?;
+    f.values.push(Operand::own(value))?;
     f.place += 1;
     Ok(Step::More)
 }
 
 /// `None`.
-pub fn push_none<W: Operate>(world: &W, line: usize, f: &mut Frame<W::Walk>) -> Result<Step, Stop>
+pub fn push_none<'a, W: Operate<'a>>(
+    world: &W,
+    line: usize,
+    f: &mut Frame<'a, W::Walk>,
+) -> Result<Step, Stop>
     requires { f.old.place < 2 ^ 63 }
     ensures { (s : W.State) → Performs W.rest (W.operations world.now) line instr.push_none f.old s
         result f.new s }
 {
     let value = world.none();
-    f.values.push(value)?;
+    f.values.push(Operand::own(value))?;
     f.place += 1;
     Ok(Step::More)
 }
 
 /// What each file finds bound.
-pub fn push_builtin<W: Operate>(
+pub fn push_builtin<'a, W: Operate<'a>>(
     world: &W,
     line: usize,
     name: Predeclared,
-    f: &mut Frame<W::Walk>,
+    f: &mut Frame<'a, W::Walk>,
 ) -> Result<Step, Stop>
     requires { f.old.place < 2 ^ 63 }
     ensures { (s : W.State) → Performs W.rest (W.operations world.now) line (instr.push_builtin
@@ -71,7 +76,7 @@ pub fn push_builtin<W: Operate>(
         result f.new s }
 {
     let value = world.predeclared(name)?;
-    f.values.push(value)?;
+    f.values.push(Operand::own(value))?;
     f.place += 1;
     Ok(Step::More)
 }

@@ -4,17 +4,17 @@ ghost use Rattle.std.specs.Prelude.{◌≡◌, ◌<◌, ◌-◌, [], ◌∷◌, 
 ghost use Rattle.meaning.specs.Outcome.{put, cleared};
 ghost use Rattle.values.specs.declared.value.Value as held;
 
+use operands::Operand;
 use std::alloc::{AllocError, Global};
 use std::marker::Model;
-use values::Value;
 
 /// The slots of a function, in which its local names have their values once they are set.
 #[derive(Drop)]
-pub struct Slots {
-    items: Vec<Option<Value>>,
+pub struct Slots<'a> {
+    items: Vec<Option<Operand<'a>>>,
 }
 
-impl Model for Slots {
+impl<'a> Model for Slots<'a> {
     ghost use Rattle.std.specs.Prelude.{List, Option};
     ghost use Rattle.values.specs.declared.value.Value.{Value as Held};
     ghost use Rattle.values.specs.ValueCodes.{fields_code};
@@ -26,9 +26,9 @@ impl Model for Slots {
     ghost view = { λ s. s.items.items };
 }
 
-impl Slots {
+impl<'a> Slots<'a> {
     /// No slots.
-    pub fn new(alloc: Global) -> Slots
+    pub fn new(alloc: Global) -> Slots<'a>
         ensures { result ≡ [] }
     {
         Slots {
@@ -37,7 +37,7 @@ impl Slots {
     }
 
     /// A slot, if it is there.
-    pub fn get(&self, slot: usize) -> Option<&Option<Value>>
+    pub fn get(&self, slot: usize) -> Option<&Option<Operand<'a>>>
         ensures { option_copied result ≡ slice_get self.now slot }
     {
         self.items.get(slot)
@@ -51,17 +51,17 @@ impl Slots {
     }
 
     /// One slot more.
-    pub fn push(&mut self, value: Option<Value>) -> Result<(), AllocError>
-        ensures { IfOk result (λ _. self.new ≡ self.old ++ value ∷ []) }
+    pub fn push(&mut self, value: Option<Operand<'a>>) -> Result<(), AllocError>
+        ensures { IfOk result (λ _. self.new ≡ self.old ++ value.entry ∷ []) }
     {
         self.items.push(value)?;
         Ok(())
     }
 
     /// A slot that is there gets a value, or is emptied.
-    fn set(&mut self, slot: usize, value: Option<Value>)
+    fn set(&mut self, slot: usize, value: Option<Operand<'a>>)
         requires { slot < length self.old }
-        ensures { self.new ≡ slice_set self.old slot value }
+        ensures { self.new ≡ slice_set self.old slot value.entry }
     {
         self.items[slot] = value;
     }
@@ -81,8 +81,8 @@ impl Slots {
 
     /// A slot gets a value, or is emptied.
     #[tactic(auto, using(crate::proofs::Putting::put_there))]
-    pub fn put(&mut self, slot: usize, value: Option<Value>) -> Result<(), AllocError>
-        ensures { IfOk result (λ _. self.new ≡ put slot value self.old) }
+    pub fn put(&mut self, slot: usize, value: Option<Operand<'a>>) -> Result<(), AllocError>
+        ensures { IfOk result (λ _. self.new ≡ put slot value.entry self.old) }
     {
         self.reach(slot)?;
         self.set(slot, value);

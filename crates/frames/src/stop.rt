@@ -57,7 +57,7 @@ pub fn stop_at(broken: Broken, file: usize, line: usize) -> Stop
 }
 
 /// A fault that evaluation finds, at its place.
-pub fn refused<W: Operate>(world: &W, refusal: Refusal, file: usize, line: usize) -> Stop
+pub fn refused<'a, W: Operate<'a>>(world: &W, refusal: Refusal, file: usize, line: usize) -> Stop
     ensures { result ≡ fault_at ((W.operations world.now).refusal (refusal_seen refusal)) file
         line }
 {

@@ -4,15 +4,15 @@ ghost use Rattle.std.specs.Prelude.{◌≡◌, IfOk, Some, None, if◌then◌els
 ghost use Rattle.frames.specs.Popped.{popped};
 
 use crate::stack::Stack;
+use operands::Operand;
 use std::alloc::AllocError;
-use values::Value;
 
 /// So many values off the top of a stack, onto another: what was at the top is the lowest of them there. Whether they were
 /// there.
-pub fn take(
+pub fn take<'a>(
     count: usize,
-    values: &mut Stack<Value>,
-    taken: &mut Stack<Value>,
+    values: &mut Stack<Operand<'a>>,
+    taken: &mut Stack<Operand<'a>>,
 ) -> Result<bool, AllocError>
     ensures { IfOk result (λ there. popped count taken.old values.old
         ≡ (if there then Some (taken.new, values.new) else None)) }

@@ -5,15 +5,17 @@ ghost use Rattle.grammar.specs.TreeView.{operator_seen, sign_seen};
 ghost use Rattle.meaning.specs.Operations.{Operations};
 ghost use Rattle.values.specs.declared.value.Value as held;
 ghost use Rattle.values.specs.declared.ticks.Kind as kinds;
+ghost use Rattle.values.specs.Seeing.{item_value};
 ghost use Rattle.frames.specs.Answers.{Says, SaysAs, refusal_seen, id_seen, callee_seen, given};
 
 use crate::frame::{Callee, FunctionId};
 use crate::stack::Stack;
 use grammar::{Operator, Sign};
+use operands::Operand;
 use plain::Text;
 use std::alloc::{AllocError, Global};
 use syntax::Predeclared;
-use values::{Broken, Kind, Value};
+use values::{Broken, Item, Kind, Value};
 
 /// The faults that evaluation finds itself, whatever the values are.
 #[derive(Clone, Copy, PartialEq, Eq, Debug)]
@@ -33,7 +35,7 @@ pub enum Refusal {
 /// A world with what never changes while code runs: the linked files, and what only the place of an evaluation has. Its
 /// methods are the operations of a record on its states: each gives what the operation does, with the state after it, or the
 /// fault that the operation has. Where memory was refused nothing is said.
-pub trait Operate {
+pub trait Operate<'a> {
     /// All that operations change.
     type State;
     /// The items that a walk has left.
@@ -64,8 +66,8 @@ pub trait Operate {
         ensures { IfOk result (λ v. v ≡ (operations self.now).predeclared name) };
 
     /// Whether a value counts as true.
-    fn truth(&self, state: &Self::State, value: &Value) -> bool
-        ensures { result ≡ (operations self.now).truth state.now value.now };
+    fn truth(&self, state: &Self::State, value: Item<'_>) -> bool
+        ensures { result ≡ (operations self.now).truth state.now (item_value value.entry) };
 
     /// One tick.
     fn tick(&self, state: &mut Self::State) -> Result<(), Broken>
@@ -76,52 +78,70 @@ pub trait Operate {
         &self,
         state: &mut Self::State,
         operator: Operator,
-        left: &Value,
-        right: &Value,
+        left: Item<'_>,
+        right: Item<'_>,
     ) -> Result<Value, Broken>
-        ensures { Says ((operations self.now).binary (operator_seen operator) left.now right.now
-            state.old) result state.new };
+        ensures { Says ((operations self.now).binary (operator_seen operator)
+            (item_value left.entry) (item_value right.entry) state.old) result state.new };
 
     /// `not` or `-`.
-    fn sign(&self, state: &mut Self::State, sign: Sign, value: &Value) -> Result<Value, Broken>
-        ensures { Says ((operations self.now).sign (sign_seen sign) value.now state.old) result
-            state.new };
+    fn sign(&self, state: &mut Self::State, sign: Sign, value: Item<'_>) -> Result<Value, Broken>
+        ensures { Says ((operations self.now).sign (sign_seen sign) (item_value value.entry) state.old)
+            result state.new };
 
     /// What `x += y` assigns to `x`.
-    fn increase(&self, state: &mut Self::State, old: &Value, more: &Value) -> Result<Value, Broken>
-        ensures { Says ((operations self.now).increase old.now more.now state.old) result
-            state.new };
+    fn increase(
+        &self,
+        state: &mut Self::State,
+        old: Operand<'a>,
+        more: Item<'_>,
+    ) -> Result<Value, Broken>
+        ensures { Says ((operations self.now).increase old.entry (item_value more.entry) state.old)
+            result state.new };
 
     /// `x.NAME`.
-    fn field(&self, state: &mut Self::State, value: &Value, name: &Text) -> Result<Value, Broken>
-        ensures { Says ((operations self.now).field value.now name.now state.old) result state.new };
+    fn field(&self, state: &mut Self::State, value: Item<'_>, name: &Text) -> Result<Value, Broken>
+        ensures { Says ((operations self.now).field (item_value value.entry) name.now state.old) result
+            state.new };
 
     /// `x[i]`, of x and i.
-    fn item(&self, state: &mut Self::State, base: &Value, index: &Value) -> Result<Value, Broken>
-        ensures { Says ((operations self.now).item base.now index.now state.old) result state.new };
+    fn item(
+        &self,
+        state: &mut Self::State,
+        base: Item<'_>,
+        index: Item<'_>,
+    ) -> Result<Value, Broken>
+        ensures { Says ((operations self.now).item (item_value base.entry) (item_value index.entry)
+            state.old) result state.new };
 
     /// `x[i] = v`, of x, i and v.
     fn set_item(
         &self,
         state: &mut Self::State,
-        base: &Value,
-        index: &Value,
-        value: Value,
+        base: Item<'_>,
+        index: Item<'_>,
+        value: Operand<'a>,
     ) -> Result<(), Broken>
-        ensures { Says ((operations self.now).set_item base.now index.now value state.old)
-            result state.new };
+        ensures { Says ((operations self.now).set_item (item_value base.entry)
+            (item_value index.entry) value.entry state.old) result state.new };
 
     /// A new list of these items, of which the first is at the top.
-    fn new_list(&self, state: &mut Self::State, items: Stack<Value>) -> Result<Value, Broken>
-        ensures { Says ((operations self.now).new_list items state.old) result state.new };
+    fn new_list(&self, state: &mut Self::State, items: Stack<Operand<'a>>) -> Result<Value, Broken>
+        ensures { Says ((operations self.now).new_list items.entry state.old) result state.new };
 
     /// A new tuple of these items, of which the first is at the top.
-    fn new_tuple(&self, state: &mut Self::State, items: Stack<Value>) -> Result<Value, Broken>
-        ensures { Says ((operations self.now).new_tuple items state.old) result state.new };
+    fn new_tuple(&self, state: &mut Self::State, items: Stack<Operand<'a>>) -> Result<Value, Broken>
+        ensures { Says ((operations self.now).new_tuple items.entry state.old) result state.new };
 
     /// An item more of a comprehension's list.
-    fn collect(&self, state: &mut Self::State, list: &Value, item: Value) -> Result<(), Broken>
-        ensures { Says ((operations self.now).collect list.now item state.old) result state.new };
+    fn collect(
+        &self,
+        state: &mut Self::State,
+        list: Item<'_>,
+        item: Operand<'a>,
+    ) -> Result<(), Broken>
+        ensures { Says ((operations self.now).collect (item_value list.entry) item.entry state.old)
+            result state.new };
 
     /// A new dict, without entries.
     fn new_dict(&self, state: &mut Self::State) -> Result<Value, Broken>
@@ -131,25 +151,28 @@ pub trait Operate {
     fn enter(
         &self,
         state: &mut Self::State,
-        dict: &Value,
-        key: Value,
-        value: Value,
+        dict: Item<'_>,
+        key: Item<'_>,
+        value: Operand<'a>,
     ) -> Result<(), Broken>
-        ensures { Says ((operations self.now).enter dict.now key value state.old) result state.new };
+        ensures { Says ((operations self.now).enter (item_value dict.entry) (item_value key.entry)
+            value.entry state.old) result state.new };
 
     /// An entry more of a comprehension's dict, where the later value of a key stays.
     fn keep(
         &self,
         state: &mut Self::State,
-        dict: &Value,
-        key: Value,
-        value: Value,
+        dict: Item<'_>,
+        key: Item<'_>,
+        value: Operand<'a>,
     ) -> Result<(), Broken>
-        ensures { Says ((operations self.now).keep dict.now key value state.old) result state.new };
+        ensures { Says ((operations self.now).keep (item_value dict.entry) (item_value key.entry)
+            value.entry state.old) result state.new };
 
     /// A walk over a value begins, and gives the items that it goes over.
-    fn begin(&self, state: &mut Self::State, walked: &Value) -> Result<Self::Walk, Broken>
-        ensures { SaysAs rest ((operations self.now).begin walked.now state.old) result state.new };
+    fn begin(&self, state: &mut Self::State, walked: Item<'_>) -> Result<Self::Walk, Broken>
+        ensures { SaysAs rest ((operations self.now).begin (item_value walked.entry) state.old) result
+            state.new };
 
     /// The next item of a walk, None at its end.
     fn next(&self, state: &Self::State, walk: &mut Self::Walk) -> Result<Option<Value>, AllocError>
@@ -158,16 +181,21 @@ pub trait Operate {
             (λ v. rest walk.old ≡ v ∷ rest walk.new)) };
 
     /// A walk has ended.
-    fn end(&self, state: &mut Self::State, walked: &Value)
-        ensures { state.new ≡ (operations self.now).end walked.now state.old };
+    fn end(&self, state: &mut Self::State, walked: Item<'_>)
+        ensures { state.new ≡ (operations self.now).end (item_value walked.entry) state.old };
 
     /// The items of a sequence that is unpacked.
-    fn parts(&self, state: &mut Self::State, sequence: &Value) -> Result<Vec<Value>, Broken>
-        ensures { SaysAs (λ v. v.items) ((operations self.now).parts sequence.now state.old) result
-            state.new };
+    fn parts(&self, state: &mut Self::State, sequence: Item<'_>) -> Result<Vec<Value>, Broken>
+        ensures { SaysAs (λ v. v.items) ((operations self.now).parts (item_value sequence.entry)
+            state.old) result state.new };
 
-    /// The value of a name of the top level of a file.
-    fn global(&self, state: &mut Self::State, file: usize, number: usize) -> Result<Value, Broken>
+    /// The value of a name of the top level of a file: of a linked file it is lent.
+    fn global(
+        &self,
+        state: &mut Self::State,
+        file: usize,
+        number: usize,
+    ) -> Result<Operand<'a>, Broken>
         ensures { Says ((operations self.now).global file number state.old) result state.new };
 
     /// A global of a file gets a value.
@@ -176,10 +204,10 @@ pub trait Operate {
         state: &mut Self::State,
         file: usize,
         number: usize,
-        value: Value,
+        value: Operand<'a>,
     ) -> Result<(), AllocError>
-        ensures { IfOk result (λ _. state.new ≡ (operations self.now).set_global file number value
-            state.old) };
+        ensures { IfOk result (λ _. state.new ≡ (operations self.now).set_global file number
+            value.entry state.old) };
 
     /// A name that a load binds gets its value.
     fn set_loaded(
@@ -187,19 +215,19 @@ pub trait Operate {
         state: &mut Self::State,
         file: usize,
         number: usize,
-        value: Value,
+        value: Operand<'a>,
     ) -> Result<(), AllocError>
-        ensures { IfOk result (λ _. state.new ≡ (operations self.now).set_loaded file number value
-            state.old) };
+        ensures { IfOk result (λ _. state.new ≡ (operations self.now).set_loaded file number
+            value.entry state.old) };
 
-    /// What a load of a file asks a module for.
+    /// What a load of a file asks a module for, which is lent.
     fn loaded(
         &self,
         state: &mut Self::State,
         file: usize,
         from: &Text,
         name: &Text,
-    ) -> Result<Value, Broken>
+    ) -> Result<Operand<'a>, Broken>
         ensures { Says ((operations self.now).loaded file from.now name.now state.old)
             result state.new };
 
@@ -209,23 +237,28 @@ pub trait Operate {
         state: &mut Self::State,
         function: FunctionId,
         name: &Text,
-        defaults: Stack<Value>,
+        defaults: Stack<Operand<'a>>,
     ) -> Result<Value, Broken>
-        ensures { Says ((operations self.now).define (id_seen function) name.now defaults state.old)
-            result state.new };
+        ensures { Says ((operations self.now).define (id_seen function) name.now defaults.entry
+            state.old) result state.new };
 
     /// The defaults that a function's `def` kept.
-    fn defaults<'a>(&'a self, state: &'a Self::State, function: FunctionId) -> &'a [Value]
+    fn defaults<'b>(&'b self, state: &'b Self::State, function: FunctionId) -> &'b [Value]
         ensures { result.now ≡ (operations self.now).defaults (id_seen function) state.now };
 
     /// Which function written in Starlark a value is, if it is one.
-    fn function(&self, value: &Value) -> Option<FunctionId>
-        ensures { option_map id_seen result ≡ (operations self.now).function value.now };
+    fn function(&self, value: Item<'_>) -> Option<FunctionId>
+        ensures { option_map id_seen result
+            ≡ (operations self.now).function (item_value value.entry) };
 
     /// What `x.NAME` is where it is called.
-    fn find(&self, state: &mut Self::State, value: &Value, name: &Text) -> Result<Callee, Broken>
-        ensures { SaysAs callee_seen ((operations self.now).find value.now name.now state.old)
-            result
+    fn find(
+        &self,
+        state: &mut Self::State,
+        owner: Operand<'a>,
+        name: &'a Text,
+    ) -> Result<Callee<'a>, Broken>
+        ensures { SaysAs callee_seen ((operations self.now).find owner.entry name.now state.old) result
             state.new };
 
     /// A call of what isn't written in Starlark: its values by position, of which the first is at the top, and those by
@@ -233,13 +266,13 @@ pub trait Operate {
     fn call(
         &self,
         state: &mut Self::State,
-        callee: &Callee,
-        items: Stack<Value>,
+        callee: &Callee<'a>,
+        items: Stack<Operand<'a>>,
         names: &[Text],
-        named: Stack<Value>,
+        named: Stack<Operand<'a>>,
     ) -> Result<Value, Broken>
         ensures { Says ((operations self.now).call (callee_seen callee.now)
-            (given items names.now named) state.old) result state.new };
+            (given items.entry names.now named.entry) state.old) result state.new };
 
     /// Where memory comes from.
     fn alloc(&self) -> Global;

@@ -18,7 +18,7 @@ use plain::{Shared, Text};
 use std::alloc::{AllocError, Global};
 use target_fields::{Dependencies, field, item, offers};
 use targets::Target;
-use values::{Broken, Kind, Leaf, Object, Provider, Value};
+use values::{Broken, Item, Kind, Leaf, Object, Provider, Value};
 use workspace::Label;
 
 /// What the implementation of the target of a label sees: the target, and its dependencies with their outcomes. Its work are the
@@ -108,7 +108,7 @@ impl<'a> Place for ImplementationPlace<'a> {
         alloc: Global,
         whole: &Whole<Work>,
         target: usize,
-        provider: &Value,
+        provider: Item<'_>,
     ) -> Result<Value, Broken> {
         item(
             alloc,
@@ -119,7 +119,12 @@ impl<'a> Place for ImplementationPlace<'a> {
         )
     }
 
-    fn offers(&self, whole: &Whole<Work>, target: usize, provider: &Value) -> Result<bool, Broken> {
+    fn offers(
+        &self,
+        whole: &Whole<Work>,
+        target: usize,
+        provider: Item<'_>,
+    ) -> Result<bool, Broken> {
         offers(&whole.state.heap, &self.dependencies, target, provider)
     }
 }

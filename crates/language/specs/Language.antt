@@ -86,6 +86,11 @@ abbrev pub leaf_target : Leaf → Option ℕ
 leaf_target (plain.Target n) = Some n
 leaf_target _ = None
 
+-- the leaf that a value is, if it is one
+abbrev pub leaf_of : Value → Option Leaf
+leaf_of (value.Leaf l) = Some l
+leaf_of _ = None
+
 abbrev pub target_of : Value → Option ℕ
 target_of (value.Leaf l) = leaf_target l
 target_of _ = None

@@ -4,7 +4,7 @@ use operations::State;
 
 /// The state of an evaluation, and the work of its place: what it declares.
 #[derive(Drop)]
-pub struct Whole<W> {
-    pub state: State,
+pub struct Whole<'a, W> {
+    pub state: State<'a>,
     pub work: W,
 }

@@ -10,4 +10,4 @@ mod placed;
 
 pub use bound::{DefaultInfo, predeclared};
 pub use operators::binary;
-pub use placed::{of_place, target_of};
+pub use placed::{leaf_of, of_place, target_of};

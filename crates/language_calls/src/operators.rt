@@ -2,6 +2,7 @@
 ghost use Rattle.std.specs.Prelude.{◌≡◌, Ok, Err, MatchResult};
 ghost use Rattle.grammar.specs.TreeView.{operator_seen};
 ghost use Rattle.values.specs.Ticking.{FaultOr};
+ghost use Rattle.values.specs.Seeing.{item_value};
 ghost use Rattle.operations.specs.States.{Does, Stays};
 ghost use Rattle.operations.specs.Equality.{equals};
 ghost use Rattle.operations.specs.Strings.{member};
@@ -23,10 +24,10 @@ pub fn binary(
     alloc: Global,
     state: &mut State,
     operator: Operator,
-    left: &Value,
-    right: &Value,
+    left: Item<'_>,
+    right: Item<'_>,
 ) -> Result<Value, Broken>
-    ensures { Does (binary_of (operator_seen operator) left.now right.now) state.old result
+    ensures { Does (binary_of (operator_seen operator) (item_value left.entry) (item_value right.entry)) state.old result
         state.new }
 {
     match operator {
@@ -48,20 +49,20 @@ pub fn binary(
 }
 
 /// `left == right`.
-fn equal(state: &mut State, left: &Value, right: &Value) -> Result<Value, Broken>
-    ensures { Does (as_truth (equals left.now right.now)) state.old result state.new }
+fn equal(state: &mut State, left: Item<'_>, right: Item<'_>) -> Result<Value, Broken>
+    ensures { Does (as_truth (equals (item_value left.entry) (item_value right.entry))) state.old result state.new }
 {
-    match state::equals(state, Item::Value(left), Item::Value(right)) {
+    match state::equals(state, left, right) {
         Ok(same) => Ok(Value::Key(Key::Truth(same))),
         Err(broken) => Err(broken),
     }
 }
 
 /// `left != right`.
-fn not_equal(state: &mut State, left: &Value, right: &Value) -> Result<Value, Broken>
-    ensures { Does (as_opposite (equals left.now right.now)) state.old result state.new }
+fn not_equal(state: &mut State, left: Item<'_>, right: Item<'_>) -> Result<Value, Broken>
+    ensures { Does (as_opposite (equals (item_value left.entry) (item_value right.entry))) state.old result state.new }
 {
-    match state::equals(state, Item::Value(left), Item::Value(right)) {
+    match state::equals(state, left, right) {
         Ok(same) => Ok(Value::Key(Key::Truth(!same))),
         Err(broken) => Err(broken),
     }
@@ -71,32 +72,32 @@ fn not_equal(state: &mut State, left: &Value, right: &Value) -> Result<Value, Br
 fn compared(
     state: &State,
     operator: Comparison,
-    left: &Value,
-    right: &Value,
+    left: Item<'_>,
+    right: Item<'_>,
 ) -> Result<Value, Broken>
-    ensures { Does (as_truth (compare operator left.now right.now)) state.now result state.now }
+    ensures { Does (as_truth (compare operator (item_value left.entry) (item_value right.entry))) state.now result state.now }
 {
-    match state::compare(state, operator, Item::Value(left), Item::Value(right)) {
+    match state::compare(state, operator, left, right) {
         Ok(holds) => Ok(Value::Key(Key::Truth(holds))),
         Err(broken) => Err(broken),
     }
 }
 
 /// `left in right`.
-fn within(state: &mut State, left: &Value, right: &Value) -> Result<Value, Broken>
-    ensures { Does (as_truth (member left.now right.now)) state.old result state.new }
+fn within(state: &mut State, left: Item<'_>, right: Item<'_>) -> Result<Value, Broken>
+    ensures { Does (as_truth (member (item_value left.entry) (item_value right.entry))) state.old result state.new }
 {
-    match text_calls::member(state, Item::Value(left), Item::Value(right)) {
+    match text_calls::member(state, left, right) {
         Ok(held) => Ok(Value::Key(Key::Truth(held))),
         Err(broken) => Err(broken),
     }
 }
 
 /// `left not in right`.
-fn not_within(state: &mut State, left: &Value, right: &Value) -> Result<Value, Broken>
-    ensures { Does (as_opposite (member left.now right.now)) state.old result state.new }
+fn not_within(state: &mut State, left: Item<'_>, right: Item<'_>) -> Result<Value, Broken>
+    ensures { Does (as_opposite (member (item_value left.entry) (item_value right.entry))) state.old result state.new }
 {
-    match text_calls::member(state, Item::Value(left), Item::Value(right)) {
+    match text_calls::member(state, left, right) {
         Ok(held) => Ok(Value::Key(Key::Truth(!held))),
         Err(broken) => Err(broken),
     }
@@ -106,10 +107,10 @@ fn not_within(state: &mut State, left: &Value, right: &Value) -> Result<Value, B
 fn calculated(
     state: &State,
     operator: Arithmetic,
-    left: &Value,
-    right: &Value,
+    left: Item<'_>,
+    right: Item<'_>,
 ) -> Result<Value, Broken>
-    ensures { Does (calculate operator left.now right.now) state.now result state.now }
+    ensures { Does (calculate operator (item_value left.entry) (item_value right.entry)) state.now result state.now }
 {
-    state::calculate(state, operator, Item::Value(left), Item::Value(right))
+    state::calculate(state, operator, left, right)
 }

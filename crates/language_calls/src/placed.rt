@@ -1,28 +1,60 @@
-//! Values that are asked of their place.
+//! Values that are leaves, and those that are asked of their place.
 ghost use Rattle.std.specs.Prelude.{◌≡◌, Some, None, option_copied};
-ghost use Rattle.language.specs.Language.{target_of, of_place};
+ghost use Rattle.values.specs.Seeing.{item_value};
+ghost use Rattle.values.specs.Shape.{value_of};
+ghost use Rattle.values.specs.View.{tree_of};
+ghost use Rattle.language.specs.Language.{leaf_of, target_of, of_place};
 
-use values::{Leaf, Value};
+use values::{Frozen, Held, Item, Leaf, Value};
 
-/// The place of the target that a value is among the dependencies, if it is one.
-pub fn target_of(value: &Value) -> Option<usize>
-    ensures { result ≡ target_of value.now }
+/// The leaf that a value is, if it is one.
+pub fn leaf_of<'a>(value: Item<'a>) -> Option<&'a Leaf>
+    ensures { option_copied result ≡ leaf_of (item_value value.entry) }
 {
     match value {
-        Value::Leaf(Leaf::Target(place)) => Some(*place),
+        Item::Value(value) => value_leaf(value),
+        Item::Tree(tree) => tree_leaf(tree),
+        Item::Key(_) => None,
+    }
+}
+
+fn value_leaf(value: &Value) -> Option<&Leaf>
+    ensures { option_copied result ≡ leaf_of value.now }
+{
+    match value {
+        Value::Leaf(leaf) => Some(leaf),
+        _ => None,
+    }
+}
+
+fn tree_leaf(tree: &Frozen) -> Option<&Leaf>
+    ensures { option_copied result ≡ leaf_of (value_of tree.now) }
+{
+    match tree.held() {
+        Held::Leaf(leaf) => Some(leaf),
+        _ => None,
+    }
+}
+
+/// The place of the target that a value is among the dependencies, if it is one.
+pub fn target_of(value: Item<'_>) -> Option<usize>
+    ensures { result ≡ target_of (item_value value.entry) }
+{
+    match leaf_of(value) {
+        Some(Leaf::Target(place)) => Some(*place),
         _ => None,
     }
 }
 
 /// The target or the object that a value is, if it is one: their fields and methods are those of their place.
-pub fn of_place(value: &Value) -> Option<&Leaf>
-    ensures { option_copied result ≡ of_place value.now }
+pub fn of_place<'a>(value: Item<'a>) -> Option<&'a Leaf>
+    ensures { option_copied result ≡ of_place (item_value value.entry) }
 {
-    match value {
-        Value::Leaf(leaf) => match leaf {
+    match leaf_of(value) {
+        Some(leaf) => match leaf {
             Leaf::Target(_) | Leaf::Object(_) => Some(leaf),
             _ => None,
         },
-        _ => None,
+        None => None,
     }
 }

@@ -33,7 +33,7 @@ fn path_at(paths: &[Text], file: usize) -> &str
 
 impl<'a, K: KnownModules> Files<'a, K> {
     /// The module of a number, if it is known.
-    pub fn numbered(&self, file: usize) -> Option<&Module>
+    pub fn numbered(&self, file: usize) -> Option<&'a Module>
         ensures { option_copied result
             ≡ module_numbered self.now.paths.now (K.known self.now.known.now) file }
     {
@@ -44,7 +44,7 @@ impl<'a, K: KnownModules> Files<'a, K> {
     }
 
     /// The module that a load of a file names, by the text of the label, if it names one that is known.
-    fn named(&self, file: usize, label: &Text) -> Result<Option<&Module>, AllocError>
+    fn named(&self, file: usize, label: &Text) -> Result<Option<&'a Module>, AllocError>
         ensures { IfOk result (λ m. option_copied m
             ≡ option_and_then (K.known self.now.known.now)
             (load_path (path_at self.now.paths.now file) label.now)) }
@@ -56,7 +56,7 @@ impl<'a, K: KnownModules> Files<'a, K> {
     }
 
     /// A rule that a module declared, by its numbers.
-    pub fn rule(&self, id: MadeId) -> Option<&Shared<Rule>>
+    pub fn rule(&self, id: MadeId) -> Option<&'a Shared<Rule>>
         ensures { option_copied result
             ≡ rule_of self.now.paths.now (K.known self.now.known.now) id }
     {
@@ -81,12 +81,12 @@ pub fn attribute_at<'a, K: KnownModules>(
     }
 }
 
-impl<'a, K: KnownModules> Link for Files<'a, K> {
+impl<'a, K: KnownModules> Link<'a> for Files<'a, K> {
     ghost use Rattle.evaluation.specs.Worlds.{world};
 
     ghost linked = { λ f. world f.paths.now (K.known f.known.now) };
 
-    fn name(&self, file: usize, number: usize) -> Option<Item<'_>> {
+    fn name(&self, file: usize, number: usize) -> Option<Item<'a>> {
         match self.numbered(file) {
             Some(module) => module.name(number),
             None => None,
@@ -105,7 +105,7 @@ impl<'a, K: KnownModules> Link for Files<'a, K> {
         file: usize,
         label: &Text,
         name: &Text,
-    ) -> Result<Option<Item<'_>>, AllocError> {
+    ) -> Result<Option<Item<'a>>, AllocError> {
         match self.named(file, label)? {
             Some(module) => Ok(module.global(name)),
             None => Ok(None),

@@ -37,8 +37,8 @@ fn no_targets(alloc: Global, path: &Text) -> Result<PackageTargets, AllocError>
 }
 
 /// What was declared.
-fn declared(whole: Box<Whole<PackageTargets>>) -> PackageTargets
-    ensures { result ≡ whole.value.work }
+fn declared(whole: Box<Whole<'_, PackageTargets>>) -> PackageTargets
+    ensures { result ≡ whole.entry.value.work }
 {
     let Whole { state: _, work } = Box::into_inner(whole);
     work

@@ -24,10 +24,10 @@ use values::Kind;
 fn ended(
     alloc: Global,
     file: &TopFile<'_>,
-    whole: Box<Whole<Declarations>>,
+    whole: Box<Whole<'_, Declarations>>,
 ) -> Result<Result<Module, Ending<Kind>>, AllocError>
     ensures { IfOk result (λ r. r ≡ module_ended file.now.path.now file.now.number
-        file.now.names.now whole.value.state (made_of whole.value.work)) }
+        file.now.names.now whole.entry.value.state (made_of whole.entry.value.work)) }
 {
     let Whole { state, work } = Box::into_inner(whole);
     end_run(alloc, &file, state, made_of(work))

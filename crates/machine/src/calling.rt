@@ -15,6 +15,7 @@ use crate::active::Active;
 use crate::filling::slots_at_entry;
 use crate::linked::Linked;
 use frames::{Callee, Frame, FunctionId, Operate, Refusal, Slots, Stack, Stop, refused, stop_at};
+use operands::Operand;
 use plain::Text;
 use std::alloc::{AllocError, Global};
 use values::Value;
@@ -24,9 +25,9 @@ use values::Value;
 /// top.
 #[derive(Drop)]
 pub struct Arguments<'a> {
-    pub items: Stack<Value>,
+    pub items: Stack<Operand<'a>>,
     pub names: &'a [Text],
-    pub named: Stack<Value>,
+    pub named: Stack<Operand<'a>>,
 }
 
 /// Where a call stands: the number of its file, and its line.
@@ -38,18 +39,22 @@ pub(crate) struct Place {
 
 /// What a call comes to: the value of what isn't written in Starlark, or the frame of a function that is.
 #[derive(Drop)]
-pub(crate) enum Called<T> {
+pub(crate) enum Called<'a, T> {
     Value(Value),
-    Frame(Frame<T>),
+    Frame(Frame<'a, T>),
 }
 
 /// A function may be active once, and 128 functions at most.
 const MOST_ACTIVE: usize = 128;
 
 /// A frame at the first instruction of a function.
-pub(crate) fn frame_at_entry<T>(alloc: Global, function: FunctionId, slots: Slots) -> Frame<T>
+pub(crate) fn frame_at_entry<'a, T>(
+    alloc: Global,
+    function: FunctionId,
+    slots: Slots<'a>,
+) -> Frame<'a, T>
     ensures { (rest : T → List held.Value) → seen rest result ≡ machine.frame_of (id_seen
-        function) slots }
+        function) slots.entry }
 {
     Frame {
         function,
@@ -63,17 +68,17 @@ pub(crate) fn frame_at_entry<T>(alloc: Global, function: FunctionId, slots: Slot
 }
 
 /// A function whose arguments fit becomes active, if it isn't yet and if not too many are, with the tick of its call.
-fn enter<W: Operate>(
+fn enter<'a, W: Operate<'a>>(
     world: &W,
     place: Place,
     function: FunctionId,
-    slots: Slots,
+    slots: Slots<'a>,
     active: &mut Active,
     state: &mut W::State,
-) -> Result<Frame<W::Walk>, Stop>
+) -> Result<Frame<'a, W::Walk>, Stop>
     ensures { (codes : Codes) → Begins W.rest (λ below. machine.starting (W.operations world.now)
         codes
-        (here_at place (ids_seen active.old)) (id_seen function) below state.old (Some slots))
+        (here_at place (ids_seen active.old)) (id_seen function) below state.old (Some slots.entry))
         result
         (ids_seen active.new) state.new }
 {
@@ -91,15 +96,15 @@ fn enter<W: Operate>(
 }
 
 /// A function written in Starlark is called: the tests of the call, its tick, and a new frame.
-pub(crate) fn call_function<W: Operate>(
+pub(crate) fn call_function<'a, W: Operate<'a>>(
     world: &W,
-    linked: &Linked,
+    linked: &'a Linked,
     place: Place,
     function: FunctionId,
-    arguments: Arguments<'_>,
+    arguments: Arguments<'a>,
     active: &mut Active,
     state: &mut W::State,
-) -> Result<Frame<W::Walk>, Stop>
+) -> Result<Frame<'a, W::Walk>, Stop>
     ensures { Begins W.rest (λ below. machine.starts (W.operations world.now) (codes_of linked.now)
         (here_at place (ids_seen active.old)) (id_seen function) (arguments_seen arguments.entry)
         below state.old
@@ -130,25 +135,25 @@ pub(crate) fn call_function<W: Operate>(
 }
 
 /// Which function written in Starlark is called, if one is.
-fn function_of<W: Operate>(world: &W, callee: &Callee) -> Option<FunctionId>
+fn function_of<'a, W: Operate<'a>>(world: &W, callee: &Callee) -> Option<FunctionId>
     ensures { option_map id_seen result ≡ called (W.operations world.now) (callee_seen callee.now) }
 {
     match callee {
-        Callee::Plain(value) => world.function(value),
+        Callee::Plain(value) => world.function(value.item()),
         Callee::Method(_, _) => None,
     }
 }
 
 /// A call: of a function written in Starlark, or of something else.
-pub(crate) fn call<W: Operate>(
+pub(crate) fn call<'a, W: Operate<'a>>(
     world: &W,
-    linked: &Linked,
+    linked: &'a Linked,
     place: Place,
-    callee: &Callee,
-    arguments: Arguments<'_>,
+    callee: &Callee<'a>,
+    arguments: Arguments<'a>,
     active: &mut Active,
     state: &mut W::State,
-) -> Result<Called<W::Walk>, Stop>
+) -> Result<Called<'a, W::Walk>, Stop>
     ensures { Enters W.rest (λ below. machine.start (W.operations world.now) (codes_of linked.now)
         (here_at place (ids_seen active.old)) (callee_seen callee.now) (arguments_seen
         arguments.entry) below state.old) result

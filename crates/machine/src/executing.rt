@@ -25,7 +25,7 @@ use values::{Kind, Value};
 #[derive(Drop)]
 pub enum Start<'a> {
     /// A value, or a method of one, is called at a line of a file, with these arguments.
-    Call(usize, usize, Callee, Arguments<'a>),
+    Call(usize, usize, Callee<'a>, Arguments<'a>),
     /// A function is called at the line of its `def`, whatever value it has: so an implementation is called.
     Function(FunctionId, Arguments<'a>),
     /// The top level of a file, by the number of the file.
@@ -34,14 +34,14 @@ pub enum Start<'a> {
 
 /// What a start comes to: a value at once, or a run.
 #[derive(Drop)]
-pub(crate) enum Begun<T> {
+pub(crate) enum Begun<'a, T> {
     Over(Value),
-    Running(Running<T>),
+    Running(Running<'a, T>),
 }
 
 /// A function runs, which has no caller.
-fn alone<T>(alloc: Global, top: Frame<T>, active: Active) -> Running<T>
-    ensures { result ≡ record { top = top; below = []; active = active } }
+fn alone<'a, T>(alloc: Global, top: Frame<'a, T>, active: Active) -> Running<'a, T>
+    ensures { result ≡ record { top = top.entry; below = []; active = active } }
 {
     Running {
         top,
@@ -51,14 +51,14 @@ fn alone<T>(alloc: Global, top: Frame<T>, active: Active) -> Running<T>
 }
 
 /// A call of a value begins.
-fn begin_call<W: Operate>(
+fn begin_call<'a, W: Operate<'a>>(
     world: &W,
-    linked: &Linked,
+    linked: &'a Linked,
     place: Place,
-    callee: &Callee,
-    arguments: Arguments<'_>,
+    callee: &Callee<'a>,
+    arguments: Arguments<'a>,
     state: &mut W::State,
-) -> Result<Begun<W::Walk>, Stop>
+) -> Result<Begun<'a, W::Walk>, Stop>
     ensures { Starts W.rest (call_start (W.operations world.now) (codes_of linked.now) place.file
         place.line (callee_seen callee.now) (arguments_seen arguments.entry) state.old) result
         state.new }
@@ -72,13 +72,13 @@ fn begin_call<W: Operate>(
 }
 
 /// A call of a function begins, at the line of its `def`.
-fn begin_function<W: Operate>(
+fn begin_function<'a, W: Operate<'a>>(
     world: &W,
-    linked: &Linked,
+    linked: &'a Linked,
     function: FunctionId,
-    arguments: Arguments<'_>,
+    arguments: Arguments<'a>,
     state: &mut W::State,
-) -> Result<Begun<W::Walk>, Stop>
+) -> Result<Begun<'a, W::Walk>, Stop>
     ensures { Starts W.rest (function_start (W.operations world.now) (codes_of linked.now)
         (id_seen function) (arguments_seen arguments.entry) state.old) result state.new }
 {
@@ -103,7 +103,11 @@ fn begin_function<W: Operate>(
 }
 
 /// The top level of a file begins: no function is active, nothing is set in its slots, and it takes no tick.
-fn begin_top<W: Operate>(world: &W, linked: &Linked, file: usize) -> Result<Begun<W::Walk>, Stop>
+fn begin_top<'a, W: Operate<'a>>(
+    world: &W,
+    linked: &'a Linked,
+    file: usize,
+) -> Result<Begun<'a, W::Walk>, Stop>
     ensures { (s : W.State) → Starts W.rest (top_start (W.operations world.now) (codes_of
         linked.now)
         file s) result s }
@@ -119,12 +123,12 @@ fn begin_top<W: Operate>(world: &W, linked: &Linked, file: usize) -> Result<Begu
 }
 
 /// A run begins.
-fn begin<W: Operate>(
+fn begin<'a, W: Operate<'a>>(
     world: &W,
-    linked: &Linked,
-    start: Start<'_>,
+    linked: &'a Linked,
+    start: Start<'a>,
     state: &mut W::State,
-) -> Result<Begun<W::Walk>, Stop>
+) -> Result<Begun<'a, W::Walk>, Stop>
     ensures { Starts W.rest (start_of (W.operations world.now) (codes_of linked.now) start.entry
         state.old) result state.new }
 {
@@ -147,10 +151,10 @@ fn begin<W: Operate>(
 }
 
 /// A run, up to its end.
-fn run<W: Operate>(
+fn run<'a, W: Operate<'a>>(
     world: &W,
-    linked: &Linked,
-    start: Start<'_>,
+    linked: &'a Linked,
+    start: Start<'a>,
     state: &mut W::State,
 ) -> Result<Value, Stop>
     ensures { Comes (W.operations world.now) (codes_of linked.now) (start_of (W.operations
@@ -181,10 +185,10 @@ fn run<W: Operate>(
 /// # Errors
 ///
 /// A fault as the files mean it; [`Stop::NoMemory`] where memory was refused, and then the state is left as it is.
-pub fn execute<W: Operate>(
+pub fn execute<'a, W: Operate<'a>>(
     world: &W,
-    linked: &Linked,
-    start: Start<'_>,
+    linked: &'a Linked,
+    start: Start<'a>,
     state: &mut W::State,
 ) -> Result<Value, Stop>
     ensures means { (files : Files) → codes_of linked.now ≡ code_of files → Answers (meaning_of

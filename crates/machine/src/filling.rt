@@ -8,6 +8,7 @@ ghost use Rattle.frames.specs.Answers.{given};
 ghost use Rattle.machine.specs.Filled.{default_at, got};
 
 use frames::{Slots, Stack};
+use operands::Operand;
 use plain::Text;
 use std::alloc::{AllocError, Global};
 use values::Value;
@@ -20,7 +21,11 @@ fn place_of(name: &Text, names: &[Text]) -> Option<usize>
 }
 
 /// The value of an argument by its name, if there is one of this name.
-fn named_value<'a>(param: &Text, names: &[Text], named: &'a [Value]) -> Option<&'a Value>
+fn named_value<'a, 'b>(
+    param: &Text,
+    names: &[Text],
+    named: &'b [Operand<'a>],
+) -> Option<&'b Operand<'a>>
     ensures { option_copied result ≡ lookup (bytes_eq param.now) (paired names.now named.now) }
 {
     match place_of(param, names) {
@@ -44,7 +49,7 @@ fn are_params(params: &[Text], names: &[Text]) -> bool
 }
 
 /// Whether each argument by name is one of a parameter.
-fn are_known(params: &[Text], names: &[Text], named: &[Value]) -> bool
+fn are_known(params: &[Text], names: &[Text], named: &[Operand<'_>]) -> bool
     ensures { result ≡ all_known params.now (paired names.now named.now) }
 {
     let count = names.len().min(named.len());
@@ -52,15 +57,15 @@ fn are_known(params: &[Text], names: &[Text], named: &[Value]) -> bool
 }
 
 /// What one parameter gets, if it gets something.
-fn given_to(
+fn given_to<'a>(
     param: &Text,
-    item: Option<Value>,
+    item: Option<Operand<'a>>,
     names: &[Text],
-    named: &[Value],
+    named: &[Operand<'a>],
     default: Option<&Value>,
-) -> Result<Option<Value>, AllocError>
+) -> Result<Option<Operand<'a>>, AllocError>
     ensures { IfOk result (λ o. o
-        ≡ got param.now item (paired names.now named.now) (option_copied default.entry)) }
+        ≡ got param.now item.entry (paired names.now named.now) (option_copied default.entry)) }
 {
     let by_name = named_value(param, names, named);
     match item {
@@ -71,7 +76,7 @@ fn given_to(
         None => match by_name {
             Some(value) => Ok(Some(value.share()?)),
             None => match default {
-                Some(value) => Ok(Some(value.share()?)),
+                Some(value) => Ok(Some(Operand::own(value.share()?))),
                 None => Ok(None),
             },
         },
@@ -79,7 +84,7 @@ fn given_to(
 }
 
 /// The value at a place.
-fn value_at(values: &[Value], index: usize) -> Option<&Value>
+fn value_at<T>(values: &[T], index: usize) -> Option<&T>
     ensures { option_copied result ≡ slice_get values.now index }
 {
     values.get(index)
@@ -97,15 +102,15 @@ fn default_of(defaults: &[Value], without: usize, index: usize) -> Option<&Value
 }
 
 /// What the parameters get, in their order; None where the arguments don't fit them.
-fn fill(
+fn fill<'a>(
     alloc: Global,
     params: &[Text],
     defaults: &[Value],
-    items: Stack<Value>,
+    items: Stack<Operand<'a>>,
     names: &[Text],
-    named: &[Value],
-) -> Result<Option<Slots>, AllocError>
-    ensures { IfOk result (λ o. o ≡ filled params.now items (paired names.now named.now)
+    named: &[Operand<'a>],
+) -> Result<Option<Slots<'a>>, AllocError>
+    ensures { IfOk result (λ o. o ≡ filled params.now items.entry (paired names.now named.now)
         (defaults_of params.now defaults.now)) }
 {
     let mut items = items;
@@ -125,7 +130,7 @@ fn fill(
 }
 
 /// So many slots more, in which nothing is set.
-fn pad(slots: &mut Slots, count: usize) -> Result<(), AllocError>
+fn pad(slots: &mut Slots<'_>, count: usize) -> Result<(), AllocError>
     ensures { IfOk result (λ _. slots.new ≡ slots.old ++ replicate count None) }
 {
     for _ in 0..count {
@@ -135,7 +140,7 @@ fn pad(slots: &mut Slots, count: usize) -> Result<(), AllocError>
 }
 
 /// As many slots, in which nothing is set.
-pub(crate) fn unset(alloc: Global, count: usize) -> Result<Slots, AllocError>
+pub(crate) fn unset<'a>(alloc: Global, count: usize) -> Result<Slots<'a>, AllocError>
     ensures { IfOk result (λ slots. slots ≡ replicate count None) }
 {
     let mut slots = Slots::new(alloc);
@@ -144,8 +149,8 @@ pub(crate) fn unset(alloc: Global, count: usize) -> Result<Slots, AllocError>
 }
 
 /// The values of a stack in order, the top first.
-fn in_order(alloc: Global, values: Stack<Value>) -> Result<Vec<Value>, AllocError>
-    ensures { IfOk result (λ v. v.items ≡ values) }
+fn in_order<'a>(alloc: Global, values: Stack<Operand<'a>>) -> Result<Vec<Operand<'a>>, AllocError>
+    ensures { IfOk result (λ v. v.items ≡ values.entry) }
 {
     let mut values = values;
     let mut all = Vec::new(alloc);
@@ -157,17 +162,17 @@ fn in_order(alloc: Global, values: Stack<Value>) -> Result<Vec<Value>, AllocErro
 
 /// The slots at the entry of a function; None where the arguments don't fit its parameters.
 #[tactic(auto, unfolding(meaning::specs::Entry::entry))]
-pub(crate) fn slots_at_entry(
+pub(crate) fn slots_at_entry<'a>(
     alloc: Global,
     params: &[Text],
     count: usize,
     defaults: &[Value],
-    items: Stack<Value>,
+    items: Stack<Operand<'a>>,
     names: &[Text],
-    named: Stack<Value>,
-) -> Result<Option<Slots>, AllocError>
-    ensures { IfOk result (λ o. o ≡ entry params.now count defaults.now (given items names.now
-        named)) }
+    named: Stack<Operand<'a>>,
+) -> Result<Option<Slots<'a>>, AllocError>
+    ensures { IfOk result (λ o. o ≡ entry params.now count defaults.now (given items.entry
+        names.now named.entry)) }
 {
     let named = in_order(alloc, named)?;
     if !are_known(params, names, named.as_slice()) {

@@ -17,6 +17,7 @@ use crate::calling::{Arguments, Called, Place, call};
 use crate::linked::Linked;
 use code::Defined;
 use frames::{Callee, Frame, FunctionId, Operate, Stack, Step, Stop, Walk, stop_at, take};
+use operands::Operand;
 use plain::Text;
 use std::alloc::AllocError;
 use std::mem::replace;
@@ -24,16 +25,16 @@ use values::{Broken, Value};
 
 /// A run that goes on: the frame of the function that runs, those of its callers, and the functions that are active.
 #[derive(Drop)]
-pub(crate) struct Running<T> {
-    pub(crate) top: Frame<T>,
-    pub(crate) below: Stack<Frame<T>>,
+pub(crate) struct Running<'a, T> {
+    pub(crate) top: Frame<'a, T>,
+    pub(crate) below: Stack<Frame<'a, T>>,
     pub(crate) active: Active,
 }
 
 /// What an instruction calls, and with which arguments.
 #[derive(Drop)]
 pub(crate) struct Asked<'a> {
-    pub(crate) callee: Callee,
+    pub(crate) callee: Callee<'a>,
     pub(crate) arguments: Arguments<'a>,
 }
 
@@ -41,12 +42,12 @@ pub(crate) struct Asked<'a> {
 /// below
 /// them.
 #[tactic(auto, using(frames::proofs::Popping::pops_popped))]
-fn take_call<'a, W: Operate>(
+fn take_call<'a, W: Operate<'a>>(
     world: &W,
     count: usize,
     names: &'a [Text],
-    values: &mut Stack<Value>,
-    callees: &mut Stack<Callee>,
+    values: &mut Stack<Operand<'a>>,
+    callees: &mut Stack<Callee<'a>>,
 ) -> Result<Option<Asked<'a>>, AllocError>
     ensures { (go : Calling W.State) → IfOk result (λ o. machine.pops (length names.now) []
         values.old
@@ -76,18 +77,18 @@ fn take_call<'a, W: Operate>(
 }
 
 /// The run goes on with what a call came to.
-fn go_on<W: Operate>(
+fn go_on<'a, W: Operate<'a>>(
     _world: &W,
-    called: Called<W::Walk>,
-    r: &mut Running<W::Walk>,
+    called: Called<'a, W::Walk>,
+    r: &mut Running<'a, W::Walk>,
 ) -> Result<Step, Stop>
     ensures { (s : W.State) → Moves W.rest
         (entered W.rest (seen W.rest r.old.top ∷ map (seen W.rest) r.old.below) (ids_seen
-        r.old.active) called s) result
+        r.old.active) called.entry s) result
         r.new s }
 {
     match called {
-        Called::Value(value) => r.top.values.push(value)?,
+        Called::Value(value) => r.top.values.push(Operand::own(value))?,
         Called::Frame(frame) => {
             let caller = replace(&mut r.top, frame);
             r.below.push(caller)?;
@@ -97,14 +98,18 @@ fn go_on<W: Operate>(
 }
 
 /// The innermost function ends with a value, which its caller gets; without a caller the run is over.
-fn leave_with<W: Operate>(_world: &W, value: Value, r: &mut Running<W::Walk>) -> Result<Step, Stop>
+fn leave_with<'a, W: Operate<'a>>(
+    _world: &W,
+    value: Operand<'a>,
+    r: &mut Running<'a, W::Walk>,
+) -> Result<Step, Stop>
     ensures { (s : W.State) → Moves W.rest
-        (machine.returning value (map (seen W.rest) r.old.below) (machine.outer (ids_seen
+        (machine.returning value.entry (map (seen W.rest) r.old.below) (machine.outer (ids_seen
         r.old.active)) s) result r.new s }
 {
     r.active.leave();
     match r.below.pop() {
-        None => Ok(Step::Over(value)),
+        None => Ok(Step::Over(value.into_value()?)),
         Some(caller) => {
             r.top = caller;
             r.top.values.push(value)?;
@@ -114,38 +119,42 @@ fn leave_with<W: Operate>(_world: &W, value: Value, r: &mut Running<W::Walk>) ->
 }
 
 /// Walks end, the first one first.
-fn end_outer<W: Operate>(world: &W, walks: &mut Stack<Walk<W::Walk>>, state: &mut W::State)
+fn end_outer<'a, W: Operate<'a>>(
+    world: &W,
+    walks: &mut Stack<Walk<'a, W::Walk>>,
+    state: &mut W::State,
+)
     ensures { state.new ≡ machine.all_ended (W.operations world.now) (map (walk_seen W.rest)
         walks.old) state.old }
 {
     while let Some(walk) = walks.pop() {
-        world.end(state, &walk.of);
+        world.end(state, walk.of.item());
     }
 }
 
 /// All walks of a frame end, the innermost first.
-fn end_walks<W: Operate>(
+fn end_walks<'a, W: Operate<'a>>(
     world: &W,
-    walk: Option<Walk<W::Walk>>,
-    outer: &mut Stack<Walk<W::Walk>>,
+    walk: Option<Walk<'a, W::Walk>>,
+    outer: &mut Stack<Walk<'a, W::Walk>>,
     state: &mut W::State,
 )
-    ensures { state.new ≡ machine.all_ended (W.operations world.now) (walks_seen W.rest walk
-        outer.old) state.old }
+    ensures { state.new ≡ machine.all_ended (W.operations world.now) (walks_seen W.rest
+        walk.entry outer.old) state.old }
 {
     if let Some(walk) = walk {
-        world.end(state, &walk.of);
+        world.end(state, walk.of.item());
         end_outer(world, outer, state);
     }
 }
 
 /// A call, of what an instruction asks for.
-pub(crate) fn call_asked<W: Operate>(
+pub(crate) fn call_asked<'a, W: Operate<'a>>(
     world: &W,
-    linked: &Linked,
+    linked: &'a Linked,
     line: usize,
-    asked: Asked<'_>,
-    r: &mut Running<W::Walk>,
+    asked: Asked<'a>,
+    r: &mut Running<'a, W::Walk>,
     state: &mut W::State,
 ) -> Result<Step, Stop>
     ensures { Moves W.rest (machine.start (W.operations world.now) (codes_of linked.now)
@@ -173,13 +182,13 @@ pub(crate) fn call_asked<W: Operate>(
 }
 
 /// A call with so many values by position, and those of these names behind them.
-pub(crate) fn call_with<W: Operate>(
+pub(crate) fn call_with<'a, W: Operate<'a>>(
     world: &W,
-    linked: &Linked,
+    linked: &'a Linked,
     line: usize,
     count: usize,
-    names: &[Text],
-    r: &mut Running<W::Walk>,
+    names: &'a [Text],
+    r: &mut Running<'a, W::Walk>,
     state: &mut W::State,
 ) -> Result<Step, Stop>
     requires { r.old.top.place < 2 ^ 63 }
@@ -187,7 +196,8 @@ pub(crate) fn call_with<W: Operate>(
         names.now) r.old state.old
         result r.new state.new }
 {
-    let Some(asked) = take_call(world, count, names, &mut r.top.values, &mut r.top.callees)? else {
+    let top = &mut r.top;
+    let Some(asked) = take_call(world, count, names, &mut top.values, &mut top.callees)? else {
         return Ok(Step::Stuck);
     };
     r.top.place += 1;
@@ -195,10 +205,10 @@ pub(crate) fn call_with<W: Operate>(
 }
 
 /// A function gives the top back, when its walks have ended.
-pub(crate) fn give_back<W: Operate>(
+pub(crate) fn give_back<'a, W: Operate<'a>>(
     world: &W,
     line: usize,
-    r: &mut Running<W::Walk>,
+    r: &mut Running<'a, W::Walk>,
     state: &mut W::State,
 ) -> Result<Step, Stop>
     ensures { (codes : instr.Codes) → Does W.rest (W.operations world.now) codes line
@@ -214,27 +224,27 @@ pub(crate) fn give_back<W: Operate>(
 }
 
 /// To the next turn of the innermost walk; without a walk the function ends.
-pub(crate) fn again<W: Operate>(
+pub(crate) fn again<'a, W: Operate<'a>>(
     world: &W,
     line: usize,
-    r: &mut Running<W::Walk>,
+    r: &mut Running<'a, W::Walk>,
 ) -> Result<Step, Stop>
     ensures { (codes : instr.Codes) (s : W.State) → Does W.rest (W.operations world.now) codes
         line instr.again r.old s result
         r.new s }
 {
     if r.top.walk.is_none() {
-        leave_with(world, world.none(), r)
+        leave_with(world, Operand::own(world.none()), r)
     } else {
         frames::again(world, line, &mut r.top)
     }
 }
 
 /// Out of the innermost walk; without a walk the function ends.
-pub(crate) fn stop_walk<W: Operate>(
+pub(crate) fn stop_walk<'a, W: Operate<'a>>(
     world: &W,
     line: usize,
-    r: &mut Running<W::Walk>,
+    r: &mut Running<'a, W::Walk>,
     state: &mut W::State,
 ) -> Result<Step, Stop>
     ensures { (codes : instr.Codes) → Does W.rest (W.operations world.now) codes line
@@ -242,23 +252,23 @@ pub(crate) fn stop_walk<W: Operate>(
         r.new state.new }
 {
     if r.top.walk.is_none() {
-        leave_with(world, world.none(), r)
+        leave_with(world, Operand::own(world.none()), r)
     } else {
         frames::stop_walk(world, line, &mut r.top, state)
     }
 }
 
 /// The function that a `def` makes, with the name that it has in the linked code.
-fn made<W: Operate>(
+fn made<'a, W: Operate<'a>>(
     world: &W,
-    linked: &Linked,
+    linked: &'a Linked,
     function: FunctionId,
-    defaults: Stack<Value>,
+    defaults: Stack<Operand<'a>>,
     state: &mut W::State,
 ) -> Result<Value, Broken>
     ensures { Says ((W.operations world.now).define (id_seen function) (instr.code_name (codes_of
         linked.now) (id_seen function))
-        defaults state.old) result state.new }
+        defaults.entry state.old) result state.new }
 {
     match linked.function(function) {
         Some(code) => world.define(state, function, code.name(), defaults),
@@ -271,12 +281,12 @@ fn made<W: Operate>(
 
 /// A function is made, with so many defaults.
 #[tactic(auto, using(frames::proofs::Popping::pops_popped))]
-pub(crate) fn define<W: Operate>(
+pub(crate) fn define<'a, W: Operate<'a>>(
     world: &W,
-    linked: &Linked,
+    linked: &'a Linked,
     line: usize,
     defined: Defined,
-    r: &mut Running<W::Walk>,
+    r: &mut Running<'a, W::Walk>,
     state: &mut W::State,
 ) -> Result<Step, Stop>
     requires { r.old.top.place < 2 ^ 63 }
@@ -296,7 +306,7 @@ pub(crate) fn define<W: Operate>(
         Ok(value) => value,
         Err(broken) => return Err(stop_at(broken, r.top.function.file, line)),
     };
-    r.top.values.push(value)?;
+    r.top.values.push(Operand::own(value))?;
     r.top.place += 1;
     Ok(Step::More)
 }

@@ -1,21 +1,26 @@
 //! Names of the top level, and functions.
-ghost use Rattle.std.specs.Prelude.{◌≡◌, Ok, Err, Some, None, MatchResult, option_copied, slice_get, nat_eq, length};
+ghost use Rattle.std.specs.Prelude.{◌≡◌, Ok, Err, Some, None, MatchResult, IfOk, option_copied, slice_get, nat_eq, length};
 ghost use Rattle.values.specs.Ticking.{FaultOr};
 ghost use Rattle.operations.specs.States.{Does, Stays};
 ghost use Rattle.operations.specs.Names.{name_value, set_global, set_loaded, define, in_slot, or_loaded};
 
+use operands::{Bindings, Operand};
 use operations::State;
 use plain::{Shared, Text};
-use std::alloc::Global;
+use std::alloc::{AllocError, Global};
 use values::{Broken, FunctionRef, Items, Leaf, MadeId, Value};
 
-/// The value of a name of the top level, once it is bound.
-pub fn name_value(state: &State, number: usize) -> Option<&Value>
-    ensures { option_copied result ≡ name_value state.now number }
+/// The value of a name of the top level, once it is bound. One that a load binds is lent, and no count is touched.
+///
+/// # Errors
+///
+/// `AllocError` where the count of a global is at its greatest.
+pub fn name_value<'a>(state: &State<'a>, number: usize) -> Result<Option<Operand<'a>>, AllocError>
+    ensures { IfOk result (λ o. o ≡ name_value state.now number) }
 {
     match slot(state.globals.as_slice(), number) {
-        Some(value) => Some(value),
-        None => slot(state.loaded.as_slice(), number),
+        Some(value) => Ok(Some(Operand::own(value.share()?))),
+        None => loaded_value(&state.loaded, number),
     }
 }
 
@@ -29,6 +34,16 @@ fn slot(slots: &[Option<Value>], number: usize) -> Option<&Value>
     }
 }
 
+/// What a name that a load binds holds, once it is bound.
+fn loaded_value<'a>(loaded: &Bindings<'a>, number: usize) -> Result<Option<Operand<'a>>, AllocError>
+    ensures { IfOk result (λ o. o ≡ in_slot (slice_get loaded.now number)) }
+{
+    match loaded.get(number) {
+        Some(Some(value)) => Ok(Some(value.share()?)),
+        _ => Ok(None),
+    }
+}
+
 /// A global of the file that is evaluated gets its value.
 pub fn set_global(state: &mut State, file: u32, number: usize, value: Value)
     ensures { state.new ≡ set_global file number value state.old }
@@ -39,10 +54,10 @@ pub fn set_global(state: &mut State, file: u32, number: usize, value: Value)
 }
 
 /// A name that one of its loads binds gets its value.
-pub fn set_loaded(state: &mut State, file: u32, number: usize, value: Value)
-    ensures { state.new ≡ set_loaded file number value state.old }
+pub fn set_loaded<'a>(state: &mut State<'a>, file: u32, number: usize, value: Operand<'a>)
+    ensures { state.new ≡ set_loaded file number value.entry state.old }
 {
-    if file == state.file && number < state.loaded.as_slice().len() {
+    if file == state.file && number < state.loaded.len() {
         state.loaded.set(number, Some(value));
     }
 }

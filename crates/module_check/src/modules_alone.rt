@@ -7,6 +7,7 @@ use frames::Stop;
 use language::Whole;
 use language_calls::DefaultInfo;
 use machine::{Linked, Start, execute};
+use operands::Bindings;
 use operations::{Defaults, State};
 use places::{NoFiles, NoPlace};
 use plain::Text;
@@ -46,7 +47,12 @@ fn no_defaults(alloc: Global, count: usize) -> Result<Defaults, AllocError> {
 }
 
 /// The state before anything is evaluated.
-fn state(alloc: Global, path: &str, names: usize, functions: usize) -> Result<State, AllocError> {
+fn state<'a>(
+    alloc: Global,
+    path: &str,
+    names: usize,
+    functions: usize,
+) -> Result<State<'a>, AllocError> {
     Ok(State {
         heap: Heap::new(alloc),
         ticks: Ticks::new(LIMIT),
@@ -54,7 +60,7 @@ fn state(alloc: Global, path: &str, names: usize, functions: usize) -> Result<St
         depsets: 0,
         file: 0,
         globals: unbound(alloc, names)?,
-        loaded: unbound(alloc, names)?,
+        loaded: Bindings::unbound(alloc, names)?,
         defaults: no_defaults(alloc, functions)?,
     })
 }

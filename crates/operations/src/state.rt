@@ -1,6 +1,7 @@
 //! The state of an evaluation: all that its operations read and change.
 ghost use Rattle.std.specs.Prelude.{◌≡◌, ◌++◌, ◌∷◌, [], ◌<◌, IfOk, OnOk, OnErr, length, slice_set, option_copied, slice_get};
 
+use operands::Bindings;
 use plain::Text;
 use std::alloc::{AllocError, Global};
 use std::marker::Model;
@@ -9,9 +10,9 @@ use values::{Fields, Heap, Items, Ticks};
 /// What an evaluation holds.
 ///
 /// A name of the top level has a slot by its number, which says in which order the names are bound. A name that a load binds
-/// is no global of the file, and has its value elsewhere, under the same number.
+/// is no global of the file, and has its value elsewhere, under the same number: it lies in the module that was loaded.
 #[derive(Drop)]
-pub struct State {
+pub struct State<'a> {
     /// The cells that names share.
     pub heap: Heap,
     pub ticks: Ticks,
@@ -24,7 +25,7 @@ pub struct State {
     /// The globals of the file, as far as they are bound.
     pub globals: Fields,
     /// The names that its loads bind.
-    pub loaded: Fields,
+    pub loaded: Bindings<'a>,
     /// The defaults of its functions, by the function's number.
     pub defaults: Defaults,
 }

@@ -7,12 +7,13 @@ use plain::Text;
 use std::alloc::AllocError;
 use values::{Item, Value};
 
-/// What is known of the files that are linked. Files and functions are numbers; a number that no file has is none.
-pub trait Link {
+/// What is known of the files that are linked, which live longer than the evaluation: what lies in them is lent. Files and
+/// functions are numbers; a number that no file has is none.
+pub trait Link<'a> {
     ghost linked: { Self → Linked };
 
     /// The value of a name of a file's top level, by the number of the file and that of the name.
-    fn name(&self, file: usize, number: usize) -> Option<Item<'_>>
+    fn name(&self, file: usize, number: usize) -> Option<Item<'a>>
         ensures { option_value result ≡ (linked self.now).names file number };
 
     /// The defaults that a function's `def` kept, by the number of its file and its own.
@@ -25,7 +26,7 @@ pub trait Link {
     /// # Errors
     ///
     /// `AllocError` where memory for the path that the label spells was refused.
-    fn asked(&self, file: usize, label: &Text, name: &Text) -> Result<Option<Item<'_>>, AllocError>
+    fn asked(&self, file: usize, label: &Text, name: &Text) -> Result<Option<Item<'a>>, AllocError>
         ensures { IfOk result
             (λ v. option_value v ≡ (linked self.now).asked file label.now name.now) };
 }

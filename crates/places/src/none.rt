@@ -13,10 +13,10 @@ use values::{Broken, Item, Kind, Leaf, Value};
 #[derive(Clone, Copy)]
 pub struct NoFiles;
 
-impl Link for NoFiles {
+impl<'a> Link<'a> for NoFiles {
     ghost linked = { λ _. no_files };
 
-    fn name(&self, _file: usize, _number: usize) -> Option<Item<'_>> {
+    fn name(&self, _file: usize, _number: usize) -> Option<Item<'a>> {
         None
     }
 
@@ -29,7 +29,7 @@ impl Link for NoFiles {
         _file: usize,
         _label: &Text,
         _name: &Text,
-    ) -> Result<Option<Item<'_>>, AllocError> {
+    ) -> Result<Option<Item<'a>>, AllocError> {
         Ok(None)
     }
 }
@@ -84,7 +84,7 @@ impl Place for NoPlace {
         _alloc: Global,
         _whole: &Whole<()>,
         _target: usize,
-        _provider: &Value,
+        _provider: Item<'_>,
     ) -> Result<Value, Broken> {
         Err(Broken::Kind(Kind::Wrong))
     }
@@ -93,7 +93,7 @@ impl Place for NoPlace {
         &self,
         _whole: &Whole<()>,
         _target: usize,
-        _provider: &Value,
+        _provider: Item<'_>,
     ) -> Result<bool, Broken> {
         Err(Broken::Kind(Kind::Wrong))
     }

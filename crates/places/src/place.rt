@@ -1,5 +1,6 @@
 //! What only one place has.
 ghost use Rattle.std.specs.Prelude.{◌≡◌};
+ghost use Rattle.values.specs.Seeing.{item_value};
 ghost use Rattle.operations.specs.Arguments.{given};
 ghost use Rattle.language.specs.Place.{Place as Having};
 ghost use Rattle.places.specs.Answers.{Says, Reads};
@@ -8,7 +9,7 @@ use language::Whole;
 use operations::Arguments;
 use plain::Text;
 use std::alloc::Global;
-use values::{Broken, Leaf, Value};
+use values::{Broken, Item, Leaf, Value};
 
 /// A module, a `BUILD` file or an implementation: its calls, and what its targets and objects show. Its work is what its
 /// calls change beside the state of the evaluation.
@@ -64,16 +65,16 @@ pub trait Place {
         alloc: Global,
         whole: &Whole<Self::Work>,
         target: usize,
-        provider: &Value,
+        provider: Item<'_>,
     ) -> Result<Value, Broken>
-        ensures { Reads ((place self.now).item target provider.now whole.now) result };
+        ensures { Reads ((place self.now).item target (item_value provider.entry) whole.now) result };
 
     /// `P in t` of the target at a place among the dependencies.
     fn offers(
         &self,
         whole: &Whole<Self::Work>,
         target: usize,
-        provider: &Value,
+        provider: Item<'_>,
     ) -> Result<bool, Broken>
-        ensures { Reads ((place self.now).offers target provider.now whole.now) result };
+        ensures { Reads ((place self.now).offers target (item_value provider.entry) whole.now) result };
 }

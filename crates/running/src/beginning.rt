@@ -5,6 +5,7 @@ ghost use Rattle.running.specs.Given.{first_state};
 
 use crate::setting::{Setting, TopFile};
 use language::Whole;
+use operands::Bindings;
 use operations::{Defaults, State};
 use plain::Text;
 use std::alloc::{AllocError, Global};
@@ -34,14 +35,14 @@ fn no_defaults(alloc: Global, count: usize) -> Result<Defaults, AllocError>
 }
 
 /// The state of a file before anything was done.
-fn first_state(
+fn first_state<'a>(
     alloc: Global,
     limit: u64,
     path: &Text,
     file: u32,
     names: usize,
     functions: usize,
-) -> Result<State, AllocError>
+) -> Result<State<'a>, AllocError>
     ensures { IfOk result (λ s. s ≡ first_state limit path.now file names functions) }
 {
     Ok(State {
@@ -51,17 +52,17 @@ fn first_state(
         depsets: 0,
         file,
         globals: unbound(alloc, names)?,
-        loaded: unbound(alloc, names)?,
+        loaded: Bindings::unbound(alloc, names)?,
         defaults: no_defaults(alloc, functions)?,
     })
 }
 
 /// A file before anything was done, with the work of its place.
-pub(crate) fn first_of_file<L, P, W: Drop>(
+pub(crate) fn first_of_file<'a, L, P, W: Drop>(
     setting: &Setting<'_, L, P>,
     file: &TopFile<'_>,
     work: W,
-) -> Result<Box<Whole<W>>, AllocError>
+) -> Result<Box<Whole<'a, W>>, AllocError>
     ensures { IfOk result (λ b. b.value ≡ record {
       state = first_state setting.now.limit file.now.path.now file.now.number
           (length file.now.names.now) file.now.functions;
@@ -90,12 +91,12 @@ fn number_past(paths: &[Text]) -> Result<u32, AllocError>
 }
 
 /// The state of a target before anything was done.
-fn state_of_target(
+fn state_of_target<'a>(
     alloc: Global,
     limit: u64,
     label: &Label,
     paths: &[Text],
-) -> Result<State, AllocError>
+) -> Result<State<'a>, AllocError>
     ensures { IfOk result (λ s. s ≡ state_of_target limit label.now (length paths.now)) }
 {
     Ok(State {
@@ -105,17 +106,17 @@ fn state_of_target(
         depsets: 0,
         file: number_past(paths)?,
         globals: unbound(alloc, 0)?,
-        loaded: unbound(alloc, 0)?,
+        loaded: Bindings::unbound(alloc, 0)?,
         defaults: Defaults::new(alloc),
     })
 }
 
 /// A target before anything was done, with the work of its place.
-pub(crate) fn first_of_target<L, P, W: Drop>(
+pub(crate) fn first_of_target<'a, L, P, W: Drop>(
     setting: &Setting<'_, L, P>,
     label: &Label,
     work: W,
-) -> Result<Box<Whole<W>>, AllocError>
+) -> Result<Box<Whole<'a, W>>, AllocError>
     ensures { IfOk result (λ b. b.value ≡ record {
       state = state_of_target setting.now.limit label.now (length setting.now.paths.now);
       work = work;

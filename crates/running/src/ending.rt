@@ -19,11 +19,11 @@ use values::Kind;
 pub fn end_run(
     alloc: Global,
     file: &TopFile<'_>,
-    state: State,
+    state: State<'_>,
     made: Made,
 ) -> Result<Result<Module, Ending<Kind>>, AllocError>
     ensures { IfOk result (λ r. r ≡ module_ended file.now.path.now file.now.number
-        file.now.names.now state made) }
+        file.now.names.now state.entry made) }
 {
     let names = file.names.share()?;
     let mut state = state;

@@ -18,6 +18,7 @@ use frames::{FunctionId, Stack};
 use language::Whole;
 use loading::Placed;
 use machine::{Arguments, Start};
+use operands::Operand;
 use places::{Link, Place};
 use std::alloc::{AllocError, Global};
 use values::{Kind, Leaf, MadeId, Object, Value};
@@ -38,7 +39,7 @@ fn with_context(alloc: Global) -> Result<Arguments<'static>, AllocError>
     ensures { IfOk result (λ a. arguments_seen a ≡ context_alone) }
 {
     let mut items = Stack::new(alloc);
-    items.push(Value::Leaf(Leaf::Object(Object::Context)))?;
+    items.push(Operand::own(Value::Leaf(Leaf::Object(Object::Context))))?;
     Ok(Arguments {
         items,
         names: &[],
@@ -47,10 +48,10 @@ fn with_context(alloc: Global) -> Result<Arguments<'static>, AllocError>
 }
 
 /// Calls a function with `ctx` alone, at the line of its `def`.
-fn call<L: Link, P: Place>(
-    setting: &Setting<'_, L, P>,
+fn call<'a, L: Link<'a>, P: Place>(
+    setting: &Setting<'a, L, P>,
     id: MadeId,
-    whole: &mut Whole<P::Work>,
+    whole: &mut Whole<'a, P::Work>,
 ) -> Result<Result<Value, Placed<Kind>>, AllocError>
     ensures { (files : Files) → codes_of setting.now.codes.now ≡ code_of files
         → (let meant = ran setting.now.paths.now (function_meaning
@@ -68,12 +69,12 @@ fn call<L: Link, P: Place>(
 /// # Errors
 ///
 /// `AllocError` where memory was refused.
-pub fn call_implementation<L: Link, P: Place>(
-    setting: &Setting<'_, L, P>,
+pub fn call_implementation<'a, L: Link<'a>, P: Place>(
+    setting: &Setting<'a, L, P>,
     label: &Label,
     id: MadeId,
     work: P::Work,
-) -> Result<Result<(Value, Box<Whole<P::Work>>), Placed<Kind>>, AllocError>
+) -> Result<Result<(Value, Box<Whole<'a, P::Work>>), Placed<Kind>>, AllocError>
 where
     P::Work: Drop,
     ensures { (files : Files) → codes_of setting.now.codes.now ≡ code_of files
@@ -88,7 +89,7 @@ where
         IfOk result (λ r. MatchResult r (λ c. meant ≡ Ok (c.0, c.1.value))
         (λ p. meant ≡ Err p))) }
 {
-    let mut whole = first_of_target(setting, label, work)?;
+    let mut whole: Box<Whole<'a, P::Work>> = first_of_target(setting, label, work)?;
     match call(setting, id, &mut whole)? {
         Ok(value) => Ok(Ok((value, whole))),
         Err(placed) => Ok(Err(placed)),

@@ -47,10 +47,10 @@ fn by_path(alloc: Global, paths: &[Text], fault: Fault) -> Result<Placed<Kind>, 
 }
 
 /// Runs what starts there, in a state.
-pub(crate) fn run<L: Link, P: Place>(
-    setting: &Setting<'_, L, P>,
-    start: Start<'_>,
-    whole: &mut Whole<P::Work>,
+pub(crate) fn run<'a, L: Link<'a>, P: Place>(
+    setting: &Setting<'a, L, P>,
+    start: Start<'a>,
+    whole: &mut Whole<'a, P::Work>,
 ) -> Result<Result<Value, Placed<Kind>>, AllocError>
     ensures { (files : Files) → codes_of setting.now.codes.now ≡ code_of files
         → (let meant = ran setting.now.paths.now (meaning_of
@@ -76,11 +76,11 @@ pub(crate) fn run<L: Link, P: Place>(
 /// # Errors
 ///
 /// `AllocError` where memory was refused.
-pub fn run_top<L: Link, P: Place>(
-    setting: &Setting<'_, L, P>,
+pub fn run_top<'a, L: Link<'a>, P: Place>(
+    setting: &Setting<'a, L, P>,
     file: &TopFile<'_>,
     work: P::Work,
-) -> Result<Result<Box<Whole<P::Work>>, Placed<Kind>>, AllocError>
+) -> Result<Result<Box<Whole<'a, P::Work>>, Placed<Kind>>, AllocError>
 where
     P::Work: Drop,
     ensures { (files : Files) → codes_of setting.now.codes.now ≡ code_of files
@@ -95,7 +95,7 @@ where
         })) in
         IfOk result (λ r. MatchResult r (λ b. meant ≡ Ok b.value) (λ p. meant ≡ Err p))) }
 {
-    let mut whole = first_of_file(setting, file, work)?;
+    let mut whole: Box<Whole<'a, P::Work>> = first_of_file(setting, file, work)?;
     match run(setting, Start::TopLevel(file.number as usize), &mut whole)? {
         Ok(_) => Ok(Ok(whole)),
         Err(placed) => Ok(Err(placed)),

@@ -1,6 +1,7 @@
 //! New lists, tuples and dicts, and what comprehensions and displays put into them.
 ghost use Rattle.std.specs.Prelude.{◌≡◌, Ok, Err, MatchResult};
 ghost use Rattle.values.specs.Ticking.{FaultOr};
+ghost use Rattle.values.specs.Shape.{shape};
 ghost use Rattle.values.specs.Seeing.{seen, table_entries, option_value};
 ghost use Rattle.values.specs.Keyed.{has_key};
 ghost use Rattle.operations.specs.Reading.{key_in, of_type};
@@ -10,7 +11,7 @@ ghost use Rattle.operations.specs.Making.{new_list, new_tuple, new_dict, placed,
 use crate::changes::set_key;
 use operations::{Made, State};
 use std::alloc::Global;
-use values::{Broken, Entries, Items, Kind, Seen, Value};
+use values::{Broken, Entries, Heap, Items, Kind, Seen, Value};
 
 /// A new list of these items, or `large`.
 pub fn new_list(state: &mut State, items: Items) -> Result<Value, Broken>
@@ -76,10 +77,18 @@ pub fn keep(state: &mut State, dict: &Value, key: &Value, value: Value) -> Resul
 pub fn enter(state: &mut State, dict: &Value, key: &Value, value: Value) -> Result<(), Broken>
     ensures { Does (enter dict.now key.now value) state.old result state.new }
 {
-    if has_key(&state.heap.see(dict), &state.heap.see(key)) {
+    if holds(&state.heap, dict, key) {
         return Err(Broken::Kind(Kind::Key));
     }
     set_key(state, dict, key, value)
+}
+
+/// Whether a value is a dict that has the key.
+fn holds(heap: &Heap, dict: &Value, key: &Value) -> bool
+    ensures { result ≡ is_held (entries_in (shape heap.now dict.now))
+        (key_in (shape heap.now key.now)) }
+{
+    has_key(&heap.see(dict), &heap.see(key))
 }
 
 /// Whether a dict has the key that a value is.

@@ -26,14 +26,21 @@ use values::{Broken, Group, Heap, Item, Items, Key, Kind, Seen, Value};
 /// # Errors
 ///
 /// `type` for all else; then `overflow` or `large`.
-pub fn plus(alloc: Global, state: &mut State, a: &Value, b: &Value) -> Result<Value, Broken>
-    ensures { Does (plus a.now b.now) state.old result state.new }
+pub fn plus(alloc: Global, state: &mut State, a: Item<'_>, b: Item<'_>) -> Result<Value, Broken>
+    ensures { Does (plus (item_value a.entry) (item_value b.entry)) state.old result state.new }
 {
-    let made = match added(alloc, &state.heap.see(a), &state.heap.see(b)) {
-        Ok(made) => made,
-        Err(broken) => return Err(broken),
-    };
-    place(state, made)
+    match added_in(alloc, &state.heap, a, b) {
+        Ok(made) => place(state, made),
+        Err(broken) => Err(broken),
+    }
+}
+
+/// What two values of a heap add up to.
+fn added_in(alloc: Global, heap: &Heap, a: Item<'_>, b: Item<'_>) -> Result<Made, Broken>
+    ensures { Gives (added (shape heap.now (item_value a.entry))
+        (shape heap.now (item_value b.entry))) result }
+{
+    added(alloc, &heap.see_item(a), &heap.see_item(b))
 }
 
 /// What two values add up to.
@@ -105,12 +112,17 @@ fn both(alloc: Global, xs: Group<'_>, ys: Group<'_>) -> Result<Items, AllocError
 }
 
 /// `x += y`: a list is extended in place by a list or a tuple, and is given itself; all else is `x + y`.
-pub fn add_in_place(alloc: Global, state: &mut State, x: Value, y: &Value) -> Result<Value, Broken>
-    ensures { Does (add_in_place x y.now) state.old result state.new }
+pub fn add_in_place(
+    alloc: Global,
+    state: &mut State,
+    x: Value,
+    y: Item<'_>,
+) -> Result<Value, Broken>
+    ensures { Does (add_in_place x (item_value y.entry)) state.old result state.new }
 {
     match extension_in(alloc, &state.heap, &x, y)? {
         Some(items) => extended(state, x, items),
-        None => plus(alloc, state, &x, y),
+        None => plus(alloc, state, Item::Value(&x), y),
     }
 }
 
@@ -119,11 +131,12 @@ fn extension_in(
     alloc: Global,
     heap: &Heap,
     x: &Value,
-    y: &Value,
+    y: Item<'_>,
 ) -> Result<Option<Items>, AllocError>
-    ensures { IfOk result (λ r. r ≡ extension (shape heap.now x.now) (shape heap.now y.now)) }
+    ensures { IfOk result (λ r. r
+        ≡ extension (shape heap.now x.now) (shape heap.now (item_value y.entry))) }
 {
-    extension(alloc, &heap.see(x), &heap.see(y))
+    extension(alloc, &heap.see(x), &heap.see_item(y))
 }
 
 /// What a list is extended by: the items of a list or of a tuple.

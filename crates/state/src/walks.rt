@@ -2,7 +2,7 @@
 ghost use Rattle.std.specs.Prelude.{◌≡◌, Ok, Err, MatchResult, MatchOption, slice_get, map, Some, None, length, ◌≤◌};
 ghost use Rattle.values.specs.Ticking.{FaultOr, ticked};
 ghost use Rattle.values.specs.Shape.{shape};
-ghost use Rattle.values.specs.Seeing.{seen, option_value, group_items, table_entries};
+ghost use Rattle.values.specs.Seeing.{seen, item_value, option_value, group_items, table_entries};
 ghost use Rattle.values.specs.Visits.{keys_of};
 ghost use Rattle.operations.specs.States.{Does, Stays, tick};
 ghost use Rattle.operations.specs.Walks.{begin, ended, walked_items};
@@ -67,11 +67,11 @@ fn key_at<'a>(entries: Table<'a>, place: usize) -> Option<Item<'a>>
 }
 
 /// A walk ends with its loop.
-pub fn end(state: &mut State, walked: &Value)
-    ensures { state.new ≡ ended walked.now state.old }
+pub fn end(state: &mut State, walked: Item<'_>)
+    ensures { state.new ≡ ended (item_value walked.entry) state.old }
 {
     match walked {
-        Value::Cell(number) => state.heap.end_walk(Some(*number)),
+        Item::Value(Value::Cell(number)) => state.heap.end_walk(Some(*number)),
         _ => {}
     }
 }

@@ -1,4 +1,5 @@
 //! For tests: a state of an evaluation that has seen nothing yet, and the texts of its values.
+use operands::Bindings;
 use plain::Text;
 use printing::repr;
 use state::{Defaults, State};
@@ -6,7 +7,7 @@ use std::alloc::{AllocError, Global};
 use values::{Broken, Fields, Heap, Item, Key, Ticks, Value};
 
 /// A state of a module that may use 1,000 ticks.
-pub fn fresh(alloc: Global) -> Result<Box<State>, AllocError> {
+pub fn fresh(alloc: Global) -> Result<Box<State<'static>>, AllocError> {
     let state = State {
         heap: Heap::new(alloc),
         ticks: Ticks::new(1000),
@@ -14,7 +15,7 @@ pub fn fresh(alloc: Global) -> Result<Box<State>, AllocError> {
         depsets: 0,
         file: 0,
         globals: Fields::with_capacity(alloc, 0)?,
-        loaded: Fields::with_capacity(alloc, 0)?,
+        loaded: Bindings::unbound(alloc, 0)?,
         defaults: Defaults::new(alloc),
     };
     Ok(Box::new(alloc, state)?)

@@ -1,6 +1,6 @@
 //! The instances of providers that targets offer.
 ghost use Rattle.std.specs.Prelude.{◌≡◌, Ok, Err, Some, None, MatchResult, IfOk, option_map, option_copied};
-ghost use Rattle.values.specs.Seeing.{seen};
+ghost use Rattle.values.specs.Seeing.{seen, item_value};
 ghost use Rattle.values.specs.Shape.{shape, value_of};
 ghost use Rattle.values.specs.Ticking.{FaultOr};
 ghost use Rattle.operations.specs.Instances.{default_info};
@@ -15,7 +15,7 @@ use depsets::{Depset, Element, FileRef, Id, Order};
 use plain::Shared;
 use std::alloc::{AllocError, Global};
 use targets::Outcome;
-use values::{Branch, Broken, Frozen, Heap, Kind, Leaf, Provider, Seen, Value};
+use values::{Branch, Broken, Frozen, Heap, Item, Kind, Leaf, Provider, Seen, Value};
 
 /// The instance of a provider that the target at a place offers.
 ///
@@ -27,11 +27,11 @@ pub fn item(
     heap: &Heap,
     dependencies: &Dependencies<'_>,
     place: usize,
-    provider: &Value,
+    provider: Item<'_>,
 ) -> Result<Value, Broken>
-    ensures { Gives (item dependencies.now heap.now place provider.now) result }
+    ensures { Gives (item dependencies.now heap.now place (item_value provider.entry)) result }
 {
-    let Some(provider) = provider_of(&heap.see(provider)) else {
+    let Some(provider) = provider_of(&heap.see_item(provider)) else {
         return Err(Broken::Kind(Kind::Wrong));
     };
     let Some(dependency) = dependencies.at(place) else {
@@ -52,11 +52,11 @@ pub fn offers(
     heap: &Heap,
     dependencies: &Dependencies<'_>,
     place: usize,
-    provider: &Value,
+    provider: Item<'_>,
 ) -> Result<bool, Broken>
-    ensures { Gives (offers dependencies.now heap.now place provider.now) result }
+    ensures { Gives (offers dependencies.now heap.now place (item_value provider.entry)) result }
 {
-    let Some(provider) = provider_of(&heap.see(provider)) else {
+    let Some(provider) = provider_of(&heap.see_item(provider)) else {
         return Err(Broken::Kind(Kind::Wrong));
     };
     match dependencies.at(place) {

@@ -31,8 +31,8 @@ use values::{FunctionRef, Kind, Provider};
 use workspace::Label;
 
 /// Calls a function with `ctx` alone, in a place where nothing was done.
-fn call<L: Link>(
-    setting: &Setting<'_, L, ImplementationPlace<'_>>,
+fn call<'a, L: Link<'a>>(
+    setting: &Setting<'a, L, ImplementationPlace<'_>>,
     label: &Label,
     function: &FunctionRef,
 ) -> Result<Result<Implemented, Placed<Kind>>, AllocError>

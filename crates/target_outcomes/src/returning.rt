@@ -31,7 +31,7 @@ pub(crate) struct Implemented {
 }
 
 /// What the call of a function returned, and the state after it with the work of its place.
-pub(crate) type Returned = (Value, Box<Whole<Work>>);
+pub(crate) type Returned<'a> = (Value, Box<Whole<'a, Work>>);
 
 /// The path of the file of a number; a number that no file has stands for the empty text.
 fn path_at(alloc: Global, paths: &[Text], file: usize) -> Result<Text, AllocError>
@@ -81,11 +81,13 @@ fn at_def(
 }
 
 /// The tree of the value that an implementation returned.
-fn frozen(alloc: Global, value: &Value, state: State) -> Result<Frozen, Broken>
-    ensures { let meant = freeze_at VISITED_LEVELS state.heap value.now state.ticks in
+fn frozen(alloc: Global, value: &Value, state: State<'_>) -> Result<Frozen, Broken>
+    ensures { let s = state.entry in
+        let meant = freeze_at VISITED_LEVELS s.heap value.now s.ticks in
         MatchResult result (λ t. (c : Count) × (meant ≡ Ok (t, c))) (λ e. FaultOr meant e) }
 {
     let mut state = state;
+    let state = &mut state;
     freeze(alloc, Item::Value(value), &state.heap, &mut state.ticks)
 }
 
@@ -95,12 +97,12 @@ pub(crate) fn returned(
     codes: &Linked,
     paths: &[Text],
     function: &FunctionRef,
-    called: Returned,
+    called: Returned<'_>,
 ) -> Result<Result<Implemented, Placed<Kind>>, AllocError>
     ensures { (limit : ℕ) (files : Files) → codes_of codes.now ≡ code_of files
         → IfOk result (Implements (implemented_with limit files paths.now target_world function.now
-        called.1.value.work (freeze_at VISITED_LEVELS called.1.value.state.heap called.0
-        called.1.value.state.ticks))) }
+        called.entry.1.value.work (freeze_at VISITED_LEVELS called.entry.1.value.state.heap
+        called.entry.0 called.entry.1.value.state.ticks))) }
 {
     let (value, whole) = called;
     let Whole { state, work } = Box::into_inner(whole);

@@ -21,7 +21,7 @@ returns-in-Ok-Frame g c =
     ∙ (c.in-Ok-Frame.ensures [] ∙ (ap (λ q. entered g.W.Operate.rest [] (ids_seen c.call.new.active) q c.call.new.state) c.in-Ok-Frame.field-0-is
     ∙ sym (ap (λ r. more (config_of g.W.Operate.rest r c.call.new.state)) c.alone.ensures)))
 
-pub returns-in-Err : goal.returns-in-Err
-returns-in-Err g c =
+pub returns : goal.returns
+returns g c =
     subst (λ xs. Stops (start (g.W.Operate.operations c.args.world.now) (codes_of c.args.linked.now) (here_at c.args.place (ids_seen xs))
     (callee_seen c.args.callee.now) (arguments_seen c.args.arguments) [] c.args.state.now) c.in-Err.stop) c.new-active.ensures (c.in-Err.ensures [])

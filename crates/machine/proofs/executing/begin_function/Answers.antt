@@ -20,8 +20,8 @@ returns-in-Ok g c =
     ∙ (ap (λ xs. starts ops codes (here_at (record { file = c.args.function.file; line = c.in-Some.line }) (ids_seen xs)) f a [] c.args.state.now (code_at codes f)) (sym c.new-active.ensures)
     ∙ (c.in-Ok.ensures [] ∙ sym (ap (λ r. more (config_of g.W.Operate.rest r c.call_function.new.state)) c.alone.ensures)))
 
-pub returns-in-Err : goal.returns-in-Err
-returns-in-Err g c =
+pub returns : goal.returns
+returns g c =
     let ops = g.W.Operate.operations c.args.world.now in
     let codes = codes_of c.args.linked.now in
     let f = id_seen c.args.function in

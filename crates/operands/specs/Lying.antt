@@ -1,0 +1,16 @@
+-- Operands, as the values that they are: of one's own, or lent by what lives longer.
+use Rattle.values.specs.declared.value.Value.{Value}
+use Rattle.values.specs.Seeing.{item_value}
+use Rattle.operands.specs.declared.operand.Lies.{Lies}
+use Rattle.operands.specs.declared.operand.Lies.TheVariants as lies
+use Rattle.operands.specs.declared.near.Near.{Near}
+use Rattle.operands.specs.declared.near.Near.TheVariants as near
+
+-- where an operand lies doesn't matter to a contract
+abbrev pub lying : Lies → Value
+lying (lies.Own v) = v
+lying (lies.Lent i) = item_value i
+
+abbrev pub near_value : Near → Value
+near_value (near.Here v) = v.now
+near_value (near.Made v) = v

@@ -1,0 +1,89 @@
+//! What names hold, by number.
+ghost use Rattle.std.specs.Prelude.{◌≡◌, ◌<◌, None, IfOk, length, replicate, slice_get, slice_set, option_copied};
+
+use crate::Operand;
+use std::alloc::{AllocError, Global};
+use std::marker::Model;
+use values::{Fields, Value};
+
+/// What each name holds, by its number: None where the name isn't bound.
+#[derive(Drop)]
+pub struct Bindings<'a> {
+    names: Vec<Option<Operand<'a>>>,
+}
+
+impl<'a> Model for Bindings<'a> {
+    ghost use Rattle.std.specs.Prelude.{List, Option};
+    ghost use Rattle.values.specs.declared.value.Value.{Value as Held};
+    ghost use Rattle.values.specs.ValueCodes.{fields_code};
+
+    ghost Value = { List (Option Held) };
+
+    ghost coded = { fields_code };
+
+    ghost view = { λ b. b.names.items };
+}
+
+impl<'a> Bindings<'a> {
+    /// So many names, none of which is bound.
+    ///
+    /// # Errors
+    ///
+    /// Memory was refused.
+    pub fn unbound(alloc: Global, count: usize) -> Result<Bindings<'a>, AllocError>
+        ensures { IfOk result (λ b. b ≡ replicate count None) }
+    {
+        let mut names = Vec::with_capacity(alloc, count)?;
+        for _ in 0..count {
+            names.push(None)?;
+        }
+        Ok(Bindings { names })
+    }
+
+    /// How many names there are.
+    pub fn len(&self) -> usize
+        ensures { result ≡ length self.now }
+    {
+        self.names.len()
+    }
+
+    /// What a name holds, if there is a name of this number.
+    pub fn get(&self, number: usize) -> Option<&Option<Operand<'a>>>
+        ensures { option_copied result ≡ slice_get self.now number }
+    {
+        self.names.get(number)
+    }
+
+    /// A name holds a value from now on, or nothing.
+    pub fn set(&mut self, number: usize, value: Option<Operand<'a>>)
+        requires { number < length self.old }
+        ensures { self.new ≡ slice_set self.old number value.entry }
+    {
+        self.names[number] = value;
+    }
+
+    /// What the names hold, for what keeps it.
+    ///
+    /// # Errors
+    ///
+    /// Memory was refused.
+    pub fn to_fields(&self, alloc: Global) -> Result<Fields, AllocError>
+        ensures { IfOk result (λ f. f ≡ self.now) }
+    {
+        let mut fields = Fields::with_capacity(alloc, self.names.len())?;
+        for name in self.names.as_slice() {
+            fields.push(kept(name)?)?;
+        }
+        Ok(fields)
+    }
+}
+
+/// What a name holds, for what keeps it.
+fn kept(name: &Option<Operand<'_>>) -> Result<Option<Value>, AllocError>
+    ensures { IfOk result (λ v. v ≡ name.now) }
+{
+    match name {
+        Some(value) => Ok(Some(value.item().to_value()?)),
+        None => Ok(None),
+    }
+}
