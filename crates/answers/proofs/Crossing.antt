@@ -17,7 +17,9 @@ use Rattle.evaluation.proofs.names.TopNames.TheSendSync as names
 use Rattle.modules.proofs.loaded.Modules.TheSendSync as modules
 use Rattle.modules.proofs.sorting.FileFault.TheSendSync as failing
 use Rattle.plain.proofs.text.Text.TheSendSync as text
-use Rattle.loader.proofs.evaluating.Evaluator.TheSendSync as evaluator
+use Rattle.language_calls.specs.contracts.bound.DefaultInfo as DefaultInfo
+use Rattle.sources.proofs.sources.Sources.TheSendSync as sources
+use Rattle.loader.specs.contracts.evaluating.Evaluator as Evaluator
 use Rattle.loader.specs.contracts.loaded.LoadedFiles as LoadedFiles
 use Rattle.packages.proofs.kept.Package.TheSendSync as declaring
 use Rattle.packages.specs.contracts.all_targets.Targets as Targets
@@ -52,8 +54,14 @@ module_sync = search (globals_sync, fields_sync, defaults_sync, made.the_field_s
 
 -- ---- a workspace
 
+pub default_info_sync : IsSync (DefaultInfo.the_field).row
+default_info_sync = search (value_sync, std.crosses, sendable) depth 60 fits 20000
+
+pub evaluator_sync : IsSync (Evaluator.the_field).row
+evaluator_sync = search (default_info_sync, sources.the_sync, std.crosses, sendable) depth 60 fits 20000
+
 pub loaded_sync : IsSync LoadedFiles.the_row
-loaded_sync = search (module_sync, modules.the_sync, evaluator.the_field_sync, std.crosses, sendable) depth 60 fits 20000
+loaded_sync = search (module_sync, modules.the_sync, evaluator_sync, std.crosses, sendable) depth 60 fits 20000
 
 pub targets_sync : IsSync Targets.the_row
 targets_sync = search (loaded_sync, declaring.the_field_sync, failing.the_field_sync, text.the_sync, std.crosses, sendable) depth 60 fits 20000

@@ -9,62 +9,87 @@ ghost use Rattle.operations.specs.Making.{entries_in, none};
 ghost use Rattle.operations.specs.Items.{got};
 ghost use Rattle.operations.specs.Methods.{get, keys, values};
 
+use operands::Operand;
 use operations::State;
 use state::{key_of, new_list};
 use std::alloc::{AllocError, Global};
 use values::{Broken, Heap, Item, Items, Key, Kind, Leaf, Seen, Table, Value};
 
-/// `dict.get(key, default)`: the value of the key, or the default, which is None where it is missing.
+/// `dict.get(key, default)`: the value of the key, or the default, which is None where it is missing. The value of a key of
+/// a dict that is lent is lent.
 ///
 /// # Errors
 ///
 /// `arity`; `type`, where the key can't be one.
-pub fn get(state: &State, dict: Item<'_>, arguments: &[Value]) -> Result<Value, Broken>
-    ensures { Does (get (entries_in (shape state.now.heap (item_value dict.entry))) arguments.now) state.now result
+pub fn get<'a>(
+    state: &State<'_>,
+    dict: &Operand<'a>,
+    arguments: &[Value],
+) -> Result<Operand<'a>, Broken>
+    ensures { Does (get (entries_in (shape state.now.heap dict.now)) arguments.now) state.now result
         state.now }
 {
     match arguments {
         [] => Err(Broken::Kind(Kind::Arity)),
         [key] => got_or_none(&state.heap, dict, key),
-        [key, default] => got(&state.heap, dict, Item::Value(default), key),
+        [key, default] => got(&state.heap, dict, default, key),
         [_, _, _, ..] => Err(Broken::Kind(Kind::Arity)),
     }
 }
 
 /// The value of a key, or None.
-fn got_or_none(heap: &Heap, dict: Item<'_>, key: &Value) -> Result<Value, Broken>
-    ensures { Gives (got (entries_in (shape heap.now (item_value dict.entry))) none (shape heap.now key.now))
+fn got_or_none<'a>(heap: &Heap, dict: &Operand<'a>, key: &Value) -> Result<Operand<'a>, Broken>
+    ensures { Gives (got (entries_in (shape heap.now dict.now)) none (shape heap.now key.now))
         result }
 {
     let none = Value::Leaf(Leaf::None);
-    got(heap, dict, Item::Value(&none), key)
+    got(heap, dict, &none, key)
 }
 
 /// The value of a key, or another.
-fn got(heap: &Heap, dict: Item<'_>, default: Item<'_>, key: &Value) -> Result<Value, Broken>
-    ensures { Gives (got (entries_in (shape heap.now (item_value dict.entry))) (item_value default.entry)
+fn got<'a>(
+    heap: &Heap,
+    dict: &Operand<'a>,
+    default: &Value,
+    key: &Value,
+) -> Result<Operand<'a>, Broken>
+    ensures { Gives (got (entries_in (shape heap.now dict.now)) default.now
         (shape heap.now key.now)) result }
 {
-    match heap.see_item(dict) {
-        Seen::Dict(entries) => state::get(entries, default, &heap.see(key)),
-        _ => without_entries(default, &heap.see(key)),
+    let key = heap.see(key);
+    if let Some(dict) = dict.lent_seen() {
+        return got_in(&dict, default, &key);
+    }
+    match got_in(&heap.see_item(dict.item()), default, &key) {
+        Ok(value) => Ok(value.into_own()?),
+        Err(broken) => Err(broken),
+    }
+}
+
+/// The value of a key of what a dict shows, or another.
+fn got_in<'a>(dict: &Seen<'a>, default: &Value, key: &Seen<'_>) -> Result<Operand<'a>, Broken>
+    ensures { Gives (got (entries_in (seen dict.now)) default.now (seen key.now)) result }
+{
+    match dict {
+        Seen::Dict(entries) => state::get(*entries, default, key),
+        _ => without_entries(default, key),
     }
 }
 
 /// The default, where there are no entries.
-fn without_entries(default: Item<'_>, key: &Seen<'_>) -> Result<Value, Broken>
-    ensures { Gives (got [] (item_value default.entry) (seen key.now)) result }
+fn without_entries<'a>(default: &Value, key: &Seen<'_>) -> Result<Operand<'a>, Broken>
+    ensures { Gives (got [] default.now (seen key.now)) result }
 {
     if key_of(key).is_none() {
         return Err(Broken::Kind(Kind::Wrong));
     }
-    let value = default.to_value()?;
-    Ok(value)
+    Ok(Operand::own(default.share()?))
 }
 
 /// `dict.keys()`: a new list.
 pub fn keys(alloc: Global, state: &mut State, dict: Item<'_>) -> Result<Value, Broken>
-    ensures { Does (keys (entries_in (shape state.old.heap (item_value dict.entry)))) state.old result state.new }
+    ensures { Does (keys (entries_in (shape state.old.heap (item_value dict.entry)))) state.old
+        result state.new }
 {
     let items = keys_in(alloc, &state.heap.see_item(dict))?;
     new_list(state, items)
@@ -104,8 +129,8 @@ fn put_key(key: &Key, items: &mut Items) -> Result<(), AllocError>
 
 /// `dict.values()`: a new list.
 pub fn values(alloc: Global, state: &mut State, dict: Item<'_>) -> Result<Value, Broken>
-    ensures { Does (values (entries_in (shape state.old.heap (item_value dict.entry)))) state.old result
-        state.new }
+    ensures { Does (values (entries_in (shape state.old.heap (item_value dict.entry)))) state.old
+        result state.new }
 {
     let items = values_in(alloc, &state.heap.see_item(dict))?;
     new_list(state, items)

@@ -62,8 +62,8 @@ fn call_str(alloc: Global, state: &mut State, arguments: &Arguments<'_>) -> Resu
 }
 
 fn call_list(alloc: Global, state: &mut State, arguments: &Arguments<'_>) -> Result<Value, Broken>
-    ensures { Does (with_argument (argument (codes "x") (given arguments.now)) list) state.old result
-        state.new }
+    ensures { Does (with_argument (argument (codes "x") (given arguments.now)) list) state.old
+        result state.new }
 {
     match argument("x", arguments) {
         Ok(value) => list(alloc, state, value),
@@ -127,7 +127,8 @@ fn call_default_info(
     provider: &Shared<Provider>,
     arguments: &Arguments<'_>,
 ) -> Result<Value, Broken>
-    ensures { Does (new_default_info provider.now (given arguments.now)) state.old result state.new }
+    ensures { Does (new_default_info provider.now (given arguments.now)) state.old result
+        state.new }
 {
     let parameters = [Parameter::named_only("files")];
     if let Err(broken) = check_arguments(&parameters, arguments) {

@@ -17,25 +17,25 @@ use crate::arguments::{only, positions};
 use crate::dicts::{get, keys, values};
 use crate::pairs::items;
 use crate::receivers::{depset_of, string_of};
-use operands::as_value;
+use operands::{Operand, as_value, owned};
 use operations::{Arguments, Method, State};
 use std::alloc::Global;
 use text_calls::{ends_with, join, split, starts_with};
 use values::{Broken, Item, Kind, Value};
 
-/// The call of a method of a list, a dict, a string or a depset.
+/// The call of a method of a list, a dict, a string or a depset. What `get` finds in a dict that is lent is lent.
 ///
 /// # Errors
 ///
 /// `arity` before all else.
-pub fn call_method(
+pub fn call_method<'a>(
     alloc: Global,
-    state: &mut State,
+    state: &mut State<'_>,
     method: Method,
-    receiver: Item<'_>,
+    receiver: &Operand<'a>,
     arguments: &Arguments<'_>,
-) -> Result<Value, Broken>
-    ensures { Does (method_call method (item_value receiver.entry) (given arguments.now)) state.old result
+) -> Result<Operand<'a>, Broken>
+    ensures { Does (method_call method receiver.now (given arguments.now)) state.old result
         state.new }
 {
     match positions(arguments) {
@@ -45,32 +45,34 @@ pub fn call_method(
 }
 
 /// The same, of positions alone.
-fn method_of(
+fn method_of<'a>(
     alloc: Global,
-    state: &mut State,
+    state: &mut State<'_>,
     method: Method,
-    receiver: Item<'_>,
+    receiver: &Operand<'a>,
     items: &[Value],
-) -> Result<Value, Broken>
-    ensures { Does (method_of method (item_value receiver.entry) items.now) state.old result state.new }
+) -> Result<Operand<'a>, Broken>
+    ensures { Does (method_of method receiver.now items.now) state.old result state.new }
 {
+    let of = receiver.item();
     match method {
-        Method::Append => append_one(state, receiver, items),
-        Method::Extend => extend_one(alloc, state, receiver, items),
+        Method::Append => owned(append_one(state, of, items)),
+        Method::Extend => owned(extend_one(alloc, state, of, items)),
         Method::Get => get(state, receiver, items),
-        Method::Keys => keys_of(alloc, state, receiver, items),
-        Method::Values => values_of(alloc, state, receiver, items),
-        Method::Items => pairs_of(alloc, state, receiver, items),
-        Method::Join => join_one(alloc, state, receiver, items),
-        Method::Split => split_one(alloc, state, receiver, items),
-        Method::StartsWith => starts_with_one(state, receiver, items),
-        Method::EndsWith => ends_with_one(state, receiver, items),
-        Method::ToList => list_of(alloc, state, receiver, items),
+        Method::Keys => owned(keys_of(alloc, state, of, items)),
+        Method::Values => owned(values_of(alloc, state, of, items)),
+        Method::Items => owned(pairs_of(alloc, state, of, items)),
+        Method::Join => owned(join_one(alloc, state, of, items)),
+        Method::Split => owned(split_one(alloc, state, of, items)),
+        Method::StartsWith => owned(starts_with_one(state, of, items)),
+        Method::EndsWith => owned(ends_with_one(state, of, items)),
+        Method::ToList => owned(list_of(alloc, state, of, items)),
     }
 }
 
 fn append_one(state: &mut State, list: Item<'_>, items: &[Value]) -> Result<Value, Broken>
-    ensures { Does (with_one (append (item_value list.entry)) items.now) state.old result state.new }
+    ensures { Does (with_one (append (item_value list.entry)) items.now) state.old result
+        state.new }
 {
     let Some(item) = only(items) else {
         return Err(Broken::Kind(Kind::Arity));
@@ -86,7 +88,8 @@ fn extend_one(
     list: Item<'_>,
     items: &[Value],
 ) -> Result<Value, Broken>
-    ensures { Does (with_one (extend (item_value list.entry)) items.now) state.old result state.new }
+    ensures { Does (with_one (extend (item_value list.entry)) items.now) state.old result
+        state.new }
 {
     match only(items) {
         Some(sequence) => {
@@ -103,8 +106,8 @@ fn keys_of(
     dict: Item<'_>,
     items: &[Value],
 ) -> Result<Value, Broken>
-    ensures { Does (with_none (keys (entries_in (shape state.old.heap (item_value dict.entry)))) items.now)
-        state.old result state.new }
+    ensures { Does (with_none (keys (entries_in (shape state.old.heap (item_value dict.entry))))
+        items.now) state.old result state.new }
 {
     if !items.is_empty() {
         return Err(Broken::Kind(Kind::Arity));
@@ -118,8 +121,8 @@ fn values_of(
     dict: Item<'_>,
     items: &[Value],
 ) -> Result<Value, Broken>
-    ensures { Does (with_none (values (entries_in (shape state.old.heap (item_value dict.entry)))) items.now)
-        state.old result state.new }
+    ensures { Does (with_none (values (entries_in (shape state.old.heap (item_value dict.entry))))
+        items.now) state.old result state.new }
 {
     if !items.is_empty() {
         return Err(Broken::Kind(Kind::Arity));
@@ -133,8 +136,8 @@ fn pairs_of(
     dict: Item<'_>,
     arguments: &[Value],
 ) -> Result<Value, Broken>
-    ensures { Does (with_none (pairs (entries_in (shape state.old.heap (item_value dict.entry)))) arguments.now)
-        state.old result state.new }
+    ensures { Does (with_none (pairs (entries_in (shape state.old.heap (item_value dict.entry))))
+        arguments.now) state.old result state.new }
 {
     if !arguments.is_empty() {
         return Err(Broken::Kind(Kind::Arity));
@@ -148,8 +151,8 @@ fn join_one(
     receiver: Item<'_>,
     items: &[Value],
 ) -> Result<Value, Broken>
-    ensures { Does (of_text join (string_in (shape state.now.heap (item_value receiver.entry))) items.now) state.now
-        result state.now }
+    ensures { Does (of_text join (string_in (shape state.now.heap (item_value receiver.entry)))
+        items.now) state.now result state.now }
 {
     let Some(text) = string_of(receiver) else {
         return Err(Broken::Kind(Kind::Wrong));
@@ -166,8 +169,8 @@ fn split_one(
     receiver: Item<'_>,
     items: &[Value],
 ) -> Result<Value, Broken>
-    ensures { Does (of_text split (string_in (shape state.old.heap (item_value receiver.entry))) items.now)
-        state.old result state.new }
+    ensures { Does (of_text split (string_in (shape state.old.heap (item_value receiver.entry)))
+        items.now) state.old result state.new }
 {
     let Some(text) = string_of(receiver) else {
         return Err(Broken::Kind(Kind::Wrong));
@@ -179,8 +182,8 @@ fn split_one(
 }
 
 fn starts_with_one(state: &State, receiver: Item<'_>, items: &[Value]) -> Result<Value, Broken>
-    ensures { Does (of_text starts_with (string_in (shape state.now.heap (item_value receiver.entry))) items.now)
-        state.now result state.now }
+    ensures { Does (of_text starts_with (string_in (shape state.now.heap
+        (item_value receiver.entry))) items.now) state.now result state.now }
 {
     let Some(text) = string_of(receiver) else {
         return Err(Broken::Kind(Kind::Wrong));
@@ -192,8 +195,8 @@ fn starts_with_one(state: &State, receiver: Item<'_>, items: &[Value]) -> Result
 }
 
 fn ends_with_one(state: &State, receiver: Item<'_>, items: &[Value]) -> Result<Value, Broken>
-    ensures { Does (of_text ends_with (string_in (shape state.now.heap (item_value receiver.entry))) items.now)
-        state.now result state.now }
+    ensures { Does (of_text ends_with (string_in (shape state.now.heap
+        (item_value receiver.entry))) items.now) state.now result state.now }
 {
     let Some(text) = string_of(receiver) else {
         return Err(Broken::Kind(Kind::Wrong));
@@ -210,8 +213,8 @@ fn list_of(
     receiver: Item<'_>,
     items: &[Value],
 ) -> Result<Value, Broken>
-    ensures { Does (of_depset (depset_in (shape state.old.heap (item_value receiver.entry))) items.now) state.old
-        result state.new }
+    ensures { Does (of_depset (depset_in (shape state.old.heap (item_value receiver.entry)))
+        items.now) state.old result state.new }
 {
     let Some(depset) = depset_of(receiver) else {
         return Err(Broken::Kind(Kind::Wrong));

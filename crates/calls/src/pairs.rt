@@ -16,7 +16,8 @@ use values::{Broken, Item, Items, Value};
 
 /// `dict.items()`: a new list of tuples of two, which take the next cells in the order of the entries.
 pub fn items(alloc: Global, state: &mut State, dict: Item<'_>) -> Result<Value, Broken>
-    ensures { Does (pairs (entries_in (shape state.old.heap (item_value dict.entry)))) state.old result state.new }
+    ensures { Does (pairs (entries_in (shape state.old.heap (item_value dict.entry)))) state.old
+        result state.new }
 {
     let keys = keys_in(alloc, &state.heap.see_item(dict))?;
     let values = values_in(alloc, &state.heap.see_item(dict))?;

@@ -1,5 +1,6 @@
 //! Fields of labels and Files.
 use finding::field;
+use operands::Operand;
 use plain::{Shared, Text};
 use state_tests::states::{fresh, gives};
 use std::alloc::Global;
@@ -21,7 +22,10 @@ fn file(alloc: Global) -> Result<Value, Broken> {
 fn reads(alloc: Global, value: &Value, name: &str, want: &str) -> Result<bool, Broken> {
     let state = fresh(alloc)?;
     let name = Text::new(alloc, name)?;
-    let read = field(alloc, &state, Item::Value(value), &name);
+    let read = match field(alloc, &state, &Operand::lent(Item::Value(value)), &name) {
+        Ok(read) => Ok(read.into_value()?),
+        Err(broken) => Err(broken),
+    };
     Ok(gives(alloc, &state, &read, want))
 }
 

@@ -1,11 +1,12 @@
 //! Depsets and instances, made by calls with names.
 use calls::{call_built_in, call_method, call_provider};
+use operands::Operand;
 use operations::{Arguments, Method};
 use plain::{Shared, Text};
 use state::{State, new_list};
-use state_tests::states::{fresh, gives, string};
+use state_tests::states::{fresh, prints, string};
 use std::alloc::{AllocError, Global};
-use values::{Broken, BuiltIn, Item, Items, Names, Provider, ProviderRef, Value};
+use values::{Broken, BuiltIn, Items, Names, Provider, ProviderRef, Value};
 
 fn one_item(alloc: Global, value: Value) -> Result<Items, AllocError> {
     let mut items = Items::new(alloc);
@@ -42,14 +43,9 @@ fn depsets_are_listed(rt: HostRuntime) -> Result<(), Broken> {
         values: &[],
     };
     let depset = depset(alloc, &mut state, "direct")?;
-    let list = call_method(
-        alloc,
-        &mut state,
-        Method::ToList,
-        Item::Value(&depset),
-        &none,
-    );
-    assert!(rt; gives(alloc, &state, &list, "[\"x\"]"));
+    let depset = Operand::own(depset);
+    let list = call_method(alloc, &mut state, Method::ToList, &depset, &none)?;
+    assert!(rt; prints(alloc, &state, &list.into_value()?, "[\"x\"]"));
     Ok(())
 }
 

@@ -12,7 +12,7 @@ mod emitter;
 mod instruction;
 mod jumps;
 mod names;
-mod operands;
+mod operators;
 mod steps;
 mod terms;
 

@@ -1,8 +1,10 @@
 //! Files that are read and compiled: their instructions are those that the definitions of the code give for them.
 use code::{Code, Instruction, Source, compile};
+use operands::Constant;
 use std::alloc::{AllocError, Global};
 use std::process::Abort;
 use syntax::{FileKind, parse};
+use values::Key;
 
 /// The line of an instruction, what it is, and its numbers.
 type Row = (usize, &'static str, usize, usize);
@@ -22,11 +24,19 @@ fn number(source: Source) -> usize {
     }
 }
 
+/// How many bytes a string has.
+fn text_len(constant: &Constant) -> usize {
+    match constant.key() {
+        Key::Text(text) => text.len(),
+        Key::Number(_) | Key::Truth(_) => 0,
+    }
+}
+
 /// Names, values and operators.
 fn value(instruction: &Instruction) -> Option<(&'static str, usize, usize)> {
     match instruction {
         Instruction::PushNumber(number) => Some(("number", *number as usize, 0)),
-        Instruction::PushText(text) => Some(("text", text.len(), 0)),
+        Instruction::PushText(text) => Some(("text", text_len(text), 0)),
         Instruction::PushNone => Some(("none", 0, 0)),
         Instruction::PushBuiltin(_) => Some(("builtin", 0, 0)),
         Instruction::LoadSlot(slot) => Some(("load", *slot, 0)),

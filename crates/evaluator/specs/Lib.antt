@@ -1,1 +1,2 @@
 pub mod Callees
+pub mod Walked

@@ -8,10 +8,11 @@ ghost use Rattle.operations.specs.Names.{global, set_global, set_loaded, load, d
 ghost use Rattle.language.specs.Place.{of_state};
 ghost use Rattle.language.specs.Language.{made_id};
 ghost use Rattle.frames.specs.Answers.{Says, id_seen};
+ghost use Rattle.frames.specs.Kept.{defaults_seen};
 
 use crate::functions::made_id;
 use crate::stacks::all_of;
-use frames::{FunctionId, Stack};
+use frames::{Defaults, FunctionId, Stack};
 use language::Whole;
 use operands::Operand;
 use operations::State;
@@ -45,8 +46,8 @@ pub(crate) fn global<'a, L: Link<'a>, W>(
 fn own_name<'a>(state: &State<'a>, number: usize) -> Result<Operand<'a>, Broken>
     ensures { Gives (or_fault Kind.Unset (name_value state.now number)) result }
 {
-    match making::name_value(state, number)? {
-        Some(value) => Ok(value),
+    match making::name_value(state, number) {
+        Some(value) => Ok(value.operand()?),
         None => Err(Broken::Kind(Kind::Unset)),
     }
 }
@@ -141,18 +142,19 @@ pub(crate) fn define<W>(
     }
 }
 
-/// The defaults that a function's `def` kept.
+/// The defaults that a function's `def` kept, which a linked module lends.
 pub(crate) fn defaults<'a, 'b, L: Link<'a>>(
-    linked: &'b L,
+    linked: &L,
     state: &'b State<'_>,
     function: FunctionId,
-) -> &'b [Value]
-    ensures { result.now ≡ defaults (L.linked linked.now) (made_id (id_seen function)) state.now }
+) -> Defaults<'a, 'b>
+    ensures { defaults_seen result
+        ≡ defaults (L.linked linked.now) (made_id (id_seen function)) state.now }
 {
     if function.file == state.file as usize {
-        listed(state.defaults.get(function.number))
+        Defaults::Kept(listed(state.defaults.get(function.number)))
     } else {
-        linked.defaults(function.file, function.number)
+        Defaults::Lent(linked.defaults(function.file, function.number))
     }
 }
 

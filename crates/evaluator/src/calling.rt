@@ -17,7 +17,7 @@ use finding::method_named;
 use frames::{Callee, Stack};
 use language::Whole;
 use language_calls::{leaf_of, of_place};
-use operands::Operand;
+use operands::{Operand, owned};
 use operations::Arguments;
 use places::{Link, Place};
 use plain::Text;
@@ -28,14 +28,14 @@ use values::{Broken, BuiltIn, Item, Kind, Leaf, Value};
 pub(crate) fn call<'a, L: Link<'a>, P: Place>(
     world: &World<'_, L, P>,
     whole: &mut Whole<P::Work>,
-    callee: &Callee<'_>,
+    callee: &Callee<'a>,
     items: Stack<Operand<'_>>,
     names: &[Text],
     named: Stack<Operand<'_>>,
-) -> Result<Value, Broken>
+) -> Result<Operand<'a>, Broken>
     ensures { Says (call_of (L.linked world.now.linked.now) (P.place world.now.place.now)
-        (callee_seen callee.now) (given_of (machine_given items.entry names.now named.entry)) whole.old)
-        result whole.new }
+        (callee_seen callee.now) (given_of (machine_given items.entry names.now named.entry))
+        whole.old) result whole.new }
 {
     let items = all_of(world.alloc, items)?;
     let values = all_of(world.alloc, named)?;
@@ -68,15 +68,15 @@ fn arguments<'a>(items: &'a [Value], names: &'a [Text], values: &'a [Value]) -> 
 fn call_with<'a, L: Link<'a>, P: Place>(
     world: &World<'_, L, P>,
     whole: &mut Whole<P::Work>,
-    callee: &Callee<'_>,
+    callee: &Callee<'a>,
     arguments: &Arguments<'_>,
-) -> Result<Value, Broken>
+) -> Result<Operand<'a>, Broken>
     ensures { Says (call_of (L.linked world.now.linked.now) (P.place world.now.place.now)
         (callee_seen callee.now) (given arguments.now) whole.old) result whole.new }
 {
     match callee {
-        Callee::Plain(value) => call_value(world, whole, value.item(), arguments),
-        Callee::Method(value, name) => call_method(world, whole, value.item(), name, arguments),
+        Callee::Plain(value) => owned(call_value(world, whole, value.item(), arguments)),
+        Callee::Method(value, name) => call_method(world, whole, value, name, arguments),
     }
 }
 
@@ -140,19 +140,19 @@ fn call_built_in<'a, L: Link<'a>, P: Place>(
 fn call_method<'a, L: Link<'a>, P: Place>(
     world: &World<'_, L, P>,
     whole: &mut Whole<P::Work>,
-    value: Item<'_>,
+    value: &Operand<'a>,
     name: &Text,
     arguments: &Arguments<'_>,
-) -> Result<Value, Broken>
+) -> Result<Operand<'a>, Broken>
     ensures { Says (method_or_place (L.linked world.now.linked.now) (P.place world.now.place.now)
-        (shape_method (shape whole.old.state.heap (item_value value.entry)) name.now)
-        (item_value value.entry) name.now (given arguments.now) whole.old) result whole.new }
+        (shape_method (shape whole.old.state.heap value.now) name.now) value.now name.now
+        (given arguments.now) whole.old) result whole.new }
 {
-    match method_named(&whole.state.heap.see_item(value), name.as_str()) {
+    match method_named(&whole.state.heap.see_item(value.item()), name.as_str()) {
         Some(method) => {
             calls::call_method(world.alloc, &mut whole.state, method, value, arguments)
         }
-        None => call_placed(world, whole, value, name, arguments),
+        None => owned(call_placed(world, whole, value.item(), name, arguments)),
     }
 }
 
@@ -165,7 +165,8 @@ fn call_placed<'a, L: Link<'a>, P: Place>(
     arguments: &Arguments<'_>,
 ) -> Result<Value, Broken>
     ensures { Says (place_method (L.linked world.now.linked.now) (P.place world.now.place.now)
-        (of_place (item_value value.entry)) name.now (given arguments.now) whole.old) result whole.new }
+        (of_place (item_value value.entry)) name.now (given arguments.now) whole.old) result
+        whole.new }
 {
     match of_place(value) {
         Some(leaf) => world

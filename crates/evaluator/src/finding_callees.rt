@@ -1,7 +1,6 @@
 //! What is called where a name of a value is called.
 ghost use Rattle.std.specs.Prelude.{◌≡◌, Ok, Err, Some, None, MatchResult};
 ghost use Rattle.values.specs.Ticking.{FaultOr};
-ghost use Rattle.values.specs.Seeing.{item_value};
 ghost use Rattle.language.specs.Language.{of_place, find_of};
 ghost use Rattle.frames.specs.Answers.{SaysAs, callee_seen};
 ghost use Rattle.evaluator.specs.Callees.{callee_found};
@@ -14,7 +13,7 @@ use language_calls::of_place;
 use operands::Operand;
 use places::{Link, Place};
 use plain::Text;
-use values::{Broken, Item, Leaf, Value};
+use values::{Broken, Leaf};
 
 /// What `owner.name` is where it is called: of a target or an object its place's. The owner of a method is moved, and its
 /// name lies in the code.
@@ -28,8 +27,8 @@ pub(crate) fn find<'a, L: Link<'a>, P: Place>(
         (P.place world.now.place.now) owner.entry name.now (of_place owner.entry) whole.now) result
         whole.now }
 {
-    match found(world, whole, owner.item(), name) {
-        Ok(Some(value)) => Ok(Callee::Plain(Operand::own(value))),
+    match found(world, whole, &owner, name) {
+        Ok(Some(value)) => Ok(Callee::Plain(value)),
         Ok(None) => Ok(Callee::Method(owner, name)),
         Err(broken) => Err(broken),
     }
@@ -39,15 +38,14 @@ pub(crate) fn find<'a, L: Link<'a>, P: Place>(
 fn found<'a, L: Link<'a>, P: Place>(
     world: &World<'_, L, P>,
     whole: &Whole<P::Work>,
-    owner: Item<'_>,
+    owner: &Operand<'a>,
     name: &Text,
-) -> Result<Option<Value>, Broken>
-    ensures { SaysAs (callee_found (item_value owner.entry) name.now)
+) -> Result<Option<Operand<'a>>, Broken>
+    ensures { SaysAs (callee_found owner.now name.now)
         (find_of (L.linked world.now.linked.now) (P.place world.now.place.now)
-        (item_value owner.entry) name.now (of_place (item_value owner.entry)) whole.now) result
-        whole.now }
+        owner.now name.now (of_place owner.now) whole.now) result whole.now }
 {
-    match of_place(owner) {
+    match of_place(owner.item()) {
         Some(leaf) => found_at_place(world, whole, owner, leaf, name),
         None => found_in_value(world, whole, owner, name),
     }
@@ -57,19 +55,19 @@ fn found<'a, L: Link<'a>, P: Place>(
 fn found_at_place<'a, L: Link<'a>, P: Place>(
     world: &World<'_, L, P>,
     whole: &Whole<P::Work>,
-    _owner: Item<'_>,
+    _owner: &Operand<'a>,
     leaf: &Leaf,
     name: &Text,
-) -> Result<Option<Value>, Broken>
-    ensures { SaysAs (callee_found (item_value _owner.entry) name.now)
+) -> Result<Option<Operand<'a>>, Broken>
+    ensures { SaysAs (callee_found _owner.now name.now)
         (find_of (L.linked world.now.linked.now) (P.place world.now.place.now)
-        (item_value _owner.entry) name.now (Some leaf.now) whole.now) result whole.now }
+        _owner.now name.now (Some leaf.now) whole.now) result whole.now }
 {
     if world.place.has_method(leaf, name) {
         return Ok(None);
     }
     match world.place.field(world.alloc, whole, leaf, name) {
-        Ok(value) => Ok(Some(value)),
+        Ok(value) => Ok(Some(Operand::own(value))),
         Err(broken) => Err(broken),
     }
 }
@@ -78,12 +76,12 @@ fn found_at_place<'a, L: Link<'a>, P: Place>(
 fn found_in_value<'a, L: Link<'a>, P: Place>(
     world: &World<'_, L, P>,
     whole: &Whole<P::Work>,
-    owner: Item<'_>,
+    owner: &Operand<'a>,
     name: &Text,
-) -> Result<Option<Value>, Broken>
-    ensures { SaysAs (callee_found (item_value owner.entry) name.now)
+) -> Result<Option<Operand<'a>>, Broken>
+    ensures { SaysAs (callee_found owner.now name.now)
         (find_of (L.linked world.now.linked.now) (P.place world.now.place.now)
-        (item_value owner.entry) name.now None whole.now) result whole.now }
+        owner.now name.now None whole.now) result whole.now }
 {
     match finding::find(world.alloc, &whole.state, owner, name) {
         Ok(Found::Value(found)) => Ok(Some(found)),

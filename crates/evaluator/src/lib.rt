@@ -9,10 +9,12 @@ mod calling;
 mod displays;
 mod finding_callees;
 mod functions;
+mod left;
 mod looks;
 mod operating;
 mod stacks;
 mod turns;
 mod world;
 
+pub use left::Left;
 pub use world::World;

@@ -8,23 +8,23 @@ ghost use Rattle.frames.specs.Answers.{Says};
 use crate::world::World;
 use language::Whole;
 use language_calls::{of_place, target_of};
+use operands::{Operand, owned};
 use places::{Link, Place};
 use plain::Text;
-use values::{Broken, Item, Value};
+use values::{Broken, Item};
 
 /// `value.name`: of a target or an object its place's.
 pub(crate) fn field<'a, L: Link<'a>, P: Place>(
     world: &World<'_, L, P>,
     whole: &Whole<P::Work>,
-    value: Item<'_>,
+    value: &Operand<'a>,
     name: &Text,
-) -> Result<Value, Broken>
+) -> Result<Operand<'a>, Broken>
     ensures { Says (field_of (L.linked world.now.linked.now) (P.place world.now.place.now)
-        (item_value value.entry) name.now (of_place (item_value value.entry)) whole.now) result
-        whole.now }
+        value.now name.now (of_place value.now) whole.now) result whole.now }
 {
-    match of_place(value) {
-        Some(leaf) => world.place.field(world.alloc, whole, leaf, name),
+    match of_place(value.item()) {
+        Some(leaf) => owned(world.place.field(world.alloc, whole, leaf, name)),
         None => finding::field(world.alloc, &whole.state, value, name),
     }
 }
@@ -33,15 +33,14 @@ pub(crate) fn field<'a, L: Link<'a>, P: Place>(
 pub(crate) fn item<'a, L: Link<'a>, P: Place>(
     world: &World<'_, L, P>,
     whole: &Whole<P::Work>,
-    base: Item<'_>,
+    base: &Operand<'a>,
     index: Item<'_>,
-) -> Result<Value, Broken>
+) -> Result<Operand<'a>, Broken>
     ensures { Says (item_of (L.linked world.now.linked.now) (P.place world.now.place.now)
-        (item_value base.entry) (item_value index.entry) (target_of (item_value base.entry))
-        whole.now) result whole.now }
+        base.now (item_value index.entry) (target_of base.now) whole.now) result whole.now }
 {
-    match target_of(base) {
-        Some(target) => world.place.item(world.alloc, whole, target, index),
+    match target_of(base.item()) {
+        Some(target) => owned(world.place.item(world.alloc, whole, target, index)),
         None => state::item(world.alloc, &whole.state, base, index),
     }
 }

@@ -1,13 +1,12 @@
 //! Values that change hands: from a stack to items, and from a sequence to what is left of a walk.
 ghost use Rattle.std.specs.Prelude.{◌≡◌, IfOk, map};
-ghost use Rattle.values.specs.Seeing.{seen, group_items, table_entries};
+ghost use Rattle.values.specs.Seeing.{group_items, table_entries};
 ghost use Rattle.values.specs.Visits.{keys_of};
-ghost use Rattle.operations.specs.Walks.{walked_items};
 
 use frames::Stack;
 use operands::Operand;
 use std::alloc::{AllocError, Global};
-use values::{Group, Items, Seen, Table, Value};
+use values::{Group, Items, Table, Value};
 
 /// The values of a stack, from its top on.
 ///
@@ -25,39 +24,41 @@ pub(crate) fn all_of(alloc: Global, stack: Stack<Operand<'_>>) -> Result<Items, 
     Ok(items)
 }
 
-/// The items of a group, in order.
+/// The items of a group, in order, which are lent.
 ///
 /// # Errors
 ///
 /// `AllocError` where memory was refused.
-pub(crate) fn parts_of(alloc: Global, group: Group<'_>) -> Result<Vec<Value>, AllocError>
+pub(crate) fn parts_of<'a>(alloc: Global, group: Group<'a>) -> Result<Vec<Operand<'a>>, AllocError>
     ensures { IfOk result (λ parts. parts.items ≡ group_items group.entry) }
 {
     let mut parts = Vec::with_capacity(alloc, group.len())?;
     for place in 0..group.len() {
-        parts.push(group.item(place).to_value()?)?;
+        parts.push(Operand::lent(group.item(place)))?;
     }
     Ok(parts)
 }
 
-/// What a walk over a value goes over, the first one at the top: items, and of a dict its keys.
+/// The items of a group, in order, as values of one's own.
 ///
 /// # Errors
 ///
 /// `AllocError` where memory was refused.
-pub(crate) fn left_of(alloc: Global, walked: &Seen<'_>) -> Result<Stack<Value>, AllocError>
-    ensures { IfOk result (λ left. left ≡ walked_items (seen walked.now)) }
+pub(crate) fn own_parts_of<'a>(
+    alloc: Global,
+    group: Group<'_>,
+) -> Result<Vec<Operand<'a>>, AllocError>
+    ensures { IfOk result (λ parts. parts.items ≡ group_items group.entry) }
 {
-    match walked {
-        Seen::List(items) => items_left(alloc, *items),
-        Seen::Tuple(items) => items_left(alloc, *items),
-        Seen::Dict(entries) => keys_left(alloc, *entries),
-        _ => Ok(Stack::new(alloc)),
+    let mut parts = Vec::with_capacity(alloc, group.len())?;
+    for place in 0..group.len() {
+        parts.push(Operand::own(group.item(place).to_value()?))?;
     }
+    Ok(parts)
 }
 
 /// The items of a group, the first one at the top.
-fn items_left(alloc: Global, group: Group<'_>) -> Result<Stack<Value>, AllocError>
+pub(crate) fn items_left(alloc: Global, group: Group<'_>) -> Result<Stack<Value>, AllocError>
     ensures { IfOk result (λ left. left ≡ group_items group.entry) }
 {
     let mut left = Stack::with_capacity(alloc, group.len())?;
@@ -70,7 +71,7 @@ fn items_left(alloc: Global, group: Group<'_>) -> Result<Stack<Value>, AllocErro
 }
 
 /// The keys of entries, the first one at the top.
-fn keys_left(alloc: Global, entries: Table<'_>) -> Result<Stack<Value>, AllocError>
+pub(crate) fn keys_left(alloc: Global, entries: Table<'_>) -> Result<Stack<Value>, AllocError>
     ensures { IfOk result (λ left. left ≡ map Value.Key (keys_of (table_entries entries.entry))) }
 {
     let mut left = Stack::with_capacity(alloc, entries.len())?;

@@ -1,18 +1,20 @@
 //! Ticks, walks, and sequences that are unpacked.
-ghost use Rattle.std.specs.Prelude.{◌≡◌, Ok, Err, MatchResult};
+ghost use Rattle.std.specs.Prelude.{◌≡◌, Ok, Err, MatchResult, IfOk};
 ghost use Rattle.values.specs.Ticking.{FaultOr};
 ghost use Rattle.values.specs.Seeing.{item_value};
 ghost use Rattle.operations.specs.States.{tick};
-ghost use Rattle.operations.specs.Walks.{begin, ended, parts};
+ghost use Rattle.values.specs.Shape.{shape};
+ghost use Rattle.operations.specs.Walks.{begin, ended, parts, walked_items};
 ghost use Rattle.language.specs.Place.{of_state};
 ghost use Rattle.frames.specs.Answers.{Says, SaysAs};
+ghost use Rattle.evaluator.specs.Walked.{left_seen};
 
-use crate::stacks::{left_of, parts_of};
-use frames::Stack;
+use crate::left::Left;
+use crate::stacks::{own_parts_of, parts_of};
 use language::Whole;
-use operands::as_value;
-use std::alloc::Global;
-use values::{Broken, Item, Kind, Value};
+use operands::Operand;
+use std::alloc::{AllocError, Global};
+use values::{Broken, Heap, Item, Kind};
 
 /// One tick.
 pub(crate) fn tick<W>(whole: &mut Whole<W>) -> Result<(), Broken>
@@ -21,19 +23,28 @@ pub(crate) fn tick<W>(whole: &mut Whole<W>) -> Result<(), Broken>
     state::tick(&mut whole.state)
 }
 
-/// A walk over a value begins, and gives the items that it goes over, the first one at the top.
-pub(crate) fn begin<W>(
+/// A walk over a value begins, and gives the items that it goes over. Those of what is lent stay where they are.
+pub(crate) fn begin<'a, W>(
     alloc: Global,
-    whole: &mut Whole<W>,
-    walked: Item<'_>,
-) -> Result<Stack<Value>, Broken>
-    ensures { Says (of_state (begin (item_value walked.entry)) whole.old) result whole.new }
+    whole: &mut Whole<'_, W>,
+    walked: &Operand<'a>,
+) -> Result<Left<'a>, Broken>
+    ensures { SaysAs left_seen (of_state (begin walked.now) whole.old) result whole.new }
 {
-    let left = left_of(alloc, &whole.state.heap.see_item(walked))?;
-    let walked = as_value(walked)?;
-    match state::begin(&mut whole.state, walked.get()) {
+    let left = left_of(alloc, &whole.state.heap, walked)?;
+    match state::begin(&mut whole.state, walked.item()) {
         Ok(()) => Ok(left),
         Err(broken) => Err(broken),
+    }
+}
+
+/// What a walk over a value goes over.
+fn left_of<'a>(alloc: Global, heap: &Heap, walked: &Operand<'a>) -> Result<Left<'a>, AllocError>
+    ensures { IfOk result (λ left. left_seen left ≡ walked_items (shape heap.now walked.now)) }
+{
+    match walked.lent_seen() {
+        Some(walked) => Ok(Left::lent(&walked, alloc)),
+        None => Left::own(&heap.see_item(walked.item()), alloc),
     }
 }
 
@@ -46,21 +57,26 @@ pub(crate) fn end<W>(whole: &mut Whole<W>, walked: Item<'_>)
     state::end(&mut whole.state, walked);
 }
 
-/// The items of a sequence that is unpacked.
+/// The items of a sequence that is unpacked. Those of what is lent are lent.
 ///
 /// # Errors
 ///
 /// `type`, where it is no list or tuple.
-pub(crate) fn parts<W>(
+pub(crate) fn parts<'a, W>(
     alloc: Global,
-    whole: &Whole<W>,
-    sequence: Item<'_>,
-) -> Result<Vec<Value>, Broken>
-    ensures { SaysAs (λ v. v.items) (of_state (parts (item_value sequence.entry)) whole.now) result
-        whole.now }
+    whole: &Whole<'_, W>,
+    sequence: &Operand<'a>,
+) -> Result<Vec<Operand<'a>>, Broken>
+    ensures { SaysAs (λ v. v.items) (of_state (parts sequence.now) whole.now) result whole.now }
 {
-    match state::sequence_of(&whole.state.heap.see_item(sequence)) {
-        Some(group) => Ok(parts_of(alloc, group)?),
+    if let Some(sequence) = sequence.lent_seen() {
+        return match state::sequence_of(&sequence) {
+            Some(group) => Ok(parts_of(alloc, group)?),
+            None => Err(Broken::Kind(Kind::Wrong)),
+        };
+    }
+    match state::sequence_of(&whole.state.heap.see_item(sequence.item())) {
+        Some(group) => Ok(own_parts_of(alloc, group)?),
         None => Err(Broken::Kind(Kind::Wrong)),
     }
 }

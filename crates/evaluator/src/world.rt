@@ -2,18 +2,20 @@
 ghost use Rattle.std.specs.Prelude.{◌≡◌, List, [], ◌∷◌, IfOk, MatchOption, MatchResult};
 ghost use Rattle.values.specs.declared.value.Value as held;
 ghost use Rattle.language.specs.Language.{language};
+ghost use Rattle.evaluator.specs.Walked.{left_seen};
 
+use crate::left::Left;
 use crate::{binding, calling, displays, finding_callees, functions, looks, operating, turns};
-use frames::{Callee, FunctionId, Operate, Refusal, Stack};
+use frames::{Callee, Defaults, FunctionId, Operate, Refusal, Stack};
 use grammar::{Operator, Sign};
 use language::Whole;
 use language_calls::DefaultInfo;
-use operands::Operand;
+use operands::{Constant, Operand};
 use places::{Link, Place};
 use plain::Text;
 use std::alloc::{AllocError, Global};
 use syntax::Predeclared;
-use values::{Broken, Item, Key, Kind, Leaf, Value};
+use values::{Broken, Item, Kind, Leaf, Value};
 
 /// The linked files and the place of an evaluation. Its operations are those of the language.
 #[derive(Drop)]
@@ -27,11 +29,11 @@ pub struct World<'a, L, P> {
 impl<'a, L: Link<'a>, P: Place> Operate<'a> for World<'a, L, P> {
     type State = Whole<'a, P::Work>;
 
-    type Walk = Stack<Value>;
+    type Walk = Left<'a>;
 
     ghost operations = { λ w. language (L.linked w.linked.now) (P.place w.place.now) };
 
-    ghost rest = { λ left. left };
+    ghost rest = { left_seen };
 
     fn refusal(&self, refusal: Refusal) -> Kind {
         functions::refusal_kind(refusal)
@@ -41,15 +43,15 @@ impl<'a, L: Link<'a>, P: Place> Operate<'a> for World<'a, L, P> {
         functions::number_value(number)
     }
 
-    fn string(&self, text: &Text) -> Result<Value, AllocError> {
-        Ok(Value::Key(Key::Text(text.share()?)))
+    fn string(&self, text: &'a Constant) -> Operand<'a> {
+        Operand::lent(Item::Key(text.key()))
     }
 
     fn none(&self) -> Value {
         Value::Leaf(Leaf::None)
     }
 
-    fn predeclared(&self, name: Predeclared) -> Result<Value, AllocError> {
+    fn predeclared(&self, name: Predeclared) -> Operand<'a> {
         language_calls::predeclared(self.default_info, name)
     }
 
@@ -92,18 +94,18 @@ impl<'a, L: Link<'a>, P: Place> Operate<'a> for World<'a, L, P> {
     fn field(
         &self,
         state: &mut Whole<'a, P::Work>,
-        value: Item<'_>,
+        value: &Operand<'a>,
         name: &Text,
-    ) -> Result<Value, Broken> {
+    ) -> Result<Operand<'a>, Broken> {
         looks::field(self, state, value, name)
     }
 
     fn item(
         &self,
         state: &mut Whole<'a, P::Work>,
-        base: Item<'_>,
+        base: &Operand<'a>,
         index: Item<'_>,
-    ) -> Result<Value, Broken> {
+    ) -> Result<Operand<'a>, Broken> {
         looks::item(self, state, base, index)
     }
 
@@ -169,17 +171,13 @@ impl<'a, L: Link<'a>, P: Place> Operate<'a> for World<'a, L, P> {
     fn begin(
         &self,
         state: &mut Whole<'a, P::Work>,
-        walked: Item<'_>,
-    ) -> Result<Stack<Value>, Broken> {
+        walked: &Operand<'a>,
+    ) -> Result<Left<'a>, Broken> {
         turns::begin(self.alloc, state, walked)
     }
 
-    fn next(
-        &self,
-        _state: &Whole<'a, P::Work>,
-        walk: &mut Stack<Value>,
-    ) -> Result<Option<Value>, AllocError> {
-        Ok(walk.pop())
+    fn next(&self, walk: &mut Left<'a>) -> Option<Operand<'a>> {
+        walk.next()
     }
 
     fn end(&self, state: &mut Whole<'a, P::Work>, walked: Item<'_>) {
@@ -189,8 +187,8 @@ impl<'a, L: Link<'a>, P: Place> Operate<'a> for World<'a, L, P> {
     fn parts(
         &self,
         state: &mut Whole<'a, P::Work>,
-        sequence: Item<'_>,
-    ) -> Result<Vec<Value>, Broken> {
+        sequence: &Operand<'a>,
+    ) -> Result<Vec<Operand<'a>>, Broken> {
         turns::parts(self.alloc, state, sequence)
     }
 
@@ -244,7 +242,11 @@ impl<'a, L: Link<'a>, P: Place> Operate<'a> for World<'a, L, P> {
         binding::define(self.alloc, state, function, name, defaults)
     }
 
-    fn defaults<'b>(&'b self, state: &'b Whole<'a, P::Work>, function: FunctionId) -> &'b [Value] {
+    fn defaults<'b>(
+        &self,
+        state: &'b Whole<'a, P::Work>,
+        function: FunctionId,
+    ) -> Defaults<'a, 'b> {
         binding::defaults(self.linked, &state.state, function)
     }
 
@@ -268,7 +270,7 @@ impl<'a, L: Link<'a>, P: Place> Operate<'a> for World<'a, L, P> {
         items: Stack<Operand<'a>>,
         names: &[Text],
         named: Stack<Operand<'a>>,
-    ) -> Result<Value, Broken> {
+    ) -> Result<Operand<'a>, Broken> {
         calling::call(self, state, callee, items, names, named)
     }
 

@@ -1,5 +1,5 @@
 -- What stands before and behind a colon, and behind the last slash.
-use Rattle.std.proofs.Common.{◌≡◌, ◌≢◌, ℕ, zero, suc, ◌+◌, ◌<◌, Bool, true, false, nat_eq, if◌then◌else◌, List, [], ◌∷◌, ◌++◌, length, drop, get_or, refl, sym, ap, ◌∙◌, arith, rules, append_assoc}
+use Rattle.std.proofs.Common.{◌≡◌, ◌≢◌, ℕ, zero, suc, ◌<◌, Bool, true, false, nat_eq, if◌then◌else◌, List, [], ◌∷◌, ◌++◌, length, drop, get_or, refl, ap, ◌∙◌, arith, rules, append_assoc}
 use Rattle.operations.specs.Fields.{before_colon, after_colon, last_part}
 
 same_nat : (x y : ℕ) → nat_eq x y ≡ true → x ≡ y

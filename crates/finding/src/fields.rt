@@ -1,63 +1,84 @@
 //! Fields.
 ghost use Rattle.std.specs.Prelude.{◌≡◌, Ok, Err, Some, None, MatchResult, IfOk};
 ghost use Rattle.values.specs.Ticking.{FaultOr};
-ghost use Rattle.values.specs.Seeing.{seen, item_value, slot_values};
+ghost use Rattle.values.specs.Seeing.{seen, slot_values};
+ghost use Rattle.values.specs.Shape.{shape};
 ghost use Rattle.operations.specs.States.{Does, Stays, Gives};
 ghost use Rattle.operations.specs.Fields.{field, field_in, shape_field, leaf_field, label_field, file_field};
 
 use crate::parts::{basename, name, package};
+use operands::Operand;
 use operations::State;
 use plain::Text;
 use std::alloc::{AllocError, Global};
-use values::{Broken, FileRef, Item, Key, Kind, Leaf, Provider, Seen, Slots, Value};
+use values::{Broken, FileRef, Key, Kind, Leaf, Provider, Seen, Slots, Value};
 
-/// `value.name` of an instance, a label or a File.
+/// `value.name` of an instance, a label or a File. A field of an instance that is lent is lent.
 ///
 /// # Errors
 ///
 /// `name`, where there is no such field. A method that isn't called is none.
-pub fn field(alloc: Global, state: &State, value: Item<'_>, name: &Text) -> Result<Value, Broken>
-    ensures { Does (field (item_value value.entry) name.now) state.now result state.now }
+pub fn field<'a>(
+    alloc: Global,
+    state: &State<'_>,
+    value: &Operand<'a>,
+    name: &Text,
+) -> Result<Operand<'a>, Broken>
+    ensures { Does (field value.now name.now) state.now result state.now }
 {
-    match field_of(alloc, &state.heap.see_item(value), name) {
+    match field_of(alloc, state, value, name) {
         Ok(Some(value)) => Ok(value),
         Ok(None) => Err(Broken::Kind(Kind::Name)),
         Err(broken) => Err(broken),
     }
 }
 
-/// The field of what a value shows, if there is one.
-pub(crate) fn field_of(
+/// The field of a value, if there is one.
+pub(crate) fn field_of<'a>(
     alloc: Global,
-    value: &Seen<'_>,
+    state: &State<'_>,
+    value: &Operand<'a>,
     name: &Text,
-) -> Result<Option<Value>, Broken>
+) -> Result<Option<Operand<'a>>, Broken>
+    ensures { Gives (Ok (shape_field (shape state.now.heap value.now) name.now)) result }
+{
+    if let Some(value) = value.lent_seen() {
+        return seen_field(alloc, &value, name);
+    }
+    match seen_field(alloc, &state.heap.see_item(value.item()), name) {
+        Ok(Some(value)) => Ok(Some(value.into_own()?)),
+        Ok(None) => Ok(None),
+        Err(broken) => Err(broken),
+    }
+}
+
+/// The field of what a value shows, if there is one.
+fn seen_field<'a>(
+    alloc: Global,
+    value: &Seen<'a>,
+    name: &Text,
+) -> Result<Option<Operand<'a>>, Broken>
     ensures { Gives (Ok (shape_field (seen value.now) name.now)) result }
 {
     match value {
-        Seen::Instance(provider, slots) => Ok(instance_field(provider, *slots, name)?),
+        Seen::Instance(provider, slots) => Ok(instance_field(provider, *slots, name)),
         Seen::Leaf(leaf) => leaf_field(alloc, leaf, name),
         _ => Ok(None),
     }
 }
 
 /// The field of an instance, if it was given.
-fn instance_field(
-    provider: &Provider,
-    slots: Slots<'_>,
-    name: &Text,
-) -> Result<Option<Value>, AllocError>
-    ensures { IfOk result (λ r. r ≡ field_in name.now provider.now.fields
-        (slot_values slots.entry)) }
+fn instance_field<'a>(provider: &Provider, slots: Slots<'a>, name: &Text) -> Option<Operand<'a>>
+    ensures { result ≡ field_in name.now provider.now.fields (slot_values slots.entry) }
 {
     match making::field(provider, slots, name) {
-        Some(value) => Ok(Some(value.to_value()?)),
-        None => Ok(None),
+        Some(value) => Some(Operand::lent(value)),
+        None => None,
     }
 }
 
 /// The field of a label or a File.
-fn leaf_field(alloc: Global, leaf: &Leaf, name: &Text) -> Result<Option<Value>, Broken>
+fn leaf_field<'a>(alloc: Global, leaf: &'a Leaf, name: &Text) -> Result<Option<Operand<'a>>, Broken>
     ensures { Gives (Ok (leaf_field leaf.now name.now)) result }
 {
     match leaf {
@@ -68,26 +89,37 @@ fn leaf_field(alloc: Global, leaf: &Leaf, name: &Text) -> Result<Option<Value>, 
 }
 
 /// `package` and `name` of a label.
-fn label_field(alloc: Global, label: &Text, field: &Text) -> Result<Option<Value>, Broken>
+fn label_field<'a>(alloc: Global, label: &Text, field: &Text) -> Result<Option<Operand<'a>>, Broken>
     ensures { Gives (Ok (label_field label.now field.now)) result }
 {
     match field.as_str() {
         "package" => match package(alloc, label) {
-            Ok(package) => Ok(Some(Value::Key(Key::Text(package)))),
+            Ok(package) => Ok(Some(string(package))),
             Err(broken) => Err(broken),
         },
-        "name" => Ok(Some(Value::Key(Key::Text(name(alloc, label)?)))),
+        "name" => Ok(Some(string(name(alloc, label)?))),
         _ => Ok(None),
     }
 }
 
 /// `path` and `basename` of a File.
-fn file_field(alloc: Global, file: &FileRef, field: &Text) -> Result<Option<Value>, AllocError>
+fn file_field<'a>(
+    alloc: Global,
+    file: &FileRef,
+    field: &Text,
+) -> Result<Option<Operand<'a>>, AllocError>
     ensures { IfOk result (λ r. r ≡ file_field file.now field.now) }
 {
     match field.as_str() {
-        "path" => Ok(Some(Value::Key(Key::Text(file.path.share()?)))),
-        "basename" => Ok(Some(Value::Key(Key::Text(basename(alloc, &file.path)?)))),
+        "path" => Ok(Some(string(file.path.share()?))),
+        "basename" => Ok(Some(string(basename(alloc, &file.path)?))),
         _ => Ok(None),
     }
+}
+
+/// A string that was made.
+fn string<'a>(text: Text) -> Operand<'a>
+    ensures { result ≡ Value.Key (Key.Text text) }
+{
+    Operand::own(Value::Key(Key::Text(text)))
 }

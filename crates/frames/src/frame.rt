@@ -1,9 +1,16 @@
 //! Frames.
 
+ghost use Rattle.std.specs.Prelude.{◌≡◌, List, []};
+ghost use Rattle.values.specs.declared.value.Value as held;
+ghost use Rattle.meaning.specs.Machine.{frame_of};
+ghost use Rattle.frames.specs.Answers.{id_seen};
+ghost use Rattle.frames.specs.Seen.{seen};
+
 use crate::slots::Slots;
 use crate::stack::Stack;
 use operands::Operand;
 use plain::Text;
+use std::alloc::Global;
 
 /// A function written in Starlark: the number of its file among those that are linked, and its own number there.
 #[derive(Clone, Copy, PartialEq, Eq, Debug)]
@@ -39,4 +46,34 @@ pub struct Frame<'a, T> {
     pub callees: Stack<Callee<'a>>,
     pub walk: Option<Walk<'a, T>>,
     pub outer: Stack<Walk<'a, T>>,
+}
+
+impl<'a, T: Drop> Frame<'a, T> {
+    /// A frame in which nothing is, and which takes no memory yet.
+    pub fn new(alloc: Global) -> Frame<'a, T>
+        ensures { (rest : T → List held.Value) → seen rest result
+            ≡ frame_of (id_seen result.function) [] }
+    {
+        Frame {
+            function: FunctionId { file: 0, number: 0 },
+            place: 0,
+            slots: Slots::new(alloc),
+            values: Stack::new(alloc),
+            callees: Stack::new(alloc),
+            walk: None,
+            outer: Stack::new(alloc),
+        }
+    }
+
+    /// Lets go all that is in the frame; its memory is kept for another function.
+    pub fn let_go(&mut self)
+        ensures { (rest : T → List held.Value) → seen rest self.new
+            ≡ record (seen rest self.old) { slots = []; values = []; callees = []; walks = [] } }
+    {
+        self.slots.let_go();
+        self.values.clear();
+        self.callees.clear();
+        self.walk = None;
+        self.outer.clear();
+    }
 }

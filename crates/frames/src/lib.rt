@@ -6,6 +6,7 @@
 #![tactic(auto)]
 
 mod calling;
+mod defaults;
 mod displays;
 mod frame;
 mod items;
@@ -21,6 +22,7 @@ mod walking;
 mod world;
 
 pub use calling::{find, import, take_callee, unpack};
+pub use defaults::Defaults;
 pub use displays::{collect, enter, keep, make_list, make_tuple, new_dict};
 pub use frame::{Callee, Frame, FunctionId, Walk};
 pub use items::{field, item, item_above, set_added, set_item};

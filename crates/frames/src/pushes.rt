@@ -7,8 +7,7 @@ ghost use Rattle.frames.specs.Seen.{Performs};
 use crate::frame::Frame;
 use crate::stop::{Step, Stop};
 use crate::world::Operate;
-use operands::Operand;
-use plain::Text;
+use operands::{Constant, Operand};
 use syntax::Predeclared;
 
 /// A number that the file writes out.
@@ -33,7 +32,7 @@ pub fn push_number<'a, W: Operate<'a>>(
 pub fn push_text<'a, W: Operate<'a>>(
     world: &W,
     line: usize,
-    text: &Text,
+    text: &'a Constant,
     f: &mut Frame<'a, W::Walk>,
 ) -> Result<Step, Stop>
     requires { f.old.place < 2 ^ 63 }
@@ -41,8 +40,7 @@ pub fn push_text<'a, W: Operate<'a>>(
         text.now) f.old s
         result f.new s }
 {
-    let value = world.string(text)?;
-    f.values.push(Operand::own(value))?;
+    f.values.push(world.string(text))?;
     f.place += 1;
     Ok(Step::More)
 }
@@ -75,8 +73,7 @@ pub fn push_builtin<'a, W: Operate<'a>>(
         name) f.old s
         result f.new s }
 {
-    let value = world.predeclared(name)?;
-    f.values.push(Operand::own(value))?;
+    f.values.push(world.predeclared(name))?;
     f.place += 1;
     Ok(Step::More)
 }

@@ -27,13 +27,32 @@ impl<'a> Model for Slots<'a> {
 }
 
 impl<'a> Slots<'a> {
-    /// No slots.
+    /// No slots, which take no memory yet.
     pub fn new(alloc: Global) -> Slots<'a>
         ensures { result ≡ [] }
     {
         Slots {
             items: Vec::new(alloc),
         }
+    }
+
+    /// Lets all slots go; their memory is kept for others.
+    pub fn let_go(&mut self)
+        ensures { self.new ≡ [] }
+    {
+        self.items.clear();
+    }
+
+    /// Memory for so many slots more.
+    ///
+    /// # Errors
+    ///
+    /// Memory was refused.
+    pub fn reserve(&mut self, slots: usize) -> Result<(), AllocError>
+        ensures { IfOk result (λ _. self.new ≡ self.old) }
+    {
+        self.items.reserve(slots)?;
+        Ok(())
     }
 
     /// A slot, if it is there.

@@ -64,8 +64,8 @@ impl<T> Stack<T> {
 
     /// Takes the item off the top.
     pub fn pop(&mut self) -> Option<T>
-        ensures { MatchOption result ((self.old ≡ []) × (self.new ≡ [])) (λ x. self.old ≡ x ∷
-            self.new) }
+        ensures { MatchOption result ((self.old ≡ []) × (self.new ≡ []))
+            (λ x. self.old ≡ x ∷ self.new) }
     {
         self.items.pop()
     }
@@ -77,5 +77,14 @@ impl<T> Stack<T> {
         ensures { self.new ≡ [] }
     {
         self.items.clear();
+    }
+
+    /// The items, the top first.
+    pub fn into_vec(self) -> Vec<T>
+        ensures { result.items ≡ self }
+    {
+        let mut items = self.items;
+        items.reverse();
+        items
     }
 }

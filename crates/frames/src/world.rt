@@ -7,11 +7,13 @@ ghost use Rattle.values.specs.declared.value.Value as held;
 ghost use Rattle.values.specs.declared.ticks.Kind as kinds;
 ghost use Rattle.values.specs.Seeing.{item_value};
 ghost use Rattle.frames.specs.Answers.{Says, SaysAs, refusal_seen, id_seen, callee_seen, given};
+ghost use Rattle.frames.specs.Kept.{defaults_seen};
 
+use crate::defaults::Defaults;
 use crate::frame::{Callee, FunctionId};
 use crate::stack::Stack;
 use grammar::{Operator, Sign};
-use operands::Operand;
+use operands::{Constant, Operand};
 use plain::Text;
 use std::alloc::{AllocError, Global};
 use syntax::Predeclared;
@@ -53,17 +55,17 @@ pub trait Operate<'a> {
     fn number(&self, number: u64) -> Result<Value, AllocError>
         ensures { IfOk result (λ v. v ≡ (operations self.now).number number) };
 
-    /// A string that a file writes out.
-    fn string(&self, text: &Text) -> Result<Value, AllocError>
-        ensures { IfOk result (λ v. v ≡ (operations self.now).string text.now) };
+    /// A string that a file writes out, which is lent.
+    fn string(&self, text: &'a Constant) -> Operand<'a>
+        ensures { result ≡ (operations self.now).string text.now };
 
     /// `None`.
     fn none(&self) -> Value
         ensures { result ≡ (operations self.now).none };
 
     /// What each file finds bound.
-    fn predeclared(&self, name: Predeclared) -> Result<Value, AllocError>
-        ensures { IfOk result (λ v. v ≡ (operations self.now).predeclared name) };
+    fn predeclared(&self, name: Predeclared) -> Operand<'a>
+        ensures { result ≡ (operations self.now).predeclared name };
 
     /// Whether a value counts as true.
     fn truth(&self, state: &Self::State, value: Item<'_>) -> bool
@@ -86,8 +88,8 @@ pub trait Operate<'a> {
 
     /// `not` or `-`.
     fn sign(&self, state: &mut Self::State, sign: Sign, value: Item<'_>) -> Result<Value, Broken>
-        ensures { Says ((operations self.now).sign (sign_seen sign) (item_value value.entry) state.old)
-            result state.new };
+        ensures { Says ((operations self.now).sign (sign_seen sign) (item_value value.entry)
+            state.old) result state.new };
 
     /// What `x += y` assigns to `x`.
     fn increase(
@@ -99,20 +101,25 @@ pub trait Operate<'a> {
         ensures { Says ((operations self.now).increase old.entry (item_value more.entry) state.old)
             result state.new };
 
-    /// `x.NAME`.
-    fn field(&self, state: &mut Self::State, value: Item<'_>, name: &Text) -> Result<Value, Broken>
-        ensures { Says ((operations self.now).field (item_value value.entry) name.now state.old) result
+    /// `x.NAME`: of what is lent it may be lent.
+    fn field(
+        &self,
+        state: &mut Self::State,
+        value: &Operand<'a>,
+        name: &Text,
+    ) -> Result<Operand<'a>, Broken>
+        ensures { Says ((operations self.now).field value.now name.now state.old) result
             state.new };
 
-    /// `x[i]`, of x and i.
+    /// `x[i]`, of x and i: of what is lent it may be lent.
     fn item(
         &self,
         state: &mut Self::State,
-        base: Item<'_>,
+        base: &Operand<'a>,
         index: Item<'_>,
-    ) -> Result<Value, Broken>
-        ensures { Says ((operations self.now).item (item_value base.entry) (item_value index.entry)
-            state.old) result state.new };
+    ) -> Result<Operand<'a>, Broken>
+        ensures { Says ((operations self.now).item base.now (item_value index.entry) state.old)
+            result state.new };
 
     /// `x[i] = v`, of x, i and v.
     fn set_item(
@@ -170,24 +177,27 @@ pub trait Operate<'a> {
             value.entry state.old) result state.new };
 
     /// A walk over a value begins, and gives the items that it goes over.
-    fn begin(&self, state: &mut Self::State, walked: Item<'_>) -> Result<Self::Walk, Broken>
-        ensures { SaysAs rest ((operations self.now).begin (item_value walked.entry) state.old) result
+    fn begin(&self, state: &mut Self::State, walked: &Operand<'a>) -> Result<Self::Walk, Broken>
+        ensures { SaysAs rest ((operations self.now).begin walked.now state.old) result
             state.new };
 
-    /// The next item of a walk, None at its end.
-    fn next(&self, state: &Self::State, walk: &mut Self::Walk) -> Result<Option<Value>, AllocError>
-        ensures { IfOk result (λ item. MatchOption item
-            ((rest walk.old ≡ []) × (rest walk.new ≡ []))
-            (λ v. rest walk.old ≡ v ∷ rest walk.new)) };
+    /// The next item of a walk, None at its end: of what is lent it may be lent.
+    fn next(&self, walk: &mut Self::Walk) -> Option<Operand<'a>>
+        ensures { MatchOption result ((rest walk.old ≡ []) × (rest walk.new ≡ []))
+            (λ v. rest walk.old ≡ v ∷ rest walk.new) };
 
     /// A walk has ended.
     fn end(&self, state: &mut Self::State, walked: Item<'_>)
         ensures { state.new ≡ (operations self.now).end (item_value walked.entry) state.old };
 
-    /// The items of a sequence that is unpacked.
-    fn parts(&self, state: &mut Self::State, sequence: Item<'_>) -> Result<Vec<Value>, Broken>
-        ensures { SaysAs (λ v. v.items) ((operations self.now).parts (item_value sequence.entry)
-            state.old) result state.new };
+    /// The items of a sequence that is unpacked: of what is lent they may be lent.
+    fn parts(
+        &self,
+        state: &mut Self::State,
+        sequence: &Operand<'a>,
+    ) -> Result<Vec<Operand<'a>>, Broken>
+        ensures { SaysAs (λ v. v.items) ((operations self.now).parts sequence.now state.old)
+            result state.new };
 
     /// The value of a name of the top level of a file: of a linked file it is lent.
     fn global(
@@ -243,8 +253,9 @@ pub trait Operate<'a> {
             state.old) result state.new };
 
     /// The defaults that a function's `def` kept.
-    fn defaults<'b>(&'b self, state: &'b Self::State, function: FunctionId) -> &'b [Value]
-        ensures { result.now ≡ (operations self.now).defaults (id_seen function) state.now };
+    fn defaults<'b>(&self, state: &'b Self::State, function: FunctionId) -> Defaults<'a, 'b>
+        ensures { defaults_seen result
+            ≡ (operations self.now).defaults (id_seen function) state.now };
 
     /// Which function written in Starlark a value is, if it is one.
     fn function(&self, value: Item<'_>) -> Option<FunctionId>
@@ -258,8 +269,8 @@ pub trait Operate<'a> {
         owner: Operand<'a>,
         name: &'a Text,
     ) -> Result<Callee<'a>, Broken>
-        ensures { SaysAs callee_seen ((operations self.now).find owner.entry name.now state.old) result
-            state.new };
+        ensures { SaysAs callee_seen ((operations self.now).find owner.entry name.now state.old)
+            result state.new };
 
     /// A call of what isn't written in Starlark: its values by position, of which the first is at the top, and those by
     /// name with their names.
@@ -270,7 +281,7 @@ pub trait Operate<'a> {
         items: Stack<Operand<'a>>,
         names: &[Text],
         named: Stack<Operand<'a>>,
-    ) -> Result<Value, Broken>
+    ) -> Result<Operand<'a>, Broken>
         ensures { Says ((operations self.now).call (callee_seen callee.now)
             (given items.entry names.now named.entry) state.old) result state.new };
 

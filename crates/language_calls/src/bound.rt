@@ -2,17 +2,19 @@
 ghost use Rattle.std.specs.Prelude.{◌≡◌, ◌∷◌, [], IfOk, codes};
 ghost use Rattle.operations.specs.Instances.{default_info};
 ghost use Rattle.language.specs.Language.{predeclared_value};
+ghost use Rattle.syntax.specs.declared.names.Predeclared.TheVariants as name;
 
+use operands::Operand;
 use plain::{Shared, Text};
 use std::alloc::{AllocError, Global};
 use syntax::Predeclared;
-use values::{BuiltIn, Key, Leaf, Names, Object, Provider, ProviderRef, Value};
+use values::{BuiltIn, Item, Key, Leaf, Names, Object, Provider, ProviderRef, Value};
 
-/// The provider `DefaultInfo`, made once and shared by all who name it.
+/// The provider `DefaultInfo`, made once and lent to all who name it.
 #[derive(Drop)]
 pub struct DefaultInfo {
-    provider: Shared<Provider>,
-    ghost is_default: { provider ≡ default_info },
+    value: Value,
+    ghost is_default: { value ≡ predeclared_value name.DefaultInfo },
 }
 
 impl DefaultInfo {
@@ -21,19 +23,16 @@ impl DefaultInfo {
     /// `AllocError` where memory was refused.
     pub fn new(alloc: Global) -> Result<DefaultInfo, AllocError> {
         let provider = default_info(alloc)?;
-        Ok(DefaultInfo { provider })
+        Ok(DefaultInfo {
+            value: Value::Leaf(Leaf::Provider(provider)),
+        })
     }
 
-    /// As a value: a count more.
-    ///
-    /// # Errors
-    ///
-    /// `AllocError` where the count is at its greatest.
-    pub fn value(&self) -> Result<Value, AllocError>
-        ensures { IfOk result (λ v. v ≡ predeclared_value Predeclared.DefaultInfo) }
+    /// As a value.
+    pub fn value(&self) -> &Value
+        ensures { result.now ≡ predeclared_value Predeclared.DefaultInfo }
     {
-        let provider = self.provider.share()?;
-        Ok(Value::Leaf(Leaf::Provider(provider)))
+        &self.value
     }
 }
 
@@ -58,27 +57,30 @@ fn files_alone(alloc: Global) -> Result<Names, AllocError>
     Ok(names)
 }
 
-/// What each file finds bound under a name.
-///
-/// # Errors
-///
-/// `AllocError` where the count of `DefaultInfo` is at its greatest.
-pub fn predeclared(default_info: &DefaultInfo, name: Predeclared) -> Result<Value, AllocError>
-    ensures { IfOk result (λ v. v ≡ predeclared_value name) }
+/// What each file finds bound under a name. `DefaultInfo` is lent.
+pub fn predeclared<'a>(default_info: &'a DefaultInfo, name: Predeclared) -> Operand<'a>
+    ensures { result ≡ predeclared_value name }
 {
     match name {
-        Predeclared::NoneValue => Ok(Value::Leaf(Leaf::None)),
-        Predeclared::TrueValue => Ok(Value::Key(Key::Truth(true))),
-        Predeclared::FalseValue => Ok(Value::Key(Key::Truth(false))),
-        Predeclared::LenFunction => Ok(Value::Leaf(Leaf::BuiltIn(BuiltIn::Len))),
-        Predeclared::StrFunction => Ok(Value::Leaf(Leaf::BuiltIn(BuiltIn::Str))),
-        Predeclared::RangeFunction => Ok(Value::Leaf(Leaf::BuiltIn(BuiltIn::Range))),
-        Predeclared::ListFunction => Ok(Value::Leaf(Leaf::BuiltIn(BuiltIn::List))),
-        Predeclared::FailFunction => Ok(Value::Leaf(Leaf::BuiltIn(BuiltIn::Fail))),
-        Predeclared::DepsetFunction => Ok(Value::Leaf(Leaf::BuiltIn(BuiltIn::Depset))),
-        Predeclared::ProviderFunction => Ok(Value::Leaf(Leaf::BuiltIn(BuiltIn::Provider))),
-        Predeclared::RuleFunction => Ok(Value::Leaf(Leaf::BuiltIn(BuiltIn::Rule))),
-        Predeclared::AttrModule => Ok(Value::Leaf(Leaf::Object(Object::Attr))),
-        Predeclared::DefaultInfo => default_info.value(),
+        Predeclared::NoneValue => Operand::own(Value::Leaf(Leaf::None)),
+        Predeclared::TrueValue => Operand::own(Value::Key(Key::Truth(true))),
+        Predeclared::FalseValue => Operand::own(Value::Key(Key::Truth(false))),
+        Predeclared::LenFunction => built_in(BuiltIn::Len),
+        Predeclared::StrFunction => built_in(BuiltIn::Str),
+        Predeclared::RangeFunction => built_in(BuiltIn::Range),
+        Predeclared::ListFunction => built_in(BuiltIn::List),
+        Predeclared::FailFunction => built_in(BuiltIn::Fail),
+        Predeclared::DepsetFunction => built_in(BuiltIn::Depset),
+        Predeclared::ProviderFunction => built_in(BuiltIn::Provider),
+        Predeclared::RuleFunction => built_in(BuiltIn::Rule),
+        Predeclared::AttrModule => Operand::own(Value::Leaf(Leaf::Object(Object::Attr))),
+        Predeclared::DefaultInfo => Operand::lent(Item::Value(default_info.value())),
     }
+}
+
+/// A built-in function.
+fn built_in<'a>(function: BuiltIn) -> Operand<'a>
+    ensures { result ≡ Value.Leaf (Leaf.BuiltIn function) }
+{
+    Operand::own(Value::Leaf(Leaf::BuiltIn(function)))
 }

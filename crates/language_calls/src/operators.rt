@@ -27,8 +27,8 @@ pub fn binary(
     left: Item<'_>,
     right: Item<'_>,
 ) -> Result<Value, Broken>
-    ensures { Does (binary_of (operator_seen operator) (item_value left.entry) (item_value right.entry)) state.old result
-        state.new }
+    ensures { Does (binary_of (operator_seen operator) (item_value left.entry)
+        (item_value right.entry)) state.old result state.new }
 {
     match operator {
         Operator::Equal => equal(state, left, right),
@@ -50,7 +50,8 @@ pub fn binary(
 
 /// `left == right`.
 fn equal(state: &mut State, left: Item<'_>, right: Item<'_>) -> Result<Value, Broken>
-    ensures { Does (as_truth (equals (item_value left.entry) (item_value right.entry))) state.old result state.new }
+    ensures { Does (as_truth (equals (item_value left.entry) (item_value right.entry))) state.old
+        result state.new }
 {
     match state::equals(state, left, right) {
         Ok(same) => Ok(Value::Key(Key::Truth(same))),
@@ -60,7 +61,8 @@ fn equal(state: &mut State, left: Item<'_>, right: Item<'_>) -> Result<Value, Br
 
 /// `left != right`.
 fn not_equal(state: &mut State, left: Item<'_>, right: Item<'_>) -> Result<Value, Broken>
-    ensures { Does (as_opposite (equals (item_value left.entry) (item_value right.entry))) state.old result state.new }
+    ensures { Does (as_opposite (equals (item_value left.entry) (item_value right.entry))) state.old
+        result state.new }
 {
     match state::equals(state, left, right) {
         Ok(same) => Ok(Value::Key(Key::Truth(!same))),
@@ -75,7 +77,8 @@ fn compared(
     left: Item<'_>,
     right: Item<'_>,
 ) -> Result<Value, Broken>
-    ensures { Does (as_truth (compare operator (item_value left.entry) (item_value right.entry))) state.now result state.now }
+    ensures { Does (as_truth (compare operator (item_value left.entry) (item_value right.entry)))
+        state.now result state.now }
 {
     match state::compare(state, operator, left, right) {
         Ok(holds) => Ok(Value::Key(Key::Truth(holds))),
@@ -85,7 +88,8 @@ fn compared(
 
 /// `left in right`.
 fn within(state: &mut State, left: Item<'_>, right: Item<'_>) -> Result<Value, Broken>
-    ensures { Does (as_truth (member (item_value left.entry) (item_value right.entry))) state.old result state.new }
+    ensures { Does (as_truth (member (item_value left.entry) (item_value right.entry))) state.old
+        result state.new }
 {
     match text_calls::member(state, left, right) {
         Ok(held) => Ok(Value::Key(Key::Truth(held))),
@@ -95,7 +99,8 @@ fn within(state: &mut State, left: Item<'_>, right: Item<'_>) -> Result<Value, B
 
 /// `left not in right`.
 fn not_within(state: &mut State, left: Item<'_>, right: Item<'_>) -> Result<Value, Broken>
-    ensures { Does (as_opposite (member (item_value left.entry) (item_value right.entry))) state.old result state.new }
+    ensures { Does (as_opposite (member (item_value left.entry) (item_value right.entry))) state.old
+        result state.new }
 {
     match text_calls::member(state, left, right) {
         Ok(held) => Ok(Value::Key(Key::Truth(!held))),
@@ -110,7 +115,8 @@ fn calculated(
     left: Item<'_>,
     right: Item<'_>,
 ) -> Result<Value, Broken>
-    ensures { Does (calculate operator (item_value left.entry) (item_value right.entry)) state.now result state.now }
+    ensures { Does (calculate operator (item_value left.entry) (item_value right.entry)) state.now
+        result state.now }
 {
     state::calculate(state, operator, left, right)
 }

@@ -93,7 +93,7 @@ impl<'a, K: KnownModules> Link<'a> for Files<'a, K> {
         }
     }
 
-    fn defaults(&self, file: usize, number: usize) -> &[Value] {
+    fn defaults(&self, file: usize, number: usize) -> &'a [Value] {
         match self.numbered(file) {
             Some(module) => module.defaults(number),
             None => &[],

@@ -7,17 +7,19 @@ ghost use Rattle.meaning.specs.Machine.{outer};
 ghost use Rattle.frames.specs.Answers.{id_seen};
 ghost use Rattle.machine.specs.ActiveView.{ids_seen};
 
-use frames::FunctionId;
+use frames::{Frame, FunctionId, Stack};
 use std::alloc::{AllocError, Global};
 use std::marker::Model;
 
-/// The functions that are active; the list that a clause sees has the innermost first.
+/// The functions that are active; the list that a clause sees has the innermost first. The frames of those that have ended
+/// stand beside them, so that the next call takes their memory.
 #[derive(Drop)]
-pub(crate) struct Active {
+pub(crate) struct Active<'a, T> {
     functions: Vec<FunctionId>,
+    ended: Stack<Frame<'a, T>>,
 }
 
-impl Model for Active {
+impl<'a, T> Model for Active<'a, T> {
     ghost use Rattle.std.specs.Prelude.{List, reverse};
     ghost use Rattle.frames.specs.declared.frame.FunctionId.{FunctionId};
 
@@ -33,13 +35,14 @@ fn is_among(function: FunctionId, functions: &[FunctionId]) -> bool
     functions.iter().any(|other| function == *other)
 }
 
-impl Active {
+impl<'a, T: Drop> Active<'a, T> {
     /// None is active.
-    pub(crate) fn new(alloc: Global) -> Active
+    pub(crate) fn new(alloc: Global) -> Active<'a, T>
         ensures { result ≡ [] }
     {
         Active {
             functions: Vec::new(alloc),
+            ended: Stack::new(alloc),
         }
     }
 
@@ -70,5 +73,25 @@ impl Active {
         ensures { ids_seen self.new ≡ outer (ids_seen self.old) }
     {
         let _left = self.functions.pop();
+    }
+
+    /// A frame for the next call: the memory of one that has ended, or of none.
+    pub(crate) fn spare(&mut self, alloc: Global) -> Frame<'a, T>
+        ensures { self.new ≡ self.old }
+    {
+        match self.ended.pop() {
+            Some(frame) => frame,
+            None => Frame::new(alloc),
+        }
+    }
+
+    /// What is in the frame of a function that has ended is let go, and its memory is kept for the next call, unless memory for
+    /// that is refused.
+    pub(crate) fn keep(&mut self, frame: Frame<'a, T>)
+        ensures { self.new ≡ self.old }
+    {
+        let mut frame = frame;
+        frame.let_go();
+        let _kept = self.ended.push(frame);
     }
 }

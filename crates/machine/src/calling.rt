@@ -17,8 +17,7 @@ use crate::linked::Linked;
 use frames::{Callee, Frame, FunctionId, Operate, Refusal, Slots, Stack, Stop, refused, stop_at};
 use operands::Operand;
 use plain::Text;
-use std::alloc::{AllocError, Global};
-use values::Value;
+use std::mem::replace;
 
 /// The arguments of a call: those by position, the first at the top, and those by name with their names, the first
 /// at the
@@ -40,30 +39,42 @@ pub(crate) struct Place {
 /// What a call comes to: the value of what isn't written in Starlark, or the frame of a function that is.
 #[derive(Drop)]
 pub(crate) enum Called<'a, T> {
-    Value(Value),
+    Value(Operand<'a>),
     Frame(Frame<'a, T>),
 }
 
 /// A function may be active once, and 128 functions at most.
 const MOST_ACTIVE: usize = 128;
 
-/// A frame at the first instruction of a function.
-pub(crate) fn frame_at_entry<'a, T>(
-    alloc: Global,
+/// A frame at the first instruction of a function, in the memory of one that has ended.
+pub(crate) fn frame_at_entry<'a, T: Drop>(
+    ended: Frame<'a, T>,
     function: FunctionId,
     slots: Slots<'a>,
 ) -> Frame<'a, T>
     ensures { (rest : T → List held.Value) → seen rest result ≡ machine.frame_of (id_seen
         function) slots.entry }
 {
+    let Frame {
+        function: _,
+        place: _,
+        slots: _,
+        mut values,
+        mut callees,
+        walk: _,
+        mut outer,
+    } = ended;
+    values.clear();
+    callees.clear();
+    outer.clear();
     Frame {
         function,
         place: 0,
         slots,
-        values: Stack::new(alloc),
-        callees: Stack::new(alloc),
+        values,
+        callees,
         walk: None,
-        outer: Stack::new(alloc),
+        outer,
     }
 }
 
@@ -73,7 +84,8 @@ fn enter<'a, W: Operate<'a>>(
     place: Place,
     function: FunctionId,
     slots: Slots<'a>,
-    active: &mut Active,
+    ended: Frame<'a, W::Walk>,
+    active: &mut Active<'a, W::Walk>,
     state: &mut W::State,
 ) -> Result<Frame<'a, W::Walk>, Stop>
     ensures { (codes : Codes) → Begins W.rest (λ below. machine.starting (W.operations world.now)
@@ -92,7 +104,7 @@ fn enter<'a, W: Operate<'a>>(
         return Err(stop_at(broken, place.file, place.line));
     }
     active.enter(function)?;
-    Ok(frame_at_entry(world.alloc(), function, slots))
+    Ok(frame_at_entry(ended, function, slots))
 }
 
 /// A function written in Starlark is called: the tests of the call, its tick, and a new frame.
@@ -102,7 +114,7 @@ pub(crate) fn call_function<'a, W: Operate<'a>>(
     place: Place,
     function: FunctionId,
     arguments: Arguments<'a>,
-    active: &mut Active,
+    active: &mut Active<'a, W::Walk>,
     state: &mut W::State,
 ) -> Result<Frame<'a, W::Walk>, Stop>
     ensures { Begins W.rest (λ below. machine.starts (W.operations world.now) (codes_of linked.now)
@@ -118,9 +130,12 @@ pub(crate) fn call_function<'a, W: Operate<'a>>(
         names,
         named,
     } = arguments;
+    let mut ended = active.spare(world.alloc());
+    let mut empty = replace(&mut ended.slots, Slots::new(world.alloc()));
+    empty.let_go();
     let defaults = world.defaults(state, function);
     let entry = slots_at_entry(
-        world.alloc(),
+        empty,
         code.params(),
         code.slots(),
         defaults,
@@ -131,7 +146,7 @@ pub(crate) fn call_function<'a, W: Operate<'a>>(
     let Some(slots) = entry else {
         return Err(refused(world, Refusal::Arity, place.file, place.line));
     };
-    enter(world, place, function, slots, active, state)
+    enter(world, place, function, slots, ended, active, state)
 }
 
 /// Which function written in Starlark is called, if one is.
@@ -151,7 +166,7 @@ pub(crate) fn call<'a, W: Operate<'a>>(
     place: Place,
     callee: &Callee<'a>,
     arguments: Arguments<'a>,
-    active: &mut Active,
+    active: &mut Active<'a, W::Walk>,
     state: &mut W::State,
 ) -> Result<Called<'a, W::Walk>, Stop>
     ensures { Enters W.rest (λ below. machine.start (W.operations world.now) (codes_of linked.now)

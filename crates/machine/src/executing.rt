@@ -40,8 +40,8 @@ pub(crate) enum Begun<'a, T> {
 }
 
 /// A function runs, which has no caller.
-fn alone<'a, T>(alloc: Global, top: Frame<'a, T>, active: Active) -> Running<'a, T>
-    ensures { result ≡ record { top = top.entry; below = []; active = active } }
+fn alone<'a, T: Drop>(alloc: Global, top: Frame<'a, T>, active: Active<'a, T>) -> Running<'a, T>
+    ensures { result ≡ record { top = top.entry; below = []; active = active.entry } }
 {
     Running {
         top,
@@ -63,9 +63,9 @@ fn begin_call<'a, W: Operate<'a>>(
         place.line (callee_seen callee.now) (arguments_seen arguments.entry) state.old) result
         state.new }
 {
-    let mut active = Active::new(world.alloc());
+    let mut active: Active<'a, W::Walk> = Active::new(world.alloc());
     match call(world, linked, place, callee, arguments, &mut active, state) {
-        Ok(Called::Value(value)) => Ok(Begun::Over(value)),
+        Ok(Called::Value(value)) => Ok(Begun::Over(value.into_value()?)),
         Ok(Called::Frame(top)) => Ok(Begun::Running(alone(world.alloc(), top, active))),
         Err(stop) => Err(stop),
     }
@@ -86,7 +86,7 @@ fn begin_function<'a, W: Operate<'a>>(
     let Some(line) = linked.def_line(function) else {
         return Err(refused(world, Refusal::WrongType, file, 0));
     };
-    let mut active = Active::new(world.alloc());
+    let mut active: Active<'a, W::Walk> = Active::new(world.alloc());
     let place = Place { file, line };
     match call_function(
         world,
@@ -117,7 +117,7 @@ fn begin_top<'a, W: Operate<'a>>(
         return Err(refused(world, Refusal::WrongType, file, 0));
     };
     let slots = unset(world.alloc(), code.slots())?;
-    let top = frame_at_entry(world.alloc(), function, slots);
+    let top = frame_at_entry(Frame::new(world.alloc()), function, slots);
     let active = Active::new(world.alloc());
     Ok(Begun::Running(alone(world.alloc(), top, active)))
 }

@@ -1,17 +1,18 @@
 //! What the parameters of a function get.
 
-ghost use Rattle.std.specs.Prelude.{◌≡◌, ◌++◌, None, position, replicate, slice_get, option_copied, bytes_eq, IfOk};
+ghost use Rattle.std.specs.Prelude.{◌≡◌, ◌++◌, [], None, position, replicate, slice_get, option_copied, option_map, bytes_eq, IfOk};
 ghost use Rattle.std.specs.List.{list_any, list_all};
 ghost use Rattle.std.specs.Map.{lookup};
 ghost use Rattle.meaning.specs.Entry.{all_known, defaults_of, entry, filled, paired};
 ghost use Rattle.frames.specs.Answers.{given};
+ghost use Rattle.operands.specs.Lying.{stored_value};
+ghost use Rattle.frames.specs.Kept.{defaults_seen};
 ghost use Rattle.machine.specs.Filled.{default_at, got};
 
-use frames::{Slots, Stack};
-use operands::Operand;
+use frames::{Defaults, Slots, Stack};
+use operands::{Operand, Stored};
 use plain::Text;
 use std::alloc::{AllocError, Global};
-use values::Value;
 
 /// The place of a name.
 fn place_of(name: &Text, names: &[Text]) -> Option<usize>
@@ -62,10 +63,10 @@ fn given_to<'a>(
     item: Option<Operand<'a>>,
     names: &[Text],
     named: &[Operand<'a>],
-    default: Option<&Value>,
+    default: Option<Stored<'a, '_>>,
 ) -> Result<Option<Operand<'a>>, AllocError>
-    ensures { IfOk result (λ o. o
-        ≡ got param.now item.entry (paired names.now named.now) (option_copied default.entry)) }
+    ensures { IfOk result (λ o. o ≡ got param.now item.entry (paired names.now named.now)
+        (option_map stored_value default.entry)) }
 {
     let by_name = named_value(param, names, named);
     match item {
@@ -76,7 +77,7 @@ fn given_to<'a>(
         None => match by_name {
             Some(value) => Ok(Some(value.share()?)),
             None => match default {
-                Some(value) => Ok(Some(Operand::own(value.share()?))),
+                Some(value) => Ok(Some(value.operand()?)),
                 None => Ok(None),
             },
         },
@@ -91,30 +92,36 @@ fn value_at<T>(values: &[T], index: usize) -> Option<&T>
 }
 
 /// The default of a parameter by its place, where so many parameters have none.
-fn default_of(defaults: &[Value], without: usize, index: usize) -> Option<&Value>
-    ensures { option_copied result ≡ default_at without index defaults.now }
+fn default_of<'a, 'b>(
+    defaults: Defaults<'a, 'b>,
+    without: usize,
+    index: usize,
+) -> Option<Stored<'a, 'b>>
+    ensures { option_map stored_value result
+        ≡ default_at without index (defaults_seen defaults.entry) }
 {
     if index < without {
         None
     } else {
-        value_at(defaults, index - without)
+        defaults.get(index - without)
     }
 }
 
-/// What the parameters get, in their order; None where the arguments don't fit them.
+/// What the parameters get, in their order, in slots that have none yet; None where the arguments don't fit them.
 fn fill<'a>(
-    alloc: Global,
+    empty: Slots<'a>,
     params: &[Text],
-    defaults: &[Value],
+    defaults: Defaults<'a, '_>,
     items: Stack<Operand<'a>>,
     names: &[Text],
     named: &[Operand<'a>],
 ) -> Result<Option<Slots<'a>>, AllocError>
+    requires { empty ≡ [] }
     ensures { IfOk result (λ o. o ≡ filled params.now items.entry (paired names.now named.now)
-        (defaults_of params.now defaults.now)) }
+        (defaults_of params.now (defaults_seen defaults.entry))) }
 {
     let mut items = items;
-    let mut slots = Slots::new(alloc);
+    let mut slots = empty;
     let without = params.len().saturating_sub(defaults.len());
     for (index, param) in params.iter().enumerate() {
         let default = default_of(defaults, without, index);
@@ -144,41 +151,33 @@ pub(crate) fn unset<'a>(alloc: Global, count: usize) -> Result<Slots<'a>, AllocE
     ensures { IfOk result (λ slots. slots ≡ replicate count None) }
 {
     let mut slots = Slots::new(alloc);
+    slots.reserve(count)?;
     pad(&mut slots, count)?;
     Ok(slots)
 }
 
-/// The values of a stack in order, the top first.
-fn in_order<'a>(alloc: Global, values: Stack<Operand<'a>>) -> Result<Vec<Operand<'a>>, AllocError>
-    ensures { IfOk result (λ v. v.items ≡ values.entry) }
-{
-    let mut values = values;
-    let mut all = Vec::new(alloc);
-    while let Some(value) = values.pop() {
-        all.push(value)?;
-    }
-    Ok(all)
-}
-
-/// The slots at the entry of a function; None where the arguments don't fit its parameters.
+/// The slots at the entry of a function, in slots that have none yet; None where the arguments don't fit its parameters.
 #[tactic(auto, unfolding(meaning::specs::Entry::entry))]
 pub(crate) fn slots_at_entry<'a>(
-    alloc: Global,
+    empty: Slots<'a>,
     params: &[Text],
     count: usize,
-    defaults: &[Value],
+    defaults: Defaults<'a, '_>,
     items: Stack<Operand<'a>>,
     names: &[Text],
     named: Stack<Operand<'a>>,
 ) -> Result<Option<Slots<'a>>, AllocError>
-    ensures { IfOk result (λ o. o ≡ entry params.now count defaults.now (given items.entry
-        names.now named.entry)) }
+    requires { empty ≡ [] }
+    ensures { IfOk result (λ o. o ≡ entry params.now count (defaults_seen defaults.entry)
+        (given items.entry names.now named.entry)) }
 {
-    let named = in_order(alloc, named)?;
+    let named = named.into_vec();
     if !are_known(params, names, named.as_slice()) {
         return Ok(None);
     }
-    match fill(alloc, params, defaults, items, names, named.as_slice())? {
+    let mut empty = empty;
+    empty.reserve(count)?;
+    match fill(empty, params, defaults, items, names, named.as_slice())? {
         None => Ok(None),
         Some(mut slots) => {
             pad(&mut slots, count.saturating_sub(params.len()))?;

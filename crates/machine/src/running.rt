@@ -28,7 +28,7 @@ use values::{Broken, Value};
 pub(crate) struct Running<'a, T> {
     pub(crate) top: Frame<'a, T>,
     pub(crate) below: Stack<Frame<'a, T>>,
-    pub(crate) active: Active,
+    pub(crate) active: Active<'a, T>,
 }
 
 /// What an instruction calls, and with which arguments.
@@ -88,7 +88,7 @@ fn go_on<'a, W: Operate<'a>>(
         r.new s }
 {
     match called {
-        Called::Value(value) => r.top.values.push(Operand::own(value))?,
+        Called::Value(value) => r.top.values.push(value)?,
         Called::Frame(frame) => {
             let caller = replace(&mut r.top, frame);
             r.below.push(caller)?;
@@ -111,7 +111,8 @@ fn leave_with<'a, W: Operate<'a>>(
     match r.below.pop() {
         None => Ok(Step::Over(value.into_value()?)),
         Some(caller) => {
-            r.top = caller;
+            let ended = replace(&mut r.top, caller);
+            r.active.keep(ended);
             r.top.values.push(value)?;
             Ok(Step::More)
         }

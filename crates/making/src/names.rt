@@ -1,25 +1,22 @@
 //! Names of the top level, and functions.
-ghost use Rattle.std.specs.Prelude.{◌≡◌, Ok, Err, Some, None, MatchResult, IfOk, option_copied, slice_get, nat_eq, length};
+ghost use Rattle.std.specs.Prelude.{◌≡◌, Ok, Err, Some, None, MatchResult, option_copied, option_map, slice_get, nat_eq, length};
 ghost use Rattle.values.specs.Ticking.{FaultOr};
+ghost use Rattle.operands.specs.Lying.{stored_value};
 ghost use Rattle.operations.specs.States.{Does, Stays};
 ghost use Rattle.operations.specs.Names.{name_value, set_global, set_loaded, define, in_slot, or_loaded};
 
-use operands::{Bindings, Operand};
+use operands::{Bindings, Operand, Stored};
 use operations::State;
 use plain::{Shared, Text};
-use std::alloc::{AllocError, Global};
+use std::alloc::Global;
 use values::{Broken, FunctionRef, Items, Leaf, MadeId, Value};
 
-/// The value of a name of the top level, once it is bound. One that a load binds is lent, and no count is touched.
-///
-/// # Errors
-///
-/// `AllocError` where the count of a global is at its greatest.
-pub fn name_value<'a>(state: &State<'a>, number: usize) -> Result<Option<Operand<'a>>, AllocError>
-    ensures { IfOk result (λ o. o ≡ name_value state.now number) }
+/// The value of a name of the top level, once it is bound, where it is stored. One that a load binds is lent.
+pub fn name_value<'a, 'b>(state: &'b State<'a>, number: usize) -> Option<Stored<'a, 'b>>
+    ensures { option_map stored_value result ≡ name_value state.now number }
 {
     match slot(state.globals.as_slice(), number) {
-        Some(value) => Ok(Some(Operand::own(value.share()?))),
+        Some(value) => Some(Stored::Kept(value)),
         None => loaded_value(&state.loaded, number),
     }
 }
@@ -35,12 +32,12 @@ fn slot(slots: &[Option<Value>], number: usize) -> Option<&Value>
 }
 
 /// What a name that a load binds holds, once it is bound.
-fn loaded_value<'a>(loaded: &Bindings<'a>, number: usize) -> Result<Option<Operand<'a>>, AllocError>
-    ensures { IfOk result (λ o. o ≡ in_slot (slice_get loaded.now number)) }
+fn loaded_value<'a, 'b>(loaded: &'b Bindings<'a>, number: usize) -> Option<Stored<'a, 'b>>
+    ensures { option_map stored_value result ≡ in_slot (slice_get loaded.now number) }
 {
     match loaded.get(number) {
-        Some(Some(value)) => Ok(Some(value.share()?)),
-        _ => Ok(None),
+        Some(Some(value)) => Some(value.stored()),
+        _ => None,
     }
 }
 

@@ -1,10 +1,15 @@
 -- Operands, as the values that they are: of one's own, or lent by what lives longer.
+use Rattle.std.specs.Prelude.{ℕ, List, []}
+use Rattle.values.specs.declared.key.Key.{Key}
+use Rattle.values.specs.declared.key.Key.TheVariants as keys
 use Rattle.values.specs.declared.value.Value.{Value}
 use Rattle.values.specs.Seeing.{item_value}
 use Rattle.operands.specs.declared.operand.Lies.{Lies}
 use Rattle.operands.specs.declared.operand.Lies.TheVariants as lies
 use Rattle.operands.specs.declared.near.Near.{Near}
 use Rattle.operands.specs.declared.near.Near.TheVariants as near
+use Rattle.operands.specs.declared.stored.Stored.{Stored}
+use Rattle.operands.specs.declared.stored.Stored.TheVariants as stored
 
 -- where an operand lies doesn't matter to a contract
 abbrev pub lying : Lies → Value
@@ -14,3 +19,12 @@ lying (lies.Lent i) = item_value i
 abbrev pub near_value : Near → Value
 near_value (near.Here v) = v.now
 near_value (near.Made v) = v
+
+abbrev pub stored_value : Stored → Value
+stored_value (stored.Lent i) = item_value i
+stored_value (stored.Kept v) = v.now
+
+-- the bytes of a key that is a text
+abbrev pub key_text : Key → List ℕ
+key_text (keys.Text t) = t
+key_text _ = []

@@ -1,10 +1,14 @@
 //! Operands.
-ghost use Rattle.std.specs.Prelude.{◌≡◌, IfOk};
-ghost use Rattle.values.specs.Seeing.{item_value};
+ghost use Rattle.std.specs.Prelude.{◌≡◌, List, IfOk, MatchOption};
+ghost use Rattle.values.specs.declared.cells.Cell.{Cell};
+ghost use Rattle.values.specs.Seeing.{item_value, seen};
+ghost use Rattle.values.specs.Shape.{shape};
+ghost use Rattle.operands.specs.Lying.{stored_value};
 
+use crate::Stored;
 use std::alloc::AllocError;
 use std::marker::Model;
-use values::{Item, Value};
+use values::{Broken, Item, Seen, Value};
 
 /// Where an operand lies.
 #[derive(Drop)]
@@ -62,6 +66,28 @@ impl<'a> Operand<'a> {
         }
     }
 
+    /// What is lent shows this, whatever heap there is, for as long as it is lent: None for a value of one's own, and for a
+    /// cell, which only its heap can show.
+    pub fn lent_seen(&self) -> Option<Seen<'a>>
+        ensures { MatchOption result Unit
+            (λ s. (heap : List Cell) → seen s ≡ shape heap self.now) }
+    {
+        match &self.lies {
+            Lies::Own(_) => None,
+            Lies::Lent(item) => frozen_item(*item),
+        }
+    }
+
+    /// The value, where it is stored.
+    pub fn stored<'b>(&'b self) -> Stored<'a, 'b>
+        ensures { stored_value result ≡ self.now }
+    {
+        match &self.lies {
+            Lies::Own(value) => Stored::Kept(value),
+            Lies::Lent(item) => Stored::Lent(*item),
+        }
+    }
+
     /// Another operand of the same value: no count where it is lent, and else at most one.
     ///
     /// # Errors
@@ -70,10 +96,18 @@ impl<'a> Operand<'a> {
     pub fn share(&self) -> Result<Operand<'a>, AllocError>
         ensures { IfOk result (λ o. o ≡ self.now) }
     {
-        match &self.lies {
-            Lies::Own(value) => Ok(Operand::own(value.share()?)),
-            Lies::Lent(item) => Ok(Operand::lent(*item)),
-        }
+        self.stored().operand()
+    }
+
+    /// The same value as one's own, for what outlives where it lies: at most a count more.
+    ///
+    /// # Errors
+    ///
+    /// `AllocError` where a count is at its greatest.
+    pub fn into_own<'b>(self) -> Result<Operand<'b>, AllocError>
+        ensures { IfOk result (λ o. o ≡ self.entry) }
+    {
+        Ok(Operand::own(self.into_value()?))
     }
 
     /// The value, for what keeps it: at most a count more where it is lent, and else none.
@@ -88,5 +122,39 @@ impl<'a> Operand<'a> {
             Lies::Own(value) => Ok(value),
             Lies::Lent(item) => item.to_value(),
         }
+    }
+}
+
+/// A value that was made, or why there is none.
+pub fn owned<'a>(made: Result<Value, Broken>) -> Result<Operand<'a>, Broken>
+    ensures { result ≡ made }
+{
+    match made {
+        Ok(value) => Ok(Operand::own(value)),
+        Err(broken) => Err(broken),
+    }
+}
+
+/// What an item shows in every heap, if it is no cell.
+fn frozen_item<'a>(item: Item<'a>) -> Option<Seen<'a>>
+    ensures { MatchOption result Unit
+        (λ s. (heap : List Cell) → seen s ≡ shape heap (item_value item.entry)) }
+{
+    match item {
+        Item::Value(value) => frozen_value(value),
+        Item::Tree(tree) => Some(tree.see()),
+        Item::Key(key) => Some(Seen::Key(key)),
+    }
+}
+
+/// What a value shows in every heap, if it is no cell.
+fn frozen_value<'a>(value: &'a Value) -> Option<Seen<'a>>
+    ensures { MatchOption result Unit (λ s. (heap : List Cell) → seen s ≡ shape heap value.now) }
+{
+    match value {
+        Value::Key(key) => Some(Seen::Key(key)),
+        Value::Leaf(leaf) => Some(Seen::Leaf(leaf)),
+        Value::Frozen(branch) => Some(branch.see()),
+        Value::Cell(_) => None,
     }
 }

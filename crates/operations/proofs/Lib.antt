@@ -2,5 +2,6 @@ pub mod Rows
 pub mod CallRows
 pub mod OperatorRows
 pub mod BuiltInRows
+pub mod NameRows
 pub mod Turns
 pub mod StringRows

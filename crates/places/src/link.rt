@@ -17,7 +17,7 @@ pub trait Link<'a> {
         ensures { option_value result ≡ (linked self.now).names file number };
 
     /// The defaults that a function's `def` kept, by the number of its file and its own.
-    fn defaults(&self, file: usize, number: usize) -> &[Value]
+    fn defaults(&self, file: usize, number: usize) -> &'a [Value]
         ensures { result.now ≡ (linked self.now).defaults
             (record { «module» = file; number = number }) };
 

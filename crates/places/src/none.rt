@@ -20,7 +20,7 @@ impl<'a> Link<'a> for NoFiles {
         None
     }
 
-    fn defaults(&self, _file: usize, _number: usize) -> &[Value] {
+    fn defaults(&self, _file: usize, _number: usize) -> &'a [Value] {
         &[]
     }
 

@@ -21,18 +21,3 @@ module _ (eq : Value → Value → Count → Ticking Bool) (x : Value) (xs : Lis
 -- an item more was copied
 pub copied : (xs gs : List Value) (i : ℕ) (v : Value) → slice_get gs i ≡ Some v → (xs ++ v ∷ []) ++ drop (i + 1) gs ≡ xs ++ drop i gs
 copied xs gs i v p = append_assoc xs (v ∷ []) (drop (i + 1) gs) ∙ ap (λ l. xs ++ l) (sym (drop_at gs i v p))
-
-abbrev first_key : Option (Key × Value) → Option Value
-first_key (Some f) = Some (value.Key f.0)
-first_key None = None
-
--- the keys of entries as values, by place
-pub key_there : (es : List (Key × Value)) (i : ℕ) (k : Key) (v : Value) → slice_get es i ≡ Some (k, v) → slice_get (map value.Key (keys_of es)) i ≡ Some (value.Key k)
-key_there [] i k v p = absurd (cc)
-key_there (e ∷ es) zero k v p = ap first_key p
-key_there (e ∷ es) (suc i) k v p = key_there es i k v p
-
-pub no_key_there : (es : List (Key × Value)) (i : ℕ) → length es ≤ i → slice_get (map value.Key (keys_of es)) i ≡ None
-no_key_there [] i l = refl
-no_key_there (e ∷ es) zero l = absurd (omega arith)
-no_key_there (e ∷ es) (suc i) l = no_key_there es i (omega (arith, l))

@@ -8,27 +8,37 @@ ghost use Rattle.operations.specs.Making.{text};
 ghost use Rattle.operations.specs.Items.{item, item_in, item_at, value_at, key_item, byte_at, byte_text, got, or_else};
 
 use crate::reading::{key_of, number_of};
+use operands::Operand;
 use operations::State;
 use plain::Text;
 use std::alloc::{AllocError, Global};
 use values::{Broken, Group, Item, Key, Kind, Seen, Table, Value, place_of};
 
-/// `base[index]` of a string, a list, a tuple or a dict.
+/// `base[index]` of a string, a list, a tuple or a dict. An item of a base that is lent is lent.
 ///
 /// # Errors
 ///
 /// `type`, where the base has no items or the index isn't one of it; then `index`, or of a dict `key`.
-pub fn item(alloc: Global, state: &State, base: Item<'_>, index: Item<'_>) -> Result<Value, Broken>
-    ensures { Does (item (item_value base.entry) (item_value index.entry)) state.now result
-        state.now }
+pub fn item<'a>(
+    alloc: Global,
+    state: &State<'_>,
+    base: &Operand<'a>,
+    index: Item<'_>,
+) -> Result<Operand<'a>, Broken>
+    ensures { Does (item base.now (item_value index.entry)) state.now result state.now }
 {
-    let base = state.heap.see_item(base);
     let index = state.heap.see_item(index);
-    item_in(alloc, &base, &index)
+    if let Some(base) = base.lent_seen() {
+        return item_in(alloc, &base, &index);
+    }
+    match item_in(alloc, &state.heap.see_item(base.item()), &index) {
+        Ok(item) => Ok(item.into_own()?),
+        Err(broken) => Err(broken),
+    }
 }
 
 /// The item of what a base shows.
-fn item_in(alloc: Global, base: &Seen<'_>, index: &Seen<'_>) -> Result<Value, Broken>
+fn item_in<'a>(alloc: Global, base: &Seen<'a>, index: &Seen<'_>) -> Result<Operand<'a>, Broken>
     ensures { Gives (item_in (seen base.now) (seen index.now)) result }
 {
     match base {
@@ -41,7 +51,7 @@ fn item_in(alloc: Global, base: &Seen<'_>, index: &Seen<'_>) -> Result<Value, Br
 }
 
 /// The byte of a string at an index, as a string.
-fn key_item(alloc: Global, key: &Key, index: Option<i64>) -> Result<Value, Broken>
+fn key_item<'a>(alloc: Global, key: &Key, index: Option<i64>) -> Result<Operand<'a>, Broken>
     ensures { Gives (key_item key.now index) result }
 {
     match (key, index) {
@@ -51,7 +61,7 @@ fn key_item(alloc: Global, key: &Key, index: Option<i64>) -> Result<Value, Broke
 }
 
 /// The byte at an index, as a string, or `index`.
-fn byte_at(alloc: Global, text: &Text, index: i64) -> Result<Value, Broken>
+fn byte_at<'a>(alloc: Global, text: &Text, index: i64) -> Result<Operand<'a>, Broken>
     ensures { Gives (byte_at text.now index) result }
 {
     let bytes = text.as_str().as_bytes();
@@ -62,14 +72,14 @@ fn byte_at(alloc: Global, text: &Text, index: i64) -> Result<Value, Broken>
 }
 
 /// A byte as a string.
-fn byte_text(alloc: Global, byte: u8) -> Result<Value, Broken>
+fn byte_text<'a>(alloc: Global, byte: u8) -> Result<Operand<'a>, Broken>
     ensures { Gives (byte_text (Some byte)) result }
 {
     if byte >= 128 {
         return Err(Broken::Kind(Kind::Index));
     }
     let text = one_byte(alloc, byte)?;
-    Ok(Value::Key(Key::Text(text)))
+    Ok(Operand::own(Value::Key(Key::Text(text))))
 }
 
 /// A text of one byte.
@@ -83,7 +93,7 @@ fn one_byte(alloc: Global, byte: u8) -> Result<Text, AllocError>
 }
 
 /// The item at an index, or `type` where there is no index.
-fn indexed(items: Group<'_>, index: Option<i64>) -> Result<Value, Broken>
+fn indexed<'a>(items: Group<'a>, index: Option<i64>) -> Result<Operand<'a>, Broken>
     ensures { Gives (of_type index (item_at (group_items items.entry))) result }
 {
     match index {
@@ -93,20 +103,17 @@ fn indexed(items: Group<'_>, index: Option<i64>) -> Result<Value, Broken>
 }
 
 /// The item at an index, from the end where it is negative, or `index`.
-fn item_at(items: Group<'_>, index: i64) -> Result<Value, Broken>
+fn item_at<'a>(items: Group<'a>, index: i64) -> Result<Operand<'a>, Broken>
     ensures { Gives (item_at (group_items items.entry) index) result }
 {
     match place_of(index, items.len()) {
-        Some(place) => {
-            let value = items.item(place).to_value()?;
-            Ok(value)
-        }
+        Some(place) => Ok(Operand::lent(items.item(place))),
         None => Err(Broken::Kind(Kind::Index)),
     }
 }
 
 /// The value of a key, or `type` where there is no key.
-fn keyed(entries: Table<'_>, key: Option<&Key>) -> Result<Value, Broken>
+fn keyed<'a>(entries: Table<'a>, key: Option<&Key>) -> Result<Operand<'a>, Broken>
     ensures { Gives (of_type (option_copied key.entry) (value_at (table_entries entries.entry)))
         result }
 {
@@ -117,26 +124,24 @@ fn keyed(entries: Table<'_>, key: Option<&Key>) -> Result<Value, Broken>
 }
 
 /// The value of a key, or `key`.
-fn value_at(entries: Table<'_>, key: &Key) -> Result<Value, Broken>
+fn value_at<'a>(entries: Table<'a>, key: &Key) -> Result<Operand<'a>, Broken>
     ensures { Gives (value_at (table_entries entries.entry) key.now) result }
 {
     match entries.get(key) {
-        Some(item) => {
-            let value = item.to_value()?;
-            Ok(value)
-        }
+        Some(item) => Ok(Operand::lent(item)),
         None => Err(Broken::Kind(Kind::Key)),
     }
 }
 
-/// `dict.get(key, default)`: `type` where the key can't be one.
-pub fn get(entries: Table<'_>, default: Item<'_>, key: &Seen<'_>) -> Result<Value, Broken>
-    ensures { Gives (got (table_entries entries.entry) (item_value default.entry) (seen key.now))
-        result }
+/// `dict.get(key, default)` of these entries: `type` where the key can't be one. The value of a key is lent.
+pub fn get<'a>(entries: Table<'a>, default: &Value, key: &Seen<'_>) -> Result<Operand<'a>, Broken>
+    ensures { Gives (got (table_entries entries.entry) default.now (seen key.now)) result }
 {
     let Some(key) = key_of(key) else {
         return Err(Broken::Kind(Kind::Wrong));
     };
-    let value = entries.get(key).unwrap_or(default).to_value()?;
-    Ok(value)
+    match entries.get(key) {
+        Some(value) => Ok(Operand::lent(value)),
+        None => Ok(Operand::own(default.share()?)),
+    }
 }

@@ -22,4 +22,4 @@ pub use operations::{Arithmetic, Defaults, Made, Method, State};
 pub use operators::{add_in_place, calculate, compare, negate, plus};
 pub use reading::{key_of, number_of, sequence_of, text_of};
 pub use truths::truth;
-pub use walks::{begin, end, tick, walked_at};
+pub use walks::{begin, end, tick};

@@ -1,14 +1,15 @@
-//! Ticks, and walks of lists, tuples and dicts. A walk is a place among the items, which can't change until it ends.
-ghost use Rattle.std.specs.Prelude.{◌≡◌, Ok, Err, MatchResult, MatchOption, slice_get, map, Some, None, length, ◌≤◌};
-ghost use Rattle.values.specs.Ticking.{FaultOr, ticked};
-ghost use Rattle.values.specs.Shape.{shape};
-ghost use Rattle.values.specs.Seeing.{seen, item_value, option_value, group_items, table_entries};
-ghost use Rattle.values.specs.Visits.{keys_of};
+//! Ticks, and walks of lists, tuples and dicts.
+ghost use Rattle.std.specs.Prelude.{◌≡◌, Ok, List, MatchResult, None};
+ghost use Rattle.values.specs.Ticking.{FaultOr};
+ghost use Rattle.values.specs.Cells.{walk_begun_at};
+ghost use Rattle.values.specs.declared.cells.Cell.{Cell};
+ghost use Rattle.values.specs.Shape.{shape, value_of};
+ghost use Rattle.values.specs.Seeing.{item_value};
 ghost use Rattle.operations.specs.States.{Does, Stays, tick};
 ghost use Rattle.operations.specs.Walks.{begin, ended, walked_items};
 
 use operations::State;
-use values::{Broken, Group, Item, Seen, Table, Value};
+use values::{Broken, Frozen, Held, Item, Kind, Value};
 
 /// One tick, or `steps`.
 pub fn tick(state: &mut State) -> Result<(), Broken>
@@ -22,47 +23,36 @@ pub fn tick(state: &mut State) -> Result<(), Broken>
 /// # Errors
 ///
 /// `type`, where the value is no list, tuple or dict.
-pub fn begin(state: &mut State, walked: &Value) -> Result<(), Broken>
-    ensures { MatchResult result (λ _. begin walked.now state.old
-        ≡ Ok (walked_items (shape state.old.heap walked.now), state.new))
-        (λ e. Stays state.old state.new × FaultOr (begin walked.now state.old) e) }
+pub fn begin(state: &mut State, walked: Item<'_>) -> Result<(), Broken>
+    ensures { MatchResult result (λ _. begin (item_value walked.entry) state.old
+        ≡ Ok (walked_items (shape state.old.heap (item_value walked.entry)), state.new))
+        (λ e. Stays state.old state.new × FaultOr (begin (item_value walked.entry) state.old) e) }
 {
-    match state.heap.begin_walk(walked) {
-        Ok(_) => Ok(()),
-        Err(broken) => Err(broken),
+    match walked {
+        Item::Value(value) => match state.heap.begin_walk(value) {
+            Ok(_) => Ok(()),
+            Err(broken) => Err(broken),
+        },
+        Item::Tree(tree) => tree_walked(tree),
+        Item::Key(_) => Err(Broken::Kind(Kind::Wrong)),
     }
 }
 
-/// The item of a walked value at a place, None behind the last.
-pub fn walked_at<'a>(state: &'a State, walked: &'a Value, place: usize) -> Option<Item<'a>>
-    ensures { option_value result ≡ slice_get (walked_items (shape state.now.heap walked.now))
-        place }
+/// A frozen value may be walked where it is a list, a tuple or a dict; no walk over one is counted.
+fn tree_walked(tree: &Frozen) -> Result<(), Broken>
+    ensures { (heap : List Cell) → MatchResult result
+        (λ _. walk_begun_at heap (value_of tree.now) ≡ Ok (None, heap))
+        (λ e. FaultOr (walk_begun_at heap (value_of tree.now)) e) }
 {
-    match state.heap.see(walked) {
-        Seen::List(items) => group_at(items, place),
-        Seen::Tuple(items) => group_at(items, place),
-        Seen::Dict(entries) => key_at(entries, place),
-        _ => None,
-    }
-}
-
-fn group_at<'a>(items: Group<'a>, place: usize) -> Option<Item<'a>>
-    ensures { option_value result ≡ slice_get (group_items items.entry) place }
-{
-    if place < items.len() {
-        Some(items.item(place))
-    } else {
-        None
-    }
-}
-
-fn key_at<'a>(entries: Table<'a>, place: usize) -> Option<Item<'a>>
-    ensures { option_value result ≡ slice_get (map Value.Key
-        (keys_of (table_entries entries.entry))) place }
-{
-    match entries.at(place) {
-        Some((key, _)) => Some(Item::Key(key)),
-        None => None,
+    match tree.held() {
+        Held::Branch(branch) => {
+            if branch.is_walkable() {
+                Ok(())
+            } else {
+                Err(Broken::Kind(Kind::Wrong))
+            }
+        }
+        _ => Err(Broken::Kind(Kind::Wrong)),
     }
 }
 

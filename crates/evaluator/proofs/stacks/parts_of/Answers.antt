@@ -6,6 +6,6 @@ use Rattle.evaluator.proofs.stacks.parts_of.Goals as goal
 pub loop-place-preserved : goal.loop-place-preserved
 loop-place-preserved c =
     ap (λ l. l ++ drop (c.loop-place.place + 1) (group_items c.args.group)) c.in_ok-push.ensures.items
-    ∙ copied c.loop-place.parts.items (group_items c.args.group) c.loop-place.place c.in_ok-to_value.field-0
-    (c.item.ensures ∙ ap Some (sym c.in_ok-to_value.ensures))
+    ∙ copied c.loop-place.parts.items (group_items c.args.group) c.loop-place.place c.lent.result
+    (c.item.ensures ∙ ap Some (sym c.lent.ensures))
     ∙ c.loop-place.invariant

@@ -1,6 +1,5 @@
-use Rattle.std.proofs.Common.{[], drop, sym, ap, ◌∙◌, arith}
+use Rattle.std.proofs.Common.{[], drop, sym, ◌∙◌, arith}
 use Rattle.std.proofs.lemmas.Str.Pattern.{NoCharPasses-char, drop_at_char}
-use Rattle.operations.specs.Fields.{last_part}
 use Rattle.finding.proofs.Names.{last_from, last_whole}
 use Rattle.finding.proofs.parts.last_part.Goals as goal
 

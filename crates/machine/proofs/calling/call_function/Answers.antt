@@ -1,11 +1,11 @@
-use Rattle.std.proofs.Common.{◌≡◌, ◌∙◌, sym, ap, Some}
+use Rattle.std.proofs.Common.{◌≡◌, ◌∙◌, sym, ap, subst, Some}
 use Rattle.std.specs.Prelude.{option_copied}
 use Rattle.meaning.specs.Entry.{entry}
 use Rattle.meaning.specs.Instructions.{code_at}
 use Rattle.meaning.specs.Machine.{starting, starts}
 use Rattle.frames.specs.Answers.{id_seen}
 use Rattle.machine.specs.ActiveView.{ids_seen}
-use Rattle.machine.specs.CallView.{arguments_seen, here_at}
+use Rattle.machine.specs.CallView.{Begins, arguments_seen, here_at}
 use Rattle.machine.specs.LinkedView.{codes_of}
 use Rattle.machine.proofs.CallSteps.{begins_same, starts_fits}
 use Rattle.machine.proofs.calling.call_function.Goals as goal
@@ -26,4 +26,6 @@ returns g c =
     ∙ (sym c.in_ok-entry.ensures ∙ c.in-Some-entry.is))) in
     begins_same g.W.Operate.rest (λ below. starts ops codes here f a below c.args.state.now (code_at codes f))
     (λ below. starting ops codes here f below c.args.state.now (Some c.in-Some-entry.slots)) c.enter.result (ids_seen c.enter.new.active) c.enter.new.state
-    (λ below. starts_fits ops codes here f a below c.args.state.now (code_at codes f) d c.in-Some-entry.slots e t) (c.enter.ensures codes)
+    (λ below. starts_fits ops codes here f a below c.args.state.now (code_at codes f) d c.in-Some-entry.slots e t)
+    (subst (λ xs. Begins g.W.Operate.rest (λ below. starting ops codes (here_at c.args.place (ids_seen xs)) f below c.args.state.now (Some c.in-Some-entry.slots))
+    c.enter.result (ids_seen c.enter.new.active) c.enter.new.state) c.spare-ended.ensures (c.enter.ensures codes))

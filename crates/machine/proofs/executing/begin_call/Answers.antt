@@ -1,5 +1,5 @@
-use Rattle.std.proofs.Common.{◌∙◌, [], sym, ap, subst}
-use Rattle.meaning.specs.Machine.{more, start}
+use Rattle.std.proofs.Common.{◌∙◌, [], Ok, sym, ap, subst}
+use Rattle.meaning.specs.Machine.{more, over, start}
 use Rattle.frames.specs.Answers.{callee_seen}
 use Rattle.frames.specs.Seen.{Stops}
 use Rattle.machine.specs.ActiveView.{ids_seen}
@@ -12,7 +12,8 @@ pub returns-in-Ok-Value : goal.returns-in-Ok-Value
 returns-in-Ok-Value g c =
     ap (λ xs. start (g.W.Operate.operations c.args.world.now) (codes_of c.args.linked.now) (here_at c.args.place (ids_seen xs)) (callee_seen c.args.callee.now)
     (arguments_seen c.args.arguments) [] c.args.state.now) (sym c.new-active.ensures)
-    ∙ (c.in-Ok-Value.ensures [] ∙ ap (λ q. entered g.W.Operate.rest [] (ids_seen c.call.new.active) q c.call.new.state) c.in-Ok-Value.field-0-is)
+    ∙ (c.in-Ok-Value.ensures [] ∙ (ap (λ q. entered g.W.Operate.rest [] (ids_seen c.call.new.active) q c.call.new.state) c.in-Ok-Value.field-0-is
+    ∙ ap (λ v. over (Ok (v, c.call.new.state))) (sym c.in_ok-into_value-in-Ok-Value.ensures)))
 
 pub returns-in-Ok-Frame : goal.returns-in-Ok-Frame
 returns-in-Ok-Frame g c =

@@ -1,9 +1,10 @@
 use Rattle.std.proofs.Common.{◌∙◌, sym}
+use Rattle.frames.specs.Kept.{defaults_seen}
 use Rattle.machine.proofs.Parameters.{default_none, default_some}
 use Rattle.machine.proofs.filling.default_of.Goals as goal
 
 pub returns-then-index-without : goal.returns-then-index-without
-returns-then-index-without c = sym (default_none c.args.without c.args.index c.args.defaults.now c.if-index-without.true)
+returns-then-index-without c = sym (default_none c.args.without c.args.index (defaults_seen c.args.defaults) c.if-index-without.true)
 
 pub returns-else-index-without : goal.returns-else-index-without
-returns-else-index-without c = c.value_at.ensures ∙ sym (default_some c.args.without c.args.index c.args.defaults.now c.if-index-without.false)
+returns-else-index-without c = c.get.ensures ∙ sym (default_some c.args.without c.args.index (defaults_seen c.args.defaults) c.if-index-without.false)

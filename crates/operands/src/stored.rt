@@ -1,0 +1,30 @@
+//! Values where they are stored.
+ghost use Rattle.std.specs.Prelude.{◌≡◌, IfOk};
+ghost use Rattle.operands.specs.Lying.{stored_value};
+
+use crate::Operand;
+use std::alloc::AllocError;
+use values::{Item, Value};
+
+/// A value that is stored: where what lives longer lends it, or where it is kept.
+#[derive(Clone, Copy)]
+pub enum Stored<'a, 'b> {
+    Lent(Item<'a>),
+    Kept(&'b Value),
+}
+
+impl<'a, 'b> Stored<'a, 'b> {
+    /// An operand of it: no count where it is lent, and else at most one.
+    ///
+    /// # Errors
+    ///
+    /// `AllocError` where a count is at its greatest.
+    pub fn operand(self) -> Result<Operand<'a>, AllocError>
+        ensures { IfOk result (λ o. o ≡ stored_value self.entry) }
+    {
+        match self {
+            Stored::Lent(item) => Ok(Operand::lent(item)),
+            Stored::Kept(value) => Ok(Operand::own(value.share()?)),
+        }
+    }
+}
