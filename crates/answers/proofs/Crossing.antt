@@ -1,67 +1,14 @@
 -- What workers share and hand on may cross threads.
-use denote.Param.Send.{IsSend, IsSync, sendable}
+use denote.Param.Send.{IsSync, sendable}
 use Rattle.std.proofs.Crossing as std
-use Rattle.values.proofs.Crossing.{leaf_send, leaf_sync, frozen_sync}
-use Rattle.values.proofs.key.Key.TheSendSync as key
 use Rattle.values.proofs.leaf.Provider.TheSendSync as provider
-use Rattle.values.proofs.frozen.Branch.TheLaws.TheKnot as frozen
-use Rattle.values.specs.contracts.frozen.Branch as Branch
-use Rattle.values.specs.contracts.value.Value as Value
-use Rattle.values.specs.contracts.cells.Items as Items
-use Rattle.values.specs.contracts.cells.Fields as Fields
-use Rattle.operations.specs.contracts.state.Defaults as Defaults
-use Rattle.evaluation.specs.contracts.handed.Globals as Globals
-use Rattle.evaluation.specs.contracts.handed.Module as Module
-use Rattle.evaluation.proofs.made.Made.TheSendSync as made
-use Rattle.evaluation.proofs.names.TopNames.TheSendSync as names
-use Rattle.modules.proofs.loaded.Modules.TheSendSync as modules
 use Rattle.modules.proofs.sorting.FileFault.TheSendSync as failing
 use Rattle.plain.proofs.text.Text.TheSendSync as text
-use Rattle.language_calls.specs.contracts.bound.DefaultInfo as DefaultInfo
-use Rattle.sources.proofs.sources.Sources.TheSendSync as sources
-use Rattle.loader.specs.contracts.evaluating.Evaluator as Evaluator
-use Rattle.loader.specs.contracts.loaded.LoadedFiles as LoadedFiles
+use Rattle.loader.proofs.Crossing.{loaded_sync}
 use Rattle.packages.proofs.kept.Package.TheSendSync as declaring
 use Rattle.packages.specs.contracts.all_targets.Targets as Targets
 use Rattle.graph.proofs.graph.Graph.TheSendSync as graph
 use Rattle.reporting.proofs.Crossing.{outcome_send, outcome_sync}
-
--- ---- values, and modules
-
-pub branch_send : IsSend Branch.the_row
-branch_send = search (leaf_send, leaf_sync, provider.the_send, provider.the_sync, frozen.both_send-Branch, std.crosses, sendable) depth 60 fits 20000
-
-pub branch_sync : IsSync Branch.the_row
-branch_sync = search (leaf_send, leaf_sync, provider.the_send, provider.the_sync, frozen.both_sync-Branch, std.crosses, sendable) depth 60 fits 20000
-
-pub value_sync : IsSync (Value.the_field).row
-value_sync = search (branch_sync, leaf_sync, key.the_field_sync, sendable) depth 60 fits 20000
-
-pub items_sync : IsSync Items.the_row
-items_sync = search (value_sync, std.crosses, sendable) depth 60 fits 20000
-
-pub fields_sync : IsSync Fields.the_row
-fields_sync = search (value_sync, std.crosses, sendable) depth 60 fits 20000
-
-pub defaults_sync : IsSync Defaults.the_row
-defaults_sync = search (items_sync, std.crosses, sendable) depth 60 fits 20000
-
-pub globals_sync : IsSync Globals.the_row
-globals_sync = search (frozen_sync, std.crosses, sendable) depth 60 fits 20000
-
-pub module_sync : IsSync (Module.the_field).row
-module_sync = search (globals_sync, fields_sync, defaults_sync, made.the_field_sync, names.the_send, names.the_sync, std.crosses, sendable) depth 60 fits 20000
-
--- ---- a workspace
-
-pub default_info_sync : IsSync (DefaultInfo.the_field).row
-default_info_sync = search (value_sync, std.crosses, sendable) depth 60 fits 20000
-
-pub evaluator_sync : IsSync (Evaluator.the_field).row
-evaluator_sync = search (default_info_sync, sources.the_sync, std.crosses, sendable) depth 60 fits 20000
-
-pub loaded_sync : IsSync LoadedFiles.the_row
-loaded_sync = search (module_sync, modules.the_sync, evaluator_sync, std.crosses, sendable) depth 60 fits 20000
 
 pub targets_sync : IsSync Targets.the_row
 targets_sync = search (loaded_sync, declaring.the_field_sync, failing.the_field_sync, text.the_sync, std.crosses, sendable) depth 60 fits 20000

@@ -6,6 +6,7 @@ use Rattle.lexer.specs.declared.fault.FaultKind.{FaultKind}
 use Rattle.values.specs.declared.ticks.Kind.{Kind}
 use Rattle.modules.specs.declared.sorting.FileFault.{FileFault}
 use Rattle.reporting.specs.declared.made.Report.{Report}
+use Rattle.reporting.specs.Reported.{report_bytes}
 use Rattle.loader.specs.Loaded.{AreFilesOf}
 use Rattle.answers.specs.Reports.{IsTooMany, Reports}
 use Rattle.std.proofs.lemmas.List.Elements.{All-map}
@@ -66,7 +67,7 @@ module _ (files : List Pair) (limit : ℕ) (asked : List LabelParts) (g : GraphV
     }
 
     pub reports : {E : Type 0} (fs : List (FileFault FaultKind Kind)) (ns : List Node) (result : Result Report E) → fs ≡ faults files limit → ns ≡ nodes_of r es
-        → IfOk result (λ m. string_bytes m.text ≡ report_text walked fs ns) → IfOk result (λ m. m.loud ≡ is_loud fs ns) → IfOk result (Reports workspace asked limit)
+        → IfOk result (λ m. report_bytes m ≡ report_text walked fs ns) → IfOk result (λ m. m.loud ≡ is_loud fs ns) → IfOk result (Reports workspace asked limit)
     reports fs ns (Err e) ef en t l = t
     reports fs ns (Ok m) ef en t l = record {
       answer = answer;

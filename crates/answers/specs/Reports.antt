@@ -1,11 +1,12 @@
 -- Reports on a workspace (docs/REPORT.md; this project's own).
-use Rattle.std.specs.Prelude.{◌≡◌, ℕ, List, string_bytes}
+use Rattle.std.specs.Prelude.{◌≡◌, ℕ, List}
 use Rattle.workspace.specs.Labels.{LabelParts}
 use Rattle.workspace.specs.Workspaces.{Pair}
 use Rattle.graph.specs.Same.{same_label}
 use Rattle.graph.specs.Reached.{TooManyReached}
 use Rattle.outcomes.specs.Workspaces.{dependencies}
 use Rattle.reporting.specs.declared.made.Report.{Report}
+use Rattle.reporting.specs.Reported.{report_bytes}
 use Rattle.loader.specs.Loaded.{AreFilesOf}
 use Rattle.plain_workspaces.specs.Workspaces.{plain_workspace}
 use Rattle.answers.specs.Answers.{Answer, IsAnswer, answer_text, is_loud_answer}
@@ -14,7 +15,7 @@ use Rattle.answers.specs.Answers.{Answer, IsAnswer, answer_text, is_loud_answer}
 pub record Reports (workspace : List Pair) (labels : List LabelParts) (limit : ℕ) (r : Report) : Type 0 where
   pub answer : Answer
   pub answers : IsAnswer workspace limit labels answer
-  pub told : string_bytes r.text ≡ answer_text answer
+  pub told : report_bytes r ≡ answer_text answer
   pub loud : r.loud ≡ is_loud_answer answer
 
 -- bytes that are those of the answer to labels of a workspace

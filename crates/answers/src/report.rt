@@ -74,13 +74,19 @@ fn told<R: Threads + Sync>(
     make_report(rt, alloc, targets.faults(), &nodes, threads)
 }
 
-/// The targets of a workspace that is read and evaluated, where each evaluation may use so many ticks.
-fn targets_of(alloc: Global, workspace: &Workspace, limit: u64) -> Result<Targets, AllocError>
+/// The targets of a workspace that is read and evaluated, where each evaluation may use so many ticks, by so many threads.
+fn targets_of<R: Threads + Sync>(
+    rt: &R,
+    alloc: Global,
+    workspace: &Workspace,
+    limit: u64,
+    threads: usize,
+) -> Result<Targets, AllocError>
     ensures files { IfOk result (λ t. AreFilesOf workspace.now t.files) }
     ensures limit { IfOk result (λ t. t.limit ≡ limit) }
 {
-    let files = LoadedFiles::of(alloc, workspace, limit)?;
-    Targets::declare(alloc, files)
+    let files = LoadedFiles::of(rt, alloc, workspace, limit, threads)?;
+    Targets::declare(rt, alloc, files, threads)
 }
 
 /// The graph of these labels and of all that they depend on.
@@ -155,8 +161,8 @@ pub fn report_on<R: Threads + Wait + Sync, G: Gate>(
 ///
 /// `rt` is the permission to start threads and to wait. The labels are analysed by so many workers in threads of their own,
 /// which have ended when this returns; what the report says depends on none of them, nor on the shelf. The gate is called round
-/// each label, by the worker that analyses it. Files are read and evaluated by the thread that calls; the lines of many labels
-/// are written by as many threads as there were workers.
+/// each label, by the worker that analyses it. Before them files are read and `BUILD` files evaluated by as many threads, and
+/// afterwards the lines of many labels are written by as many; modules are evaluated by the thread that calls.
 ///
 /// # Errors
 ///
@@ -181,7 +187,7 @@ where
 {
     // The paths of a workspace are legal, so none of them is the text of a label.
     let _count = workspace.count();
-    let targets = targets_of(alloc, workspace, limit)?;
+    let targets = targets_of(rt, alloc, workspace, limit, team.workers)?;
     let graph = match graph_of(alloc, &targets, labels) {
         Ok(graph) => graph,
         Err(refused) => return Err(refused),

@@ -7,9 +7,10 @@ ghost use Rattle.operations.specs.BuiltIns.{argument};
 ghost use Rattle.calls.specs.Parameters.{taken, got_at, placed_or_named, IsNotOne};
 
 use making::given_for;
+use operands::Operand;
 use operations::Arguments;
 use plain::Text;
-use values::{Broken, Kind, Value};
+use values::{Broken, Kind};
 
 /// A parameter: whether it is given by name alone, and whether it may be missing.
 #[derive(Clone, Copy)]
@@ -44,7 +45,10 @@ impl<'a> Parameter<'a> {
 }
 
 /// What the one parameter of a call gets, by position or by name, or `arity`.
-pub fn argument<'a>(name: &str, arguments: &Arguments<'a>) -> Result<&'a Value, Broken>
+pub fn argument<'a, 'v>(
+    name: &str,
+    arguments: &Arguments<'a, 'v>,
+) -> Result<&'a Operand<'v>, Broken>
     ensures { MatchResult result (λ v. argument name.now (given arguments.now) ≡ Ok v.now)
         (λ e. FaultOr (argument name.now (given arguments.now)) e) }
 {
@@ -79,7 +83,11 @@ fn are_all(name: &str, names: &[Text]) -> bool
 
 /// What the parameter of this name, at this place, gets of arguments that fit: what stands at its place, or else what was
 /// given under its name.
-pub fn got<'a>(arguments: &Arguments<'a>, place: usize, name: &str) -> Option<&'a Value>
+pub fn got<'a, 'v>(
+    arguments: &Arguments<'a, 'v>,
+    place: usize,
+    name: &str,
+) -> Option<&'a Operand<'v>>
     ensures { option_copied result ≡ got_at place name.now (given arguments.now) }
 {
     match arguments.items.get(place) {
@@ -89,7 +97,7 @@ pub fn got<'a>(arguments: &Arguments<'a>, place: usize, name: &str) -> Option<&'
 }
 
 /// The positions of a call that takes nothing else: any name is `arity`.
-pub fn positions<'a>(arguments: &Arguments<'a>) -> Result<&'a [Value], Broken>
+pub fn positions<'a, 'v>(arguments: &Arguments<'a, 'v>) -> Result<&'a [Operand<'v>], Broken>
     ensures { MatchResult result (λ vs. positions (given arguments.now) ≡ Ok vs.now)
         (λ e. FaultOr (positions (given arguments.now)) e) }
 {
@@ -100,7 +108,7 @@ pub fn positions<'a>(arguments: &Arguments<'a>) -> Result<&'a [Value], Broken>
 }
 
 /// The one value, if there is exactly one.
-pub fn only(values: &[Value]) -> Option<&Value>
+pub fn only<'a, 'v>(values: &'a [Operand<'v>]) -> Option<&'a Operand<'v>>
     ensures { MatchOption result (IsNotOne values.now) (λ v. values.now ≡ v.now ∷ []) }
 {
     match values {

@@ -10,12 +10,12 @@ use crate::arguments::Parameter;
 use making::given_for;
 use operations::Arguments;
 use plain::Text;
-use values::{Broken, Kind, Value};
+use values::{Broken, Kind};
 
 /// Whether the arguments fit the parameters, or `arity`: then `got` gives what each gets.
 pub fn check_arguments(
     parameters: &[Parameter<'_>],
-    arguments: &Arguments<'_>,
+    arguments: &Arguments<'_, '_>,
 ) -> Result<(), Broken>
     ensures { MatchResult result
         (λ _. bound (map taken parameters.now) (given arguments.now)
@@ -59,7 +59,7 @@ fn is_known(parameters: &[Parameter<'_>], name: &Text) -> bool
 }
 
 /// Whether each parameter may get what stands at its place and what was given under its name.
-fn may_get_all(parameters: &[Parameter<'_>], arguments: &Arguments<'_>) -> bool
+fn may_get_all(parameters: &[Parameter<'_>], arguments: &Arguments<'_, '_>) -> bool
     ensures { result ≡ may_get_all 0 (map taken parameters.now) (given arguments.now) }
 {
     for place in 0..parameters.len() {
@@ -71,7 +71,7 @@ fn may_get_all(parameters: &[Parameter<'_>], arguments: &Arguments<'_>) -> bool
 }
 
 /// Whether a parameter may get what stands at its place and what was given under its name.
-fn may_get(parameter: &Parameter<'_>, arguments: &Arguments<'_>, place: usize) -> bool
+fn may_get(parameter: &Parameter<'_>, arguments: &Arguments<'_, '_>, place: usize) -> bool
     ensures { result ≡ may_get (taken parameter.now) (slice_get arguments.now.items.now place)
         (given_for parameter.now.name.now arguments.now.names.now arguments.now.values.now) }
 {

@@ -8,22 +8,23 @@ ghost use Rattle.operations.specs.Making.{number};
 ghost use Rattle.operations.specs.BuiltIns.{len, size_in, key_size, str, list, listed_in, fail};
 
 use crate::dicts::key_items;
+use operands::Operand;
 use operations::{Made, State};
 use plain::Text;
 use printing::repr;
 use state::{copied, place, text_of};
 use std::alloc::Global;
-use values::{Broken, Item, Key, Kind, Seen, Value};
+use values::{Broken, Key, Kind, Seen, Value};
 
 /// `len(value)`: the bytes of a string, the items of a list or a tuple, the entries of a dict.
 ///
 /// # Errors
 ///
 /// `type`, where it is another value.
-pub fn len(state: &State, value: &Value) -> Result<Value, Broken>
+pub fn len(state: &State, value: &Operand<'_>) -> Result<Value, Broken>
     ensures { Does (len value.now) state.now result state.now }
 {
-    let Some(size) = size_of(&state.heap.see(value)) else {
+    let Some(size) = size_of(&state.heap.see_item(value.item())) else {
         return Err(Broken::Kind(Kind::Wrong));
     };
     size_value(size)
@@ -57,10 +58,10 @@ fn size_value(size: usize) -> Result<Value, Broken>
 /// # Errors
 ///
 /// Of each value `steps`, `deep`, and `type` where it has no text; at the end `large`.
-pub fn str(alloc: Global, state: &mut State, value: &Value) -> Result<Value, Broken>
+pub fn str(alloc: Global, state: &mut State, value: &Operand<'_>) -> Result<Value, Broken>
     ensures { Does (str value.now) state.old result state.new }
 {
-    match repr(alloc, Item::Value(value), &state.heap, &mut state.ticks) {
+    match repr(alloc, value.item(), &state.heap, &mut state.ticks) {
         Ok(text) => {
             let text = Text::from_string(text)?;
             Ok(Value::Key(Key::Text(text)))
@@ -74,10 +75,10 @@ pub fn str(alloc: Global, state: &mut State, value: &Value) -> Result<Value, Bro
 /// # Errors
 ///
 /// `type`, where it is another value.
-pub fn list(alloc: Global, state: &mut State, value: &Value) -> Result<Value, Broken>
+pub fn list(alloc: Global, state: &mut State, value: &Operand<'_>) -> Result<Value, Broken>
     ensures { Does (list value.now) state.old result state.new }
 {
-    let made = match listed(alloc, &state.heap.see(value)) {
+    let made = match listed(alloc, &state.heap.see_item(value.item())) {
         Ok(made) => made,
         Err(broken) => return Err(broken),
     };
@@ -101,10 +102,10 @@ fn listed(alloc: Global, value: &Seen<'_>) -> Result<Made, Broken>
 /// # Errors
 ///
 /// `type`, where it is no string; else `fail` itself.
-pub fn fail(state: &State, value: &Value) -> Result<Value, Broken>
+pub fn fail(state: &State, value: &Operand<'_>) -> Result<Value, Broken>
     ensures { Does (fail value.now) state.now result state.now }
 {
-    let Some(text) = text_of(&state.heap.see(value)) else {
+    let Some(text) = text_of(&state.heap.see_item(value.item())) else {
         return Err(Broken::Kind(Kind::Wrong));
     };
     let text = text.share()?;

@@ -24,7 +24,7 @@ use values::{Broken, Heap, Item, Items, Key, Kind, Leaf, Seen, Table, Value};
 pub fn get<'a>(
     state: &State<'_>,
     dict: &Operand<'a>,
-    arguments: &[Value],
+    arguments: &[Operand<'_>],
 ) -> Result<Operand<'a>, Broken>
     ensures { Does (get (entries_in (shape state.now.heap dict.now)) arguments.now) state.now result
         state.now }
@@ -38,11 +38,15 @@ pub fn get<'a>(
 }
 
 /// The value of a key, or None.
-fn got_or_none<'a>(heap: &Heap, dict: &Operand<'a>, key: &Value) -> Result<Operand<'a>, Broken>
+fn got_or_none<'a>(
+    heap: &Heap,
+    dict: &Operand<'a>,
+    key: &Operand<'_>,
+) -> Result<Operand<'a>, Broken>
     ensures { Gives (got (entries_in (shape heap.now dict.now)) none (shape heap.now key.now))
         result }
 {
-    let none = Value::Leaf(Leaf::None);
+    let none = Operand::own(Value::Leaf(Leaf::None));
     got(heap, dict, &none, key)
 }
 
@@ -50,13 +54,13 @@ fn got_or_none<'a>(heap: &Heap, dict: &Operand<'a>, key: &Value) -> Result<Opera
 fn got<'a>(
     heap: &Heap,
     dict: &Operand<'a>,
-    default: &Value,
-    key: &Value,
+    default: &Operand<'_>,
+    key: &Operand<'_>,
 ) -> Result<Operand<'a>, Broken>
     ensures { Gives (got (entries_in (shape heap.now dict.now)) default.now
         (shape heap.now key.now)) result }
 {
-    let key = heap.see(key);
+    let key = heap.see_item(key.item());
     if let Some(dict) = dict.lent_seen() {
         return got_in(&dict, default, &key);
     }
@@ -67,7 +71,7 @@ fn got<'a>(
 }
 
 /// The value of a key of what a dict shows, or another.
-fn got_in<'a>(dict: &Seen<'a>, default: &Value, key: &Seen<'_>) -> Result<Operand<'a>, Broken>
+fn got_in<'a>(dict: &Seen<'a>, default: &Operand<'_>, key: &Seen<'_>) -> Result<Operand<'a>, Broken>
     ensures { Gives (got (entries_in (seen dict.now)) default.now (seen key.now)) result }
 {
     match dict {
@@ -77,13 +81,13 @@ fn got_in<'a>(dict: &Seen<'a>, default: &Value, key: &Seen<'_>) -> Result<Operan
 }
 
 /// The default, where there are no entries.
-fn without_entries<'a>(default: &Value, key: &Seen<'_>) -> Result<Operand<'a>, Broken>
+fn without_entries<'a>(default: &Operand<'_>, key: &Seen<'_>) -> Result<Operand<'a>, Broken>
     ensures { Gives (got [] default.now (seen key.now)) result }
 {
     if key_of(key).is_none() {
         return Err(Broken::Kind(Kind::Wrong));
     }
-    Ok(Operand::own(default.share()?))
+    Ok(Operand::own(default.item().to_value()?))
 }
 
 /// `dict.keys()`: a new list.

@@ -25,7 +25,7 @@ pub fn call_built_in(
     alloc: Global,
     state: &mut State,
     function: BuiltIn,
-    arguments: &Arguments<'_>,
+    arguments: &Arguments<'_, '_>,
 ) -> Option<Result<Value, Broken>>
     ensures { DoesSome (built_in_call function (given arguments.now)) state.old result state.new }
 {
@@ -41,7 +41,7 @@ pub fn call_built_in(
     }
 }
 
-fn call_len(state: &State, arguments: &Arguments<'_>) -> Result<Value, Broken>
+fn call_len(state: &State, arguments: &Arguments<'_, '_>) -> Result<Value, Broken>
     ensures { Does (with_argument (argument (codes "x") (given arguments.now)) len) state.now result
         state.now }
 {
@@ -51,7 +51,11 @@ fn call_len(state: &State, arguments: &Arguments<'_>) -> Result<Value, Broken>
     }
 }
 
-fn call_str(alloc: Global, state: &mut State, arguments: &Arguments<'_>) -> Result<Value, Broken>
+fn call_str(
+    alloc: Global,
+    state: &mut State,
+    arguments: &Arguments<'_, '_>,
+) -> Result<Value, Broken>
     ensures { Does (with_argument (argument (codes "x") (given arguments.now)) str) state.old result
         state.new }
 {
@@ -61,7 +65,11 @@ fn call_str(alloc: Global, state: &mut State, arguments: &Arguments<'_>) -> Resu
     }
 }
 
-fn call_list(alloc: Global, state: &mut State, arguments: &Arguments<'_>) -> Result<Value, Broken>
+fn call_list(
+    alloc: Global,
+    state: &mut State,
+    arguments: &Arguments<'_, '_>,
+) -> Result<Value, Broken>
     ensures { Does (with_argument (argument (codes "x") (given arguments.now)) list) state.old
         result state.new }
 {
@@ -71,7 +79,7 @@ fn call_list(alloc: Global, state: &mut State, arguments: &Arguments<'_>) -> Res
     }
 }
 
-fn call_fail(state: &State, arguments: &Arguments<'_>) -> Result<Value, Broken>
+fn call_fail(state: &State, arguments: &Arguments<'_, '_>) -> Result<Value, Broken>
     ensures { Does (with_argument (argument (codes "text") (given arguments.now)) fail) state.now
         result state.now }
 {
@@ -82,7 +90,11 @@ fn call_fail(state: &State, arguments: &Arguments<'_>) -> Result<Value, Broken>
 }
 
 /// `depset(direct = [], order = "default", *, transitive = [])`.
-fn call_depset(alloc: Global, state: &mut State, arguments: &Arguments<'_>) -> Result<Value, Broken>
+fn call_depset(
+    alloc: Global,
+    state: &mut State,
+    arguments: &Arguments<'_, '_>,
+) -> Result<Value, Broken>
     ensures { Does (depset (given arguments.now)) state.old result state.new }
 {
     let parameters = depset_parameters();
@@ -110,7 +122,7 @@ pub fn call_provider(
     alloc: Global,
     state: &mut State,
     provider: &Shared<Provider>,
-    arguments: &Arguments<'_>,
+    arguments: &Arguments<'_, '_>,
 ) -> Result<Value, Broken>
     ensures { Does (instance_call provider.now (given arguments.now)) state.old result state.new }
 {
@@ -125,7 +137,7 @@ fn call_default_info(
     alloc: Global,
     state: &mut State,
     provider: &Shared<Provider>,
-    arguments: &Arguments<'_>,
+    arguments: &Arguments<'_, '_>,
 ) -> Result<Value, Broken>
     ensures { Does (new_default_info provider.now (given arguments.now)) state.old result
         state.new }

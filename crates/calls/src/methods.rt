@@ -33,7 +33,7 @@ pub fn call_method<'a>(
     state: &mut State<'_>,
     method: Method,
     receiver: &Operand<'a>,
-    arguments: &Arguments<'_>,
+    arguments: &Arguments<'_, '_>,
 ) -> Result<Operand<'a>, Broken>
     ensures { Does (method_call method receiver.now (given arguments.now)) state.old result
         state.new }
@@ -50,7 +50,7 @@ fn method_of<'a>(
     state: &mut State<'_>,
     method: Method,
     receiver: &Operand<'a>,
-    items: &[Value],
+    items: &[Operand<'_>],
 ) -> Result<Operand<'a>, Broken>
     ensures { Does (method_of method receiver.now items.now) state.old result state.new }
 {
@@ -70,23 +70,23 @@ fn method_of<'a>(
     }
 }
 
-fn append_one(state: &mut State, list: Item<'_>, items: &[Value]) -> Result<Value, Broken>
+fn append_one(state: &mut State, list: Item<'_>, items: &[Operand<'_>]) -> Result<Value, Broken>
     ensures { Does (with_one (append (item_value list.entry)) items.now) state.old result
         state.new }
 {
-    let Some(item) = only(items) else {
+    let Some(added) = only(items) else {
         return Err(Broken::Kind(Kind::Arity));
     };
-    let item = item.share()?;
+    let added = added.item().to_value()?;
     let list = as_value(list)?;
-    state::append(state, list.get(), item)
+    state::append(state, list.get(), added)
 }
 
 fn extend_one(
     alloc: Global,
     state: &mut State,
     list: Item<'_>,
-    items: &[Value],
+    items: &[Operand<'_>],
 ) -> Result<Value, Broken>
     ensures { Does (with_one (extend (item_value list.entry)) items.now) state.old result
         state.new }
@@ -104,7 +104,7 @@ fn keys_of(
     alloc: Global,
     state: &mut State,
     dict: Item<'_>,
-    items: &[Value],
+    items: &[Operand<'_>],
 ) -> Result<Value, Broken>
     ensures { Does (with_none (keys (entries_in (shape state.old.heap (item_value dict.entry))))
         items.now) state.old result state.new }
@@ -119,7 +119,7 @@ fn values_of(
     alloc: Global,
     state: &mut State,
     dict: Item<'_>,
-    items: &[Value],
+    items: &[Operand<'_>],
 ) -> Result<Value, Broken>
     ensures { Does (with_none (values (entries_in (shape state.old.heap (item_value dict.entry))))
         items.now) state.old result state.new }
@@ -134,7 +134,7 @@ fn pairs_of(
     alloc: Global,
     state: &mut State,
     dict: Item<'_>,
-    arguments: &[Value],
+    arguments: &[Operand<'_>],
 ) -> Result<Value, Broken>
     ensures { Does (with_none (pairs (entries_in (shape state.old.heap (item_value dict.entry))))
         arguments.now) state.old result state.new }
@@ -149,7 +149,7 @@ fn join_one(
     alloc: Global,
     state: &State,
     receiver: Item<'_>,
-    items: &[Value],
+    items: &[Operand<'_>],
 ) -> Result<Value, Broken>
     ensures { Does (of_text join (string_in (shape state.now.heap (item_value receiver.entry)))
         items.now) state.now result state.now }
@@ -167,7 +167,7 @@ fn split_one(
     alloc: Global,
     state: &mut State,
     receiver: Item<'_>,
-    items: &[Value],
+    items: &[Operand<'_>],
 ) -> Result<Value, Broken>
     ensures { Does (of_text split (string_in (shape state.old.heap (item_value receiver.entry)))
         items.now) state.old result state.new }
@@ -181,7 +181,11 @@ fn split_one(
     }
 }
 
-fn starts_with_one(state: &State, receiver: Item<'_>, items: &[Value]) -> Result<Value, Broken>
+fn starts_with_one(
+    state: &State,
+    receiver: Item<'_>,
+    items: &[Operand<'_>],
+) -> Result<Value, Broken>
     ensures { Does (of_text starts_with (string_in (shape state.now.heap
         (item_value receiver.entry))) items.now) state.now result state.now }
 {
@@ -194,7 +198,7 @@ fn starts_with_one(state: &State, receiver: Item<'_>, items: &[Value]) -> Result
     }
 }
 
-fn ends_with_one(state: &State, receiver: Item<'_>, items: &[Value]) -> Result<Value, Broken>
+fn ends_with_one(state: &State, receiver: Item<'_>, items: &[Operand<'_>]) -> Result<Value, Broken>
     ensures { Does (of_text ends_with (string_in (shape state.now.heap
         (item_value receiver.entry))) items.now) state.now result state.now }
 {
@@ -211,7 +215,7 @@ fn list_of(
     alloc: Global,
     state: &mut State,
     receiver: Item<'_>,
-    items: &[Value],
+    items: &[Operand<'_>],
 ) -> Result<Value, Broken>
     ensures { Does (of_depset (depset_in (shape state.old.heap (item_value receiver.entry)))
         items.now) state.old result state.new }

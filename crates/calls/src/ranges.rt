@@ -9,6 +9,7 @@ ghost use Rattle.operations.specs.BuiltIns.{range, range_in, range_between, numb
 
 use crate::arguments::positions;
 use numbers::RangeNumbers;
+use operands::Operand;
 use operations::{Arguments, Made, State};
 use state::{number_of, place};
 use std::alloc::{AllocError, Global};
@@ -19,7 +20,11 @@ use values::{Broken, Heap, Items, Key, Kind, Value};
 /// # Errors
 ///
 /// `arity`; `type`, where they are no numbers; then `large`.
-pub fn range(alloc: Global, state: &mut State, arguments: &Arguments<'_>) -> Result<Value, Broken>
+pub fn range(
+    alloc: Global,
+    state: &mut State,
+    arguments: &Arguments<'_, '_>,
+) -> Result<Value, Broken>
     ensures { Does (range (given arguments.now)) state.old result state.new }
 {
     let made = match range_of(alloc, &state.heap, arguments) {
@@ -30,7 +35,7 @@ pub fn range(alloc: Global, state: &mut State, arguments: &Arguments<'_>) -> Res
 }
 
 /// The numbers of the arguments' range.
-fn range_of(alloc: Global, heap: &Heap, arguments: &Arguments<'_>) -> Result<Made, Broken>
+fn range_of(alloc: Global, heap: &Heap, arguments: &Arguments<'_, '_>) -> Result<Made, Broken>
     ensures { Gives (then_give (positions (given arguments.now)) (range_in heap.now)) result }
 {
     match positions(arguments) {
@@ -40,17 +45,17 @@ fn range_of(alloc: Global, heap: &Heap, arguments: &Arguments<'_>) -> Result<Mad
 }
 
 /// The numbers up to the one value, or from the first of two to the second.
-fn range_in(alloc: Global, heap: &Heap, values: &[Value]) -> Result<Made, Broken>
+fn range_in(alloc: Global, heap: &Heap, values: &[Operand<'_>]) -> Result<Made, Broken>
     ensures { Gives (range_in heap.now values.now) result }
 {
     match values {
         [] => Err(Broken::Kind(Kind::Arity)),
-        [end] => range_between(alloc, Some(0), number_of(&heap.see(end))),
+        [end] => range_between(alloc, Some(0), number_of(&heap.see_item(end.item()))),
         [first, end] => {
             range_between(
                 alloc,
-                number_of(&heap.see(first)),
-                number_of(&heap.see(end)),
+                number_of(&heap.see_item(first.item())),
+                number_of(&heap.see_item(end.item())),
             )
         }
         [_, _, _, ..] => Err(Broken::Kind(Kind::Arity)),

@@ -23,12 +23,11 @@ fn one_name(alloc: Global, name: &str) -> Result<Names, AllocError> {
 /// `depset(NAME = ["x"])`.
 fn depset(alloc: Global, state: &mut State, name: &str) -> Result<Value, Broken> {
     let list = new_list(state, one_item(alloc, string(alloc, "x")?)?)?;
-    let values = one_item(alloc, list)?;
     let names = one_name(alloc, name)?;
     let arguments = Arguments {
         items: &[],
         names: names.as_slice(),
-        values: values.as_slice(),
+        values: &[Operand::own(list)],
     };
     call_built_in(alloc, state, BuiltIn::Depset, &arguments).ok_or(Broken::NoMemory)?
 }

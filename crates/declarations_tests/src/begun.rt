@@ -1,7 +1,7 @@
 //! For tests: the state of a file that has done nothing yet, arguments by name, and what stands outside of the file.
 use declaring::Attributes;
 use file_places::Rules;
-use operands::Bindings;
+use operands::{Bindings, Operand};
 use operations::{Arguments, Defaults, State};
 use plain::{Shared, Text};
 use std::alloc::{AllocError, Global};
@@ -56,7 +56,7 @@ pub fn function_value(alloc: Global) -> Result<Value, AllocError> {
 #[derive(Drop)]
 pub struct Named {
     names: Names,
-    values: Items,
+    value: Operand<'static>,
 }
 
 impl Named {
@@ -64,17 +64,16 @@ impl Named {
     pub fn of(alloc: Global, name: &str, value: Value) -> Result<Named, AllocError> {
         let mut names = Names::new(alloc);
         names.push(Text::new(alloc, name)?)?;
-        let mut values = Items::new(alloc);
-        values.push(value)?;
-        Ok(Named { names, values })
+        let value = Operand::own(value);
+        Ok(Named { names, value })
     }
 
     /// It alone.
-    pub fn arguments(&self) -> Arguments<'_> {
+    pub fn arguments(&self) -> Arguments<'_, '_> {
         Arguments {
             items: &[],
             names: self.names.as_slice(),
-            values: self.values.as_slice(),
+            values: slice::from_ref(&self.value),
         }
     }
 }

@@ -3,6 +3,7 @@ use crate::begun::{Named, NoOthers, begun, function_value, strings};
 use declarations::Declarations;
 use file_places::{ModulePlace, made_of};
 use language::Whole;
+use operands::Operand;
 use operations::Arguments;
 use places::Place;
 use plain::Text;
@@ -33,11 +34,9 @@ fn rule(alloc: Global, whole: &mut Whole<Declarations>) -> Result<Value, Broken>
     let attrs = new_dict(alloc, &mut whole.state)?;
     let name = Value::Key(Key::Text(Text::new(alloc, "dep")?));
     enter(&mut whole.state, &attrs, &name, attribute)?;
-    let mut items = Items::new(alloc);
-    items.push(function_value(alloc)?)?;
-    items.push(attrs)?;
+    let items = [Operand::own(function_value(alloc)?), Operand::own(attrs)];
     let arguments = Arguments {
-        items: items.as_slice(),
+        items: &items,
         names: &[],
         values: &[],
     };

@@ -12,6 +12,7 @@ use crate::restrictions::{allow_files_in, mandatory_in, providers_in, values_in}
 use calls::{Parameter, check_arguments};
 use declarations::Declarations;
 use making::given_for;
+use operands::Operand;
 use operations::{Arguments, State};
 use plain::Shared;
 use std::alloc::{AllocError, Global};
@@ -28,7 +29,7 @@ pub fn new_attribute(
     state: &State,
     declared: &mut Declarations,
     kind: AttributeKind,
-    arguments: &Arguments<'_>,
+    arguments: &Arguments<'_, '_>,
 ) -> Result<Value, Broken>
     ensures { Changes (new_attribute kind (given arguments.now) state.now declared.old) result
         declared.old declared.new }
@@ -43,7 +44,7 @@ pub fn new_attribute(
 }
 
 /// Whether the arguments fit the parameters of a kind, or `arity`.
-fn check_attribute(kind: AttributeKind, arguments: &Arguments<'_>) -> Result<(), Broken>
+fn check_attribute(kind: AttributeKind, arguments: &Arguments<'_, '_>) -> Result<(), Broken>
     ensures { MatchResult result
         (λ _. bound (attribute_parameters kind) (given arguments.now)
         ≡ Ok (got_from 0 (attribute_parameters kind) (given arguments.now)))
@@ -96,7 +97,7 @@ fn with_files() -> [Parameter<'static>; 5]
 }
 
 /// What was given under a name.
-fn named<'a>(arguments: &Arguments<'a>, name: &str) -> Option<&'a Value>
+fn named<'a, 'v>(arguments: &Arguments<'a, 'v>, name: &str) -> Option<&'a Operand<'v>>
     ensures { option_copied result ≡ named (given arguments.now) name.now }
 {
     given_for(name, arguments.names, arguments.values)
@@ -107,7 +108,7 @@ fn attribute_in(
     alloc: Global,
     heap: &Heap,
     kind: AttributeKind,
-    arguments: &Arguments<'_>,
+    arguments: &Arguments<'_, '_>,
 ) -> Result<Option<Attribute>, AllocError>
     ensures { IfOk result (λ o. o ≡ attribute_in heap.now kind (given arguments.now)) }
 {

@@ -10,6 +10,7 @@ ghost use Rattle.declarations.specs.RuleMaking.{attributes_shown, attributes_in,
 use crate::known::Attributes;
 use crate::names::name_of;
 use declarations::Declarations;
+use operands::Operand;
 use operations::State;
 use plain::{Shared, Text};
 use std::alloc::{AllocError, Global};
@@ -30,7 +31,7 @@ pub(crate) fn attributes_in<A: Attributes>(
     linked: &A,
     state: &State,
     declared: &Declarations,
-    value: Option<&Value>,
+    value: Option<&Operand<'_>>,
 ) -> Result<Option<Sequence<NamedAttribute>>, AllocError>
     ensures { IfOk result (λ o. o ≡ attributes_in (A.declared linked.now) state.now declared.now
         (option_copied value.entry)) }
@@ -43,7 +44,7 @@ pub(crate) fn attributes_in<A: Attributes>(
         state,
         declared,
     };
-    match state.heap.see(value) {
+    match state.heap.see_item(value.item()) {
         Seen::Dict(entries) => attributes_shown(alloc, &known, entries),
         _ => Ok(None),
     }

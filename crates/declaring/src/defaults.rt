@@ -7,24 +7,25 @@ ghost use Rattle.targets.specs.RuleCalls.{each_of};
 ghost use Rattle.declarations.specs.AttributeCalls.{default_in, default_typed, whole_label_in};
 
 use crate::lists::{strings, whole_label, whole_labels};
+use operands::Operand;
 use plain::Shared;
 use std::alloc::{AllocError, Global};
 use targets::AttributeValue;
-use values::{AttributeKind, Group, Heap, Key, Leaf, Seen, Value};
+use values::{AttributeKind, Group, Heap, Key, Leaf, Seen};
 
 /// What `default` says, which may be missing; None where it is of another type.
 pub(crate) fn default_in(
     alloc: Global,
     heap: &Heap,
     kind: AttributeKind,
-    value: Option<&Value>,
+    value: Option<&Operand<'_>>,
 ) -> Result<Option<Option<AttributeValue>>, AllocError>
     ensures { IfOk result (λ o. o ≡ default_in heap.now kind (option_copied value.entry)) }
 {
     let Some(value) = value else {
         return Ok(Some(None));
     };
-    match default_typed(alloc, heap, kind, &heap.see(value))? {
+    match default_typed(alloc, heap, kind, &heap.see_item(value.item()))? {
         Some(default) => Ok(Some(Some(default))),
         None => Ok(None),
     }

@@ -4,9 +4,10 @@ ghost use Rattle.lexer.specs.Names.{spells_name};
 ghost use Rattle.values.specs.Seeing.{seen};
 ghost use Rattle.declarations.specs.NewNames.{name_in, is_doc, may_be_doc};
 
+use operands::Operand;
 use plain::Text;
 use state::text_of;
-use values::{Heap, Key, Leaf, Seen, Value};
+use values::{Heap, Key, Leaf, Seen};
 
 /// The name that a value is, if it is one.
 pub(crate) fn name_of<'a>(value: &Seen<'a>) -> Option<&'a Text>
@@ -29,11 +30,11 @@ fn is_name(text: &str) -> bool
 }
 
 /// Whether `doc` is a string or None, or isn't given.
-pub(crate) fn may_be_doc(heap: &Heap, value: Option<&Value>) -> bool
+pub(crate) fn may_be_doc(heap: &Heap, value: Option<&Operand<'_>>) -> bool
     ensures { result ≡ may_be_doc heap.now (option_copied value.entry) }
 {
     match value {
-        Some(value) => is_doc(&heap.see(value)),
+        Some(value) => is_doc(&heap.see_item(value.item())),
         None => true,
     }
 }

@@ -13,6 +13,7 @@ use crate::fields::fields_in;
 use crate::names::may_be_doc;
 use calls::{Parameter, check_arguments, got};
 use declarations::Declarations;
+use operands::Operand;
 use operations::{Arguments, State};
 use plain::Shared;
 use std::alloc::{AllocError, Global};
@@ -29,7 +30,7 @@ pub fn new_provider(
     alloc: Global,
     state: &State,
     declared: &mut Declarations,
-    arguments: &Arguments<'_>,
+    arguments: &Arguments<'_, '_>,
 ) -> Result<Value, Broken>
     ensures { Changes (new_provider (given arguments.now) state.now declared.old) result
         declared.old declared.new }
@@ -64,8 +65,8 @@ fn provider_with(
     alloc: Global,
     state: &State,
     declared: &mut Declarations,
-    doc: Option<&Value>,
-    fields: &Value,
+    doc: Option<&Operand<'_>>,
+    fields: &Operand<'_>,
 ) -> Result<Value, Broken>
     ensures { Changes (provider_declared state.now declared.old
         (may_be_doc state.now.heap (option_copied doc.entry))
@@ -75,7 +76,7 @@ fn provider_with(
     if !may_be_doc(&state.heap, doc) {
         return Err(Broken::Kind(Kind::Wrong));
     }
-    match fields_in(alloc, &state.heap, &state.heap.see(fields))? {
+    match fields_in(alloc, &state.heap, &state.heap.see_item(fields.item()))? {
         Some(fields) => declare_provider(alloc, state, declared, fields),
         None => Err(Broken::Kind(Kind::Wrong)),
     }

@@ -8,18 +8,19 @@ ghost use Rattle.declarations.specs.AttributeCalls.{truth_in, mandatory_in, valu
 ghost use Rattle.declarations.specs.AttributeCalls.{providers_in, files_shown, allow_files_in};
 
 use crate::lists::{keys, lists_of_providers, providers, strings};
+use operands::Operand;
 use plain::Shared;
 use state::sequence_of;
 use std::alloc::{AllocError, Global};
 use targets::{AllowFiles, Sequence};
-use values::{AttributeKind, Group, Heap, Key, Provider, Seen, Value};
+use values::{AttributeKind, Group, Heap, Key, Provider, Seen};
 
 /// What `mandatory` says: a bool.
-pub(crate) fn mandatory_in(heap: &Heap, value: Option<&Value>) -> Option<bool>
+pub(crate) fn mandatory_in(heap: &Heap, value: Option<&Operand<'_>>) -> Option<bool>
     ensures { result ≡ mandatory_in heap.now (option_copied value.entry) }
 {
     match value {
-        Some(value) => truth_in(&heap.see(value)),
+        Some(value) => truth_in(&heap.see_item(value.item())),
         None => Some(false),
     }
 }
@@ -39,14 +40,14 @@ pub(crate) fn values_in(
     alloc: Global,
     heap: &Heap,
     kind: AttributeKind,
-    value: Option<&Value>,
+    value: Option<&Operand<'_>>,
 ) -> Result<Option<Sequence<Key>>, AllocError>
     ensures { IfOk result (λ o. o ≡ values_in heap.now kind (option_copied value.entry)) }
 {
     let Some(value) = value else {
         return Ok(Some(Sequence::new(alloc)));
     };
-    match sequence_of(&heap.see(value)) {
+    match sequence_of(&heap.see_item(value.item())) {
         Some(items) => keys(alloc, heap, kind, items),
         None => Ok(None),
     }
@@ -56,14 +57,14 @@ pub(crate) fn values_in(
 pub(crate) fn providers_in(
     alloc: Global,
     heap: &Heap,
-    value: Option<&Value>,
+    value: Option<&Operand<'_>>,
 ) -> Result<Option<Sequence<Sequence<Shared<Provider>>>>, AllocError>
     ensures { IfOk result (λ o. o ≡ providers_in heap.now (option_copied value.entry)) }
 {
     let Some(value) = value else {
         return Ok(Some(Sequence::new(alloc)));
     };
-    match sequence_of(&heap.see(value)) {
+    match sequence_of(&heap.see_item(value.item())) {
         Some(items) => provider_lists(alloc, heap, items),
         None => Ok(None),
     }
@@ -102,12 +103,12 @@ fn one_list(
 pub(crate) fn allow_files_in(
     alloc: Global,
     heap: &Heap,
-    value: Option<&Value>,
+    value: Option<&Operand<'_>>,
 ) -> Result<Option<AllowFiles>, AllocError>
     ensures { IfOk result (λ o. o ≡ allow_files_in heap.now (option_copied value.entry)) }
 {
     match value {
-        Some(value) => files_shown(alloc, heap, &heap.see(value)),
+        Some(value) => files_shown(alloc, heap, &heap.see_item(value.item())),
         None => Ok(Some(AllowFiles::Nothing)),
     }
 }

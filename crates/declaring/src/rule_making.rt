@@ -15,6 +15,7 @@ use crate::known::Attributes;
 use crate::names::may_be_doc;
 use calls::{Parameter, check_arguments, got};
 use declarations::Declarations;
+use operands::Operand;
 use operations::{Arguments, State};
 use plain::Shared;
 use std::alloc::{AllocError, Global};
@@ -32,7 +33,7 @@ pub fn new_rule<A: Attributes>(
     linked: &A,
     state: &State,
     declared: &mut Declarations,
-    arguments: &Arguments<'_>,
+    arguments: &Arguments<'_, '_>,
 ) -> Result<Value, Broken>
     ensures { Changes (new_rule (A.declared linked.now) state.now declared.old
         (given arguments.now)) result declared.old declared.new }
@@ -70,9 +71,9 @@ fn rule_with<A: Attributes>(
     linked: &A,
     state: &State,
     declared: &mut Declarations,
-    implementation: &Value,
-    attrs: Option<&Value>,
-    doc: Option<&Value>,
+    implementation: &Operand<'_>,
+    attrs: Option<&Operand<'_>>,
+    doc: Option<&Operand<'_>>,
 ) -> Result<Value, Broken>
     ensures { Changes (rule_declared (A.declared linked.now) state.now declared.old
         (may_be_doc state.now.heap (option_copied doc.entry))
@@ -83,7 +84,7 @@ fn rule_with<A: Attributes>(
     if !may_be_doc(&state.heap, doc) {
         return Err(Broken::Kind(Kind::Wrong));
     }
-    let Some(implementation) = function_in(&state.heap.see(implementation)) else {
+    let Some(implementation) = function_in(&state.heap.see_item(implementation.item())) else {
         return Err(Broken::Kind(Kind::Wrong));
     };
     let Some(attributes) = attributes_in(alloc, linked, state, declared, attrs)? else {

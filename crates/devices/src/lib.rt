@@ -9,4 +9,4 @@ mod counted;
 mod whole;
 
 pub use counted::{Counted, Sink, Source};
-pub use whole::{InputStop, WriteFailed, read_input, write_all};
+pub use whole::{InputStop, WriteFailed, read_input, write_all, write_parts};

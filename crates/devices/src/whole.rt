@@ -1,7 +1,8 @@
 //! The loops that read all that a source has and write all of a text.
 
-ghost use Rattle.std.specs.Prelude.{◌≡◌, ◌≢◌, ◌<◌, ◌≤◌, ◌+◌, true, IfOk, OnOk, OnErr, Err, vec_len};
-ghost use Rattle.std.specs.Io.KnownBytes.{Appends, Consumes, IsAtEnd};
+ghost use Rattle.std.specs.Prelude.{◌≡◌, ◌≢◌, ◌<◌, ◌≤◌, ◌+◌, true, IfOk, OnOk, OnErr, Err, string_bytes, vec_len};
+ghost use Rattle.std.specs.List.{flat_map};
+ghost use Rattle.std.specs.Io.KnownBytes.{Appends, Consumes, IsAtEnd, Keeps};
 ghost use Rattle.devices.specs.Devices.{Failed, GaveBytes, TakesMore, WritesBeginning};
 
 use crate::counted::{Sink, Source};
@@ -82,6 +83,38 @@ pub fn read_input<S: Source>(
 #[derive(Clone, Copy, Debug, PartialEq, Eq)]
 pub struct WriteFailed;
 
+/// Writes a whole text.
+fn write_whole<K: Sink>(sink: &mut K, text: &[u8]) -> Result<(), WriteFailed>
+    ensures ok { OnOk result (Appends (K.contents sink.old) (K.contents sink.new) text.now) }
+    ensures counted { OnOk result (K.failures sink.new ≡ K.failures sink.old) }
+    ensures beginning { OnErr result
+        (WritesBeginning (K.contents sink.old) (K.contents sink.new) text.now) }
+    ensures failed { OnErr result (Failed (K.failures sink.old) (K.failures sink.new)) }
+{
+    let mut at = 0;
+    while at < text.len() {
+        match sink.write(&text[at..]) {
+            Ok(0) => return Err(WriteFailed),
+            Ok(n) => at += n,
+            Err(_) => return Err(WriteFailed),
+        }
+    }
+    Ok(())
+}
+
+/// Hands on what was written.
+fn flush<K: Sink>(sink: &mut K) -> Result<(), WriteFailed>
+    ensures kept { Keeps (K.contents sink.old) (K.contents sink.new) }
+    ensures counted { OnOk result (K.failures sink.new ≡ K.failures sink.old) }
+    ensures flushed { OnOk result (K.flushed sink.new ≡ true) }
+    ensures failed { OnErr result (Failed (K.failures sink.old) (K.failures sink.new)) }
+{
+    match sink.flush() {
+        Ok(()) => Ok(()),
+        Err(_) => Err(WriteFailed),
+    }
+}
+
 /// Writes a whole text, and then flushes.
 ///
 /// # Errors
@@ -95,16 +128,45 @@ pub fn write_all<K: Sink>(sink: &mut K, text: &[u8]) -> Result<(), WriteFailed>
         (WritesBeginning (K.contents sink.old) (K.contents sink.new) text.now) }
     ensures failed { OnErr result (Failed (K.failures sink.old) (K.failures sink.new)) }
 {
-    let mut at = 0;
-    while at < text.len() {
-        match sink.write(&text[at..]) {
-            Ok(0) => return Err(WriteFailed),
-            Ok(n) => at += n,
-            Err(_) => return Err(WriteFailed),
+    match write_whole(sink, text) {
+        Ok(()) => flush(sink),
+        Err(failed) => Err(failed),
+    }
+}
+
+/// Writes texts, one after the other.
+fn write_each<K: Sink>(sink: &mut K, texts: &[String]) -> Result<(), WriteFailed>
+    ensures ok { OnOk result
+        (Appends (K.contents sink.old) (K.contents sink.new) (flat_map string_bytes texts.now)) }
+    ensures counted { OnOk result (K.failures sink.new ≡ K.failures sink.old) }
+    ensures beginning { OnErr result (WritesBeginning (K.contents sink.old)
+        (K.contents sink.new) (flat_map string_bytes texts.now)) }
+    ensures failed { OnErr result (Failed (K.failures sink.old) (K.failures sink.new)) }
+{
+    for text in texts {
+        if let Err(failed) = write_whole(sink, text.as_bytes()) {
+            return Err(failed);
         }
     }
-    match sink.flush() {
-        Ok(()) => Ok(()),
-        Err(_) => Err(WriteFailed),
+    Ok(())
+}
+
+/// Writes texts, one after the other, and then flushes.
+///
+/// # Errors
+///
+/// `WriteFailed` at the first call that fails or takes no byte; then a beginning of the texts was written.
+pub fn write_parts<K: Sink>(sink: &mut K, texts: &[String]) -> Result<(), WriteFailed>
+    ensures ok { OnOk result
+        (Appends (K.contents sink.old) (K.contents sink.new) (flat_map string_bytes texts.now)) }
+    ensures counted { OnOk result (K.failures sink.new ≡ K.failures sink.old) }
+    ensures flushed { OnOk result (K.flushed sink.new ≡ true) }
+    ensures beginning { OnErr result (WritesBeginning (K.contents sink.old)
+        (K.contents sink.new) (flat_map string_bytes texts.now)) }
+    ensures failed { OnErr result (Failed (K.failures sink.old) (K.failures sink.new)) }
+{
+    match write_each(sink, texts) {
+        Ok(()) => flush(sink),
+        Err(failed) => Err(failed),
     }
 }

@@ -11,7 +11,6 @@ ghost use Rattle.operations.specs.Fields.{shape_method};
 ghost use Rattle.values.specs.Shape.{shape};
 ghost use Rattle.frames.specs.Answers.{Says, callee_seen, given as machine_given};
 
-use crate::stacks::all_of;
 use crate::world::World;
 use finding::method_named;
 use frames::{Callee, Stack};
@@ -29,22 +28,26 @@ pub(crate) fn call<'a, L: Link<'a>, P: Place>(
     world: &World<'_, L, P>,
     whole: &mut Whole<P::Work>,
     callee: &Callee<'a>,
-    items: Stack<Operand<'_>>,
+    items: Stack<Operand<'a>>,
     names: &[Text],
-    named: Stack<Operand<'_>>,
+    named: Stack<Operand<'a>>,
 ) -> Result<Operand<'a>, Broken>
     ensures { Says (call_of (L.linked world.now.linked.now) (P.place world.now.place.now)
         (callee_seen callee.now) (given_of (machine_given items.entry names.now named.entry))
         whole.old) result whole.new }
 {
-    let items = all_of(world.alloc, items)?;
-    let values = all_of(world.alloc, named)?;
-    let arguments = arguments(items.as_slice(), names, values.as_slice());
+    let items = items.into_vec();
+    let values = named.into_vec();
+    let arguments = arguments(&items, names, &values);
     call_with(world, whole, callee, &arguments)
 }
 
 /// Arguments where they lie. A name without a value, or a value without a name, is none.
-fn arguments<'a>(items: &'a [Value], names: &'a [Text], values: &'a [Value]) -> Arguments<'a>
+fn arguments<'a, 'v>(
+    items: &'a [Operand<'v>],
+    names: &'a [Text],
+    values: &'a [Operand<'v>],
+) -> Arguments<'a, 'v>
     ensures { given result ≡ given_of (machine_given items.now names.now values.now) }
 {
     if names.len() <= values.len() {
@@ -69,7 +72,7 @@ fn call_with<'a, L: Link<'a>, P: Place>(
     world: &World<'_, L, P>,
     whole: &mut Whole<P::Work>,
     callee: &Callee<'a>,
-    arguments: &Arguments<'_>,
+    arguments: &Arguments<'_, '_>,
 ) -> Result<Operand<'a>, Broken>
     ensures { Says (call_of (L.linked world.now.linked.now) (P.place world.now.place.now)
         (callee_seen callee.now) (given arguments.now) whole.old) result whole.new }
@@ -85,7 +88,7 @@ fn call_value<'a, L: Link<'a>, P: Place>(
     world: &World<'_, L, P>,
     whole: &mut Whole<P::Work>,
     value: Item<'_>,
-    arguments: &Arguments<'_>,
+    arguments: &Arguments<'_, '_>,
 ) -> Result<Value, Broken>
     ensures { Says (value_call (L.linked world.now.linked.now) (P.place world.now.place.now)
         (item_value value.entry) (given arguments.now) whole.old) result whole.new }
@@ -101,7 +104,7 @@ fn call_leaf<'a, L: Link<'a>, P: Place>(
     world: &World<'_, L, P>,
     whole: &mut Whole<P::Work>,
     leaf: &Leaf,
-    arguments: &Arguments<'_>,
+    arguments: &Arguments<'_, '_>,
 ) -> Result<Value, Broken>
     ensures { Says (leaf_call (L.linked world.now.linked.now) (P.place world.now.place.now)
         leaf.now (given arguments.now) whole.old) result whole.new }
@@ -121,7 +124,7 @@ fn call_built_in<'a, L: Link<'a>, P: Place>(
     world: &World<'_, L, P>,
     whole: &mut Whole<P::Work>,
     function: BuiltIn,
-    arguments: &Arguments<'_>,
+    arguments: &Arguments<'_, '_>,
 ) -> Result<Value, Broken>
     ensures { Says (or_place (L.linked world.now.linked.now) (P.place world.now.place.now)
         (Plain.BuiltIn function) (given arguments.now)
@@ -142,7 +145,7 @@ fn call_method<'a, L: Link<'a>, P: Place>(
     whole: &mut Whole<P::Work>,
     value: &Operand<'a>,
     name: &Text,
-    arguments: &Arguments<'_>,
+    arguments: &Arguments<'_, '_>,
 ) -> Result<Operand<'a>, Broken>
     ensures { Says (method_or_place (L.linked world.now.linked.now) (P.place world.now.place.now)
         (shape_method (shape whole.old.state.heap value.now) name.now) value.now name.now
@@ -162,7 +165,7 @@ fn call_placed<'a, L: Link<'a>, P: Place>(
     whole: &mut Whole<P::Work>,
     value: Item<'_>,
     name: &Text,
-    arguments: &Arguments<'_>,
+    arguments: &Arguments<'_, '_>,
 ) -> Result<Value, Broken>
     ensures { Says (place_method (L.linked world.now.linked.now) (P.place world.now.place.now)
         (of_place (item_value value.entry)) name.now (given arguments.now) whole.old) result

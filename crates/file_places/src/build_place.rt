@@ -47,7 +47,7 @@ impl<'a, R: Rules> Place for BuildPlace<'a, R> {
         alloc: Global,
         whole: &mut Whole<PackageTargets>,
         callee: &Leaf,
-        arguments: &Arguments<'_>,
+        arguments: &Arguments<'_, '_>,
     ) -> Result<Value, Broken> {
         match callee {
             Leaf::BuiltIn(function) => refuse_call(*function),
@@ -66,7 +66,7 @@ impl<'a, R: Rules> Place for BuildPlace<'a, R> {
         _whole: &mut Whole<PackageTargets>,
         owner: &Leaf,
         name: &Text,
-        _arguments: &Arguments<'_>,
+        _arguments: &Arguments<'_, '_>,
     ) -> Result<Value, Broken> {
         match declared_kind(owner, name) {
             Some(_) => Err(Broken::Kind(Kind::Place)),
@@ -121,7 +121,7 @@ fn call<R: Rules>(
     linked: &R,
     whole: &mut Whole<PackageTargets>,
     id: MadeId,
-    arguments: &Arguments<'_>,
+    arguments: &Arguments<'_, '_>,
 ) -> Result<Value, Broken>
     ensures { Says (rule_called (R.rules linked.now id) (given arguments.now) whole.old) result
         whole.new }
@@ -137,7 +137,7 @@ fn declare(
     alloc: Global,
     whole: &mut Whole<PackageTargets>,
     rule: &Shared<Rule>,
-    arguments: &Arguments<'_>,
+    arguments: &Arguments<'_, '_>,
 ) -> Result<Value, Broken>
     ensures { Says (rule_called (Some rule.now) (given arguments.now) whole.old) result whole.new }
 {

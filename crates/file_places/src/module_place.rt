@@ -34,7 +34,7 @@ impl<'a, A: Attributes> Place for ModulePlace<'a, A> {
         alloc: Global,
         whole: &mut Whole<Declarations>,
         callee: &Leaf,
-        arguments: &Arguments<'_>,
+        arguments: &Arguments<'_, '_>,
     ) -> Result<Value, Broken> {
         match callee {
             Leaf::BuiltIn(function) => call(alloc, self.linked, whole, *function, arguments),
@@ -53,7 +53,7 @@ impl<'a, A: Attributes> Place for ModulePlace<'a, A> {
         whole: &mut Whole<Declarations>,
         owner: &Leaf,
         name: &Text,
-        arguments: &Arguments<'_>,
+        arguments: &Arguments<'_, '_>,
     ) -> Result<Value, Broken> {
         match declared_kind(owner, name) {
             Some(kind) => call_attribute(alloc, whole, kind, arguments),
@@ -97,7 +97,7 @@ fn call<A: Attributes>(
     linked: &A,
     whole: &mut Whole<Declarations>,
     function: BuiltIn,
-    arguments: &Arguments<'_>,
+    arguments: &Arguments<'_, '_>,
 ) -> Result<Value, Broken>
     ensures { Says (built_in_call (A.declared linked.now) function (given arguments.now) whole.old)
         result whole.new }
@@ -114,7 +114,7 @@ fn call_attribute(
     alloc: Global,
     whole: &mut Whole<Declarations>,
     kind: AttributeKind,
-    arguments: &Arguments<'_>,
+    arguments: &Arguments<'_, '_>,
 ) -> Result<Value, Broken>
     ensures { Says (attribute_call (Some kind) (given arguments.now) whole.old) result whole.new }
 {

@@ -65,7 +65,7 @@ impl<'a, T: Drop> Frame<'a, T> {
         }
     }
 
-    /// Lets go all that is in the frame; its memory is kept for another function.
+    /// Lets go all that is in the frame; its memory is kept for another function, up to 1,024 items of each list.
     pub fn let_go(&mut self)
         ensures { (rest : T → List held.Value) → seen rest self.new
             ≡ record (seen rest self.old) { slots = []; values = []; callees = []; walks = [] } }

@@ -4,6 +4,7 @@ ghost use Rattle.std.specs.Prelude.{◌≡◌, ◌<◌, ◌-◌, [], ◌∷◌, 
 ghost use Rattle.meaning.specs.Outcome.{put, cleared};
 ghost use Rattle.values.specs.declared.value.Value as held;
 
+use crate::stack::KEPT;
 use operands::Operand;
 use std::alloc::{AllocError, Global};
 use std::marker::Model;
@@ -36,11 +37,12 @@ impl<'a> Slots<'a> {
         }
     }
 
-    /// Lets all slots go; their memory is kept for others.
+    /// Lets all slots go; the memory of 1,024 at most is kept for others.
     pub fn let_go(&mut self)
         ensures { self.new ≡ [] }
     {
         self.items.clear();
+        self.items.shrink_to(KEPT);
     }
 
     /// Memory for so many slots more.

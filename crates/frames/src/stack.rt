@@ -5,6 +5,9 @@ ghost use Rattle.std.specs.Prelude.{◌≡◌, List, [], ◌∷◌, length, IfOk
 use std::alloc::{AllocError, Global};
 use std::marker::Model;
 
+/// For so many items the memory is kept where a list is used again.
+pub(crate) const KEPT: usize = 1024;
+
 /// A stack; the list that a clause sees has its top first.
 #[derive(Drop)]
 pub struct Stack<T> {
@@ -70,13 +73,14 @@ impl<T> Stack<T> {
         self.items.pop()
     }
 
-    /// Lets all items go; their memory is kept for others.
+    /// Lets all items go; the memory of 1,024 at most is kept for others.
     pub fn clear(&mut self)
     where
         T: Drop,
         ensures { self.new ≡ [] }
     {
         self.items.clear();
+        self.items.shrink_to(KEPT);
     }
 
     /// The items, the top first.

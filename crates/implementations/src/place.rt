@@ -66,7 +66,7 @@ impl<'a> Place for ImplementationPlace<'a> {
         _alloc: Global,
         _whole: &mut Whole<Work>,
         callee: &Leaf,
-        _arguments: &Arguments<'_>,
+        _arguments: &Arguments<'_, '_>,
     ) -> Result<Value, Broken> {
         Err(Broken::Kind(refused(callee)))
     }
@@ -81,7 +81,7 @@ impl<'a> Place for ImplementationPlace<'a> {
         whole: &mut Whole<Work>,
         owner: &Leaf,
         name: &Text,
-        arguments: &Arguments<'_>,
+        arguments: &Arguments<'_, '_>,
     ) -> Result<Value, Broken> {
         call_method(alloc, self.label, whole, owner, name, arguments)
     }
@@ -136,7 +136,7 @@ fn call_method(
     whole: &mut Whole<Work>,
     owner: &Leaf,
     name: &Text,
-    arguments: &Arguments<'_>,
+    arguments: &Arguments<'_, '_>,
 ) -> Result<Value, Broken>
     ensures { Says (call_method label.now owner.now name.now (given arguments.now) whole.old) result
         whole.new }
@@ -162,7 +162,7 @@ fn call_action(
     label: &Label,
     whole: &mut Whole<Work>,
     method: Option<ActionMethod>,
-    arguments: &Arguments<'_>,
+    arguments: &Arguments<'_, '_>,
 ) -> Result<Value, Broken>
     ensures { Says (action_call label.now method (given arguments.now) whole.old) result whole.new }
 {

@@ -1,4 +1,5 @@
 pub mod Builds
+pub mod Crossing
 pub mod Kept
 pub mod Loading
 pub mod Tops

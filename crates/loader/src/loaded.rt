@@ -18,6 +18,7 @@ use rule_calls::PackageTargets;
 use sources::Sources;
 use std::alloc::{AllocError, Global};
 use std::marker::Model;
+use std::thread::Threads;
 use values::Kind;
 use workspace::Workspace;
 
@@ -59,14 +60,23 @@ impl LoadedFiles {
     /// Reads the files of a workspace, and evaluates its modules, each once and each after those that it loads. `limit` is
     /// how many ticks each evaluation may use: of a module, and later of a `BUILD` file or an implementation.
     ///
+    /// Files are read by so many threads, which have ended when this returns; `rt` is the permission to start them. Modules
+    /// are evaluated by the thread that calls.
+    ///
     /// # Errors
     ///
     /// `AllocError` where memory was refused.
-    pub fn of(alloc: Global, workspace: &Workspace, limit: u64) -> Result<LoadedFiles, AllocError>
+    pub fn of<R: Threads + Sync>(
+        rt: &R,
+        alloc: Global,
+        workspace: &Workspace,
+        limit: u64,
+        threads: usize,
+    ) -> Result<LoadedFiles, AllocError>
         ensures files { IfOk result (λ l. AreFilesOf workspace.now l.files) }
         ensures limit { IfOk result (λ l. l.limit ≡ limit) }
     {
-        let sources = Sources::of(alloc, workspace)?;
+        let sources = Sources::of(rt, alloc, workspace, threads)?;
         let evaluator = Evaluator {
             sources,
             info: DefaultInfo::new(alloc)?,

@@ -9,6 +9,7 @@ ghost use Rattle.printing.specs.Repr.{string_in};
 ghost use Rattle.operations.specs.Depsets.{new_depset, order_named, order_text, order_in, parts_in, element_in, parts_of, made_of, depset_of};
 
 use crate::parts::{children, elements};
+use operands::Operand;
 use operations::State;
 use std::alloc::Global;
 use values::{Broken, Depset, DepsetError, Element, Heap, Id, Key, Kind, Leaf, Order, Seen, Value};
@@ -70,27 +71,31 @@ fn order_of(value: &Seen<'_>) -> Option<Order>
 }
 
 /// The order that an argument names; the default where there is none.
-fn order_in(heap: &Heap, order: Option<&Value>) -> Result<Order, Broken>
+fn order_in(heap: &Heap, order: Option<&Operand<'_>>) -> Result<Order, Broken>
     ensures { Gives (order_in heap.now (option_copied order.entry)) result }
 {
     let Some(order) = order else {
         return Ok(Order::Default);
     };
-    match order_of(&heap.see(order)) {
+    match order_of(&heap.see_item(order.item())) {
         Some(order) => Ok(order),
         None => Err(Broken::Kind(Kind::Wrong)),
     }
 }
 
 /// The elements of an argument, none where there is none.
-fn elements_in(alloc: Global, heap: &Heap, direct: Option<&Value>) -> Result<Vec<Element>, Broken>
+fn elements_in(
+    alloc: Global,
+    heap: &Heap,
+    direct: Option<&Operand<'_>>,
+) -> Result<Vec<Element>, Broken>
     ensures { MatchResult result (λ v. parts_in element_in heap.now (option_copied direct.entry)
         ≡ Ok v.items) (λ e. FaultOr (parts_in element_in heap.now (option_copied direct.entry)) e) }
 {
     let Some(direct) = direct else {
         return Ok(Vec::new(alloc));
     };
-    match heap.see(direct) {
+    match heap.see_item(direct.item()) {
         Seen::List(items) => elements(alloc, items, heap),
         Seen::Tuple(items) => elements(alloc, items, heap),
         _ => Err(Broken::Kind(Kind::Wrong)),
@@ -101,7 +106,7 @@ fn elements_in(alloc: Global, heap: &Heap, direct: Option<&Value>) -> Result<Vec
 fn children_in(
     alloc: Global,
     heap: &Heap,
-    transitive: Option<&Value>,
+    transitive: Option<&Operand<'_>>,
 ) -> Result<Vec<Depset>, Broken>
     ensures { MatchResult result (λ v. parts_in depset_in heap.now (option_copied transitive.entry)
         ≡ Ok v.items) (λ e. FaultOr (parts_in depset_in heap.now (option_copied transitive.entry))
@@ -110,7 +115,7 @@ fn children_in(
     let Some(transitive) = transitive else {
         return Ok(Vec::new(alloc));
     };
-    match heap.see(transitive) {
+    match heap.see_item(transitive.item()) {
         Seen::List(items) => children(alloc, items, heap),
         Seen::Tuple(items) => children(alloc, items, heap),
         _ => Err(Broken::Kind(Kind::Wrong)),
@@ -129,9 +134,9 @@ struct Parts {
 fn read_parts(
     alloc: Global,
     heap: &Heap,
-    direct: Option<&Value>,
-    order: Option<&Value>,
-    transitive: Option<&Value>,
+    direct: Option<&Operand<'_>>,
+    order: Option<&Operand<'_>>,
+    transitive: Option<&Operand<'_>>,
 ) -> Result<Parts, Broken>
     ensures { MatchResult result (λ p. parts_of heap.now (option_copied direct.entry)
         (option_copied order.entry) (option_copied transitive.entry)
@@ -166,9 +171,9 @@ fn read_parts(
 pub fn depset(
     alloc: Global,
     state: &mut State,
-    direct: Option<&Value>,
-    order: Option<&Value>,
-    transitive: Option<&Value>,
+    direct: Option<&Operand<'_>>,
+    order: Option<&Operand<'_>>,
+    transitive: Option<&Operand<'_>>,
 ) -> Result<Value, Broken>
     ensures { Does (depset_of (option_copied direct.entry) (option_copied order.entry)
         (option_copied transitive.entry)) state.old result state.new }

@@ -13,6 +13,7 @@ ghost use Rattle.operations.specs.Names.{in_slot};
 ghost use Rattle.operations.specs.Instances.{are_fields, given_fields, new_instance, with_fields, constructed, unless_placed, with_files, with_new_files, info_with, files_in, only_files};
 
 use crate::depset_calls::new_depset;
+use operands::Operand;
 use operations::{Arguments, State};
 use plain::{Shared, Text};
 use std::alloc::{AllocError, Global};
@@ -29,7 +30,7 @@ pub fn construct(
     alloc: Global,
     state: &mut State,
     provider: &Shared<Provider>,
-    arguments: &Arguments<'_>,
+    arguments: &Arguments<'_, '_>,
 ) -> Result<Value, Broken>
     ensures { Does (constructed provider.now (given arguments.now)) state.old result state.new }
 {
@@ -45,7 +46,7 @@ fn with_fields(
     state: &mut State,
     provider: &Shared<Provider>,
     names: &[Text],
-    values: &[Value],
+    values: &[Operand<'_>],
 ) -> Result<Value, Broken>
     ensures { Does (with_fields provider.now names.now values.now) state.old result state.new }
 {
@@ -90,7 +91,7 @@ fn given_fields(
     alloc: Global,
     fields: &[Text],
     names: &[Text],
-    values: &[Value],
+    values: &[Operand<'_>],
 ) -> Result<Fields, AllocError>
     ensures { IfOk result (λ os. os ≡ given_fields fields.now names.now values.now) }
 {
@@ -105,13 +106,13 @@ fn given_fields(
 fn put_field(
     field: &Text,
     names: &[Text],
-    values: &[Value],
+    values: &[Operand<'_>],
     slots: &mut Fields,
 ) -> Result<(), AllocError>
     ensures { OnOk result (slots.new ≡ slots.old ++ given_for field.now names.now values.now ∷ []) }
 {
     let value = match given_for(field.as_str(), names, values) {
-        Some(value) => Some(value.share()?),
+        Some(value) => Some(value.item().to_value()?),
         None => None,
     };
     slots.push(value)?;
@@ -119,7 +120,11 @@ fn put_field(
 }
 
 /// What was given under a name.
-pub fn given_for<'a>(name: &str, names: &[Text], values: &'a [Value]) -> Option<&'a Value>
+pub fn given_for<'a, 'v>(
+    name: &str,
+    names: &[Text],
+    values: &'a [Operand<'v>],
+) -> Option<&'a Operand<'v>>
     ensures { option_copied result ≡ given_for name.now names.now values.now }
 {
     match place_named(name, names) {
@@ -179,7 +184,7 @@ pub fn default_info(
     alloc: Global,
     state: &mut State,
     provider: &Shared<Provider>,
-    files: Option<&Value>,
+    files: Option<&Operand<'_>>,
 ) -> Result<Value, Broken>
     ensures { Does (info_with provider.now (option_copied files.entry)) state.old result state.new }
 {
@@ -220,14 +225,14 @@ fn info_of_files(
     alloc: Global,
     state: &mut State,
     provider: &Shared<Provider>,
-    files: &Value,
+    files: &Operand<'_>,
 ) -> Result<Value, Broken>
     ensures { Does (info_with provider.now (Some files.now)) state.old result state.new }
 {
-    if !are_files(&state.heap.see(files)) {
+    if !are_files(&state.heap.see_item(files.item())) {
         return Err(Broken::Kind(Kind::Wrong));
     }
-    let files = files.share()?;
+    let files = files.item().to_value()?;
     with_files(alloc, state, provider, files)
 }
 

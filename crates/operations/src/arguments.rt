@@ -1,12 +1,12 @@
 //! The arguments of a call of what isn't written in Starlark.
 
+use operands::Operand;
 use plain::Text;
-use values::Value;
 
 /// Arguments where they lie: those by position, and those by name, whose names and values stand by place.
 #[derive(Clone, Copy)]
-pub struct Arguments<'a> {
-    pub items: &'a [Value],
+pub struct Arguments<'a, 'v> {
+    pub items: &'a [Operand<'v>],
     pub names: &'a [Text],
-    pub values: &'a [Value],
+    pub values: &'a [Operand<'v>],
 }

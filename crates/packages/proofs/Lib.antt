@@ -1,3 +1,4 @@
 pub mod Tables
 pub mod Files
 pub mod Names
+pub mod InOrder

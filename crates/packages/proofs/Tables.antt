@@ -1,17 +1,13 @@
 -- Packages that are found by name.
-use Rattle.std.proofs.Common.{◌≡◌, ℕ, inl, inr, Bool, true, false, cond, List, Option, Some, None, Result, Ok, Err, sym, ap, ◌∙◌, refl, true≢false}
-use Rattle.std.specs.Prelude.{is_some, if◌then◌else◌, MatchResult}
+use Rattle.std.proofs.Common.{◌≡◌, ℕ, inl, inr, Bool, true, false, cond, List, Option, Some, None, sym, ap, ◌∙◌, refl, true≢false}
+use Rattle.std.specs.Prelude.{is_some, if◌then◌else◌}
 use Rattle.std.specs.Str.{bytes_eq}
 use Rattle.std.specs.Map.{lookup}
 use Rattle.std.proofs.lemmas.Slice.Eq.{bytes_eq-Decides}
-use Rattle.lexer.specs.declared.fault.FaultKind.{FaultKind}
-use Rattle.values.specs.declared.ticks.Kind.{Kind}
-use Rattle.loading.specs.Loads.{LoadFault, first_of}
+use Rattle.loading.specs.Loads.{first_of}
 use Rattle.targets.proofs.Facts.{cases_of}
-use Rattle.targets.specs.declared.target.Target.{Target}
-use Rattle.rule_calls.specs.Packages.{Declared}
 use Rattle.packages.specs.declared.kept.Package.{Package as Kept}
-use Rattle.packages.specs.Kept.{Table, targets_in}
+use Rattle.packages.specs.Kept.{Table}
 
 pub first_none : {A : Type 0} (a : Option A) → first_of a None ≡ a
 first_none None = refl
@@ -50,9 +46,3 @@ module _ (name : List ℕ) (x : Kept) (old : Table) (p : List ℕ) where
       kept_first : {A : Type 0} (o later : Option A) → is_some o ≡ true → o ≡ first_of o later
       kept_first None later h = absurd (true≢false (sym h))
       kept_first (Some y) later h = refl
-
--- ---- what a BUILD file comes to
-
-pub built_is : (r : Result Declared (LoadFault FaultKind Kind)) (meant : Result (List Target) (LoadFault FaultKind Kind)) → MatchResult r (λ d. meant ≡ Ok d.targets) (λ f. meant ≡ Err f) → targets_in r ≡ meant
-built_is (Ok d) meant h = sym h
-built_is (Err f) meant h = sym h

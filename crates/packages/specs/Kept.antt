@@ -13,7 +13,6 @@ use Rattle.modules.specs.declared.sorting.FileFault.{FileFault}
 use Rattle.targets.specs.Resolving.{Package, no_build_file, faulty, declaring}
 use Rattle.targets.specs.declared.target.Target.{Target}
 use Rattle.evaluation.specs.declared.handed.Module.{Module}
-use Rattle.rule_calls.specs.Packages.{Declared}
 use Rattle.loader.specs.Files.{loads, build_at, fault_at, faults}
 use Rattle.packages.specs.declared.kept.Package.{Package as Kept}
 use Rattle.packages.specs.declared.kept.Package.TheVariants as kept
@@ -27,10 +26,6 @@ abbrev pub Table : Type 0
 Table = List (List ℕ × Kept)
 
 -- ---- what a package has
-
-abbrev pub targets_in : Result Declared (LoadFault FaultKind Kind) → Result (List Target) (LoadFault FaultKind Kind)
-targets_in (Ok d) = Ok d.targets
-targets_in (Err f) = Err f
 
 abbrev pub kept_with : Result (List Target) (LoadFault FaultKind Kind) → Kept
 kept_with (Ok ts) = kept.Declared ts

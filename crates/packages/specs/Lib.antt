@@ -1,3 +1,4 @@
 pub mod Packages
+pub mod Built
 pub mod Kept
 pub mod Seen

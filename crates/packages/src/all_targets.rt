@@ -21,6 +21,7 @@ use plain::{Shared, Text};
 use rule_calls::Name;
 use std::alloc::{AllocError, Global};
 use std::marker::Model;
+use std::thread::Threads;
 use targets::Target;
 use values::Kind;
 use workspace::Label;
@@ -79,15 +80,21 @@ fn is_file(alloc: Global, files: &LoadedFiles, label: &Label) -> Result<bool, Al
 }
 
 impl Targets {
-    /// Evaluates each `BUILD` file of a workspace, in the order of their paths.
+    /// Evaluates each `BUILD` file of a workspace, by one of so many threads, which have ended when this returns. `rt` is the
+    /// permission to start threads.
     ///
     /// # Errors
     ///
     /// `AllocError` where memory was refused.
-    pub fn declare(alloc: Global, files: LoadedFiles) -> Result<Targets, AllocError>
+    pub fn declare<R: Threads + Sync>(
+        rt: &R,
+        alloc: Global,
+        files: LoadedFiles,
+        threads: usize,
+    ) -> Result<Targets, AllocError>
         ensures { IfOk result (λ t. t ≡ files) }
     {
-        let Declared { packages, faults } = declare_all(alloc, &files)?;
+        let Declared { packages, faults } = declare_all(rt, alloc, &files, threads)?;
         Ok(Targets {
             alloc,
             files,

@@ -1,17 +1,15 @@
 //! The faults of files, in the order of their paths.
 ghost use Rattle.std.specs.Prelude.{◌≡◌, ◌++◌, Some, OnOk, IfOk};
 ghost use Rattle.modules.specs.Modules.{fault_in};
-ghost use Rattle.packages.specs.Kept.{ModuleTold, kept_with, targets_in};
+ghost use Rattle.packages.specs.Kept.{ModuleTold, kept_with};
 
-use crate::kept::{DeclaredTargets, Package};
+use crate::kept::{BuiltPackage, Package};
 use crate::shares::share_fault;
 use evaluation::Module;
 use lexer::FaultKind;
-use loading::{LoadFaultKind, Placed};
 use modules::{FileFault, Modules};
 use plain::Text;
-use rule_calls::PackageTargets;
-use std::alloc::{AllocError, Global};
+use std::alloc::AllocError;
 use values::Kind;
 
 /// Puts the fault of the module at a path behind the others, if it has one. It is the first of those that are left, `rest`:
@@ -37,19 +35,18 @@ pub(crate) fn put_module_fault<'a>(
     }
 }
 
-/// What a package has whose `BUILD` file, at a path, comes to this. Its fault, if it has one, is put behind the others.
+/// What a package has whose `BUILD` file, at a path, came to this. Its fault, if it has one, is put behind the others.
 pub(crate) fn package_with(
-    alloc: Global,
     path: &Text,
-    built: Result<PackageTargets, Placed<LoadFaultKind<FaultKind, Kind>>>,
+    built: BuiltPackage,
     faults: &mut Vec<FileFault<FaultKind, Kind>>,
 ) -> Result<Package, AllocError>
-    ensures package { IfOk result (λ p. p ≡ kept_with (targets_in built)) }
+    ensures package { IfOk result (λ p. p ≡ kept_with built) }
     ensures faults { OnOk result (faults.new.items
-        ≡ faults.old.items ++ fault_in path.now (Some (targets_in built))) }
+        ≡ faults.old.items ++ fault_in path.now (Some built)) }
 {
     match built {
-        Ok(targets) => Ok(Package::Declared(DeclaredTargets::new(alloc, targets)?)),
+        Ok(targets) => Ok(Package::Declared(targets)),
         Err(fault) => {
             faults.push(FileFault {
                 path: path.share()?,

@@ -4,11 +4,14 @@ ghost use Rattle.targets.specs.Resolving.{dependencies, target_with};
 ghost use Rattle.packages.specs.Packages.{all_dependencies};
 
 use analysis::dependencies;
+use lexer::FaultKind;
+use loading::{LoadFaultKind, Placed};
 use plain::Shared;
 use rule_calls::PackageTargets;
 use std::alloc::{AllocError, Global};
 use std::marker::Model;
 use targets::{Sequence, Target};
+use values::Kind;
 use workspace::Label;
 
 /// The targets that a package declares, in order, and what each depends on.
@@ -38,6 +41,9 @@ pub(crate) enum Package {
     /// What it declares.
     Declared(DeclaredTargets),
 }
+
+/// What a `BUILD` file comes to: what it declares, or why it fails.
+pub(crate) type BuiltPackage = Result<DeclaredTargets, Placed<LoadFaultKind<FaultKind, Kind>>>;
 
 /// What each target depends on, in the order of the targets.
 fn all_dependencies(

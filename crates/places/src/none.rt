@@ -49,7 +49,7 @@ impl Place for NoPlace {
         _alloc: Global,
         _whole: &mut Whole<()>,
         _callee: &Leaf,
-        _arguments: &Arguments<'_>,
+        _arguments: &Arguments<'_, '_>,
     ) -> Result<Value, Broken> {
         Err(Broken::Kind(Kind::Place))
     }
@@ -64,7 +64,7 @@ impl Place for NoPlace {
         _whole: &mut Whole<()>,
         _owner: &Leaf,
         _name: &Text,
-        _arguments: &Arguments<'_>,
+        _arguments: &Arguments<'_, '_>,
     ) -> Result<Value, Broken> {
         Err(Broken::Kind(Kind::Name))
     }

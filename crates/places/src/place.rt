@@ -28,7 +28,7 @@ pub trait Place {
         alloc: Global,
         whole: &mut Whole<Self::Work>,
         callee: &Leaf,
-        arguments: &Arguments<'_>,
+        arguments: &Arguments<'_, '_>,
     ) -> Result<Value, Broken>
         ensures { Says ((place self.now).call callee.now (given arguments.now) whole.old) result
             whole.new };
@@ -44,7 +44,7 @@ pub trait Place {
         whole: &mut Whole<Self::Work>,
         owner: &Leaf,
         name: &Text,
-        arguments: &Arguments<'_>,
+        arguments: &Arguments<'_, '_>,
     ) -> Result<Value, Broken>
         ensures { Says ((place self.now).method owner.now name.now (given arguments.now) whole.old)
             result whole.new };

@@ -1,13 +1,12 @@
 -- The lines of the parts of nodes, one after the other, are those of the whole.
-use Rattle.std.proofs.Common.{arith, ◌≡◌, inl, inr, ℕ, ◌+◌, ◌*◌, List, [], ◌∷◌, ◌++◌, take, length, flat_map, ap, sym, ◌∙◌, append_assoc, string_bytes, String}
-use Rattle.std.proofs.lemmas.Bool.{cases_lt}
-use Rattle.std.proofs.lemmas.Grind.{flat_map-append}
-use Rattle.std.proofs.lemmas.List.{map-append, get_or_append_left, get_or_push, length_push}
+use Rattle.std.proofs.Common.{arith, ◌≡◌, ℕ, suc, ◌+◌, ◌*◌, ◌/◌, ◌%◌, ◌<◌, ◌≤◌, min, List, [], ◌∷◌, ◌++◌, length, take, get_or, flat_map, ap, sym, subst, ◌∙◌, append_assoc, string_bytes, String}
+use Rattle.std.proofs.lemmas.Grind.{flat_map-append, div_ceil_times}
+use Rattle.std.proofs.lemmas.List.{map-append, append-nil, take_all}
 use Rattle.std.proofs.Math.Seq.{take-add}
 use Rattle.std.specs.Fork.{slice_chunk}
 use Rattle.depsets.specs.Listed.{walked}
 use Rattle.reporting.specs.Answers.{node_text}
-use Rattle.reporting.specs.Seen.{node_seen, nodes_seen, lines_of, HaveLines}
+use Rattle.reporting.specs.Seen.{AreParts, node_seen, nodes_seen, lines_of, text_of}
 use Rattle.reporting.specs.declared.node_lines.Node.{Node}
 
 pub lines_of_both : (ns ms : List Node) → lines_of ns ++ lines_of ms ≡ lines_of (ns ++ ms)
@@ -15,24 +14,40 @@ lines_of_both ns ms =
     sym (ap (flat_map (node_text walked)) (map-append node_seen ns ms) ∙ flat_map-append (node_text walked) (nodes_seen ns) (nodes_seen ms))
 
 -- one part more
-pub part_next : (ns : List Node) (size i : ℕ) (text : List ℕ)
-    → (text ++ lines_of (take (i * size) ns)) ++ lines_of (slice_chunk ns size i) ≡ text ++ lines_of (take ((i + 1) * size) ns)
-part_next ns size i text =
-    append_assoc text (lines_of (take (i * size) ns)) (lines_of (slice_chunk ns size i))
-    ∙ ap (λ t. text ++ t) (lines_of_both (take (i * size) ns) (slice_chunk ns size i))
-    ∙ ap (λ t. text ++ lines_of t) (sym (take-add (i * size) size ns) ∙ ap (λ n. take n ns) (grind arith))
+part_next : (ns : List Node) (size i : ℕ)
+    → lines_of (take (i * size) ns) ++ lines_of (slice_chunk ns size i) ≡ lines_of (take ((i + 1) * size) ns)
+part_next ns size i =
+    lines_of_both (take (i * size) ns) (slice_chunk ns size i)
+    ∙ ap lines_of (sym (take-add (i * size) size ns) ∙ ap (λ n. take n ns) (grind arith))
 
--- the text of one part more of those that a thread writes
-pub have_next : {A : Type 0} (ns : List Node) (size first step : ℕ) (texts : List (String A)) (t : String A)
-    → HaveLines ns size first step texts → string_bytes t ≡ lines_of (slice_chunk ns size (first + length texts * step))
-    → HaveLines ns size first step (texts ++ t ∷ [])
-have_next ns size first step texts t have here k d low = elim (cases_lt k (length texts)) [
-  | inl old ↦ ap string_bytes (get_or_append_left texts (t ∷ []) d k old) ∙ have k d old
-  | inr new ↦
-      let last : length texts ≡ k = omega (arith, low, new, length_push texts t) in
-      ap string_bytes (get_or_push texts t d k last) ∙ here ∙ ap (λ j. lines_of (slice_chunk ns size (first + j * step))) last
-]
+-- the texts of the parts from one on, behind the lines of the nodes before them
+parts_from : {A : Type 0} (ns : List Node) (size i : ℕ) (ts : List (String A))
+    → ((j : ℕ) (d : String A) → j < length ts → string_bytes (get_or ts j d) ≡ lines_of (slice_chunk ns size (i + j)))
+    → lines_of (take (i * size) ns) ++ text_of ts ≡ lines_of (take ((i + length ts) * size) ns)
+parts_from ns size i [] each =
+    let same : i ≡ i + 0 = omega arith in
+    append-nil (lines_of (take (i * size) ns)) ∙ ap (λ n. lines_of (take (n * size) ns)) same
+parts_from ns size i (t ∷ ts) each =
+    let before = lines_of (take (i * size) ns) in
+    let first : i + 0 ≡ i = omega arith in
+    let here = each 0 t (omega arith) ∙ ap (λ n. lines_of (slice_chunk ns size n)) first in
+    let last : i + 1 + length ts ≡ i + suc (length ts) = omega arith in
+    sym (append_assoc before (string_bytes t) (text_of ts))
+    ∙ ap (λ l. l ++ text_of ts) (ap (λ l. before ++ l) here ∙ part_next ns size i)
+    ∙ parts_from ns size (i + 1) ts (λ j d low.
+    let next : i + suc j ≡ i + 1 + j = omega arith in
+    each (suc j) d (omega (arith, low)) ∙ ap (λ n. lines_of (slice_chunk ns size n)) next)
+    ∙ ap (λ n. lines_of (take (n * size) ns)) last
 
--- the place of the next part that a thread writes
-pub place_next : (first k step place : ℕ) → place ≡ first + k * step → place + step ≡ first + (k + 1) * step
-place_next first k step place at = ap (λ p. p + step) at ∙ grind arith
+-- the texts of all parts, one after the other, are the lines of the whole
+pub parts_are_whole : {A : Type 0} (ns : List Node) (size : ℕ) (texts : List (String A)) → 0 < size → AreParts ns size texts
+    → text_of texts ≡ lines_of ns
+parts_are_whole ns size texts some parts =
+    let none : 0 * size ≡ 0 = grind arith in
+    let all : length ns ≤ (0 + length texts) * size =
+    subst (λ n. length ns ≤ n * size) (let same : length ns / size + min 1 (length ns % size) ≡ 0 + length texts = omega (arith, parts.len) in same) (div_ceil_times (length ns) size some).0 in
+    sym (ap (λ n. lines_of (take n ns) ++ text_of texts) none)
+    ∙ parts_from ns size 0 texts (λ j d low.
+    let same : j ≡ 0 + j = omega arith in
+    parts.each j d low ∙ ap (λ n. lines_of (slice_chunk ns size n)) same)
+    ∙ ap lines_of (take_all ((0 + length texts) * size) ns all)

@@ -8,11 +8,12 @@ ghost use Rattle.workspace.specs.Labels.{label_text};
 ghost use Rattle.targets.specs.Steps.{is_failed};
 ghost use Rattle.reporting.specs.Lines.{conflict_line};
 ghost use Rattle.reporting.specs.Answers.{actions_of, file_line, has_some, is_loud, node_actions, node_text, owned_actions, owned_by, report_text};
-ghost use Rattle.reporting.specs.Seen.{node_seen, nodes_seen};
+ghost use Rattle.reporting.specs.Seen.{node_seen, nodes_seen, text_of};
+ghost use Rattle.reporting.specs.Reported.{report_bytes};
 
 use crate::conflict_lines::put_conflict;
 use crate::load_lines::put_load_fault;
-use crate::node_lines::{Node, put_by_threads};
+use crate::node_lines::{Node, node_parts};
 use actions::{Action, Claims, Conflict};
 use lexer::FaultKind;
 use modules::FileFault;
@@ -25,8 +26,33 @@ use values::Kind;
 /// The text of a report, and whether it is loud: whether it tells of a file that failed, a target that failed or a conflict.
 #[derive(Drop)]
 pub struct Report {
-    pub text: String,
+    /// Parts of the text, which stand one after the other.
+    pub parts: Vec<String>,
     pub loud: bool,
+}
+
+impl Report {
+    /// The bytes of the whole text.
+    ///
+    /// # Errors
+    ///
+    /// `AllocError` where memory was refused.
+    pub fn to_bytes(&self, alloc: Global) -> Result<Vec<u8>, AllocError>
+        ensures { IfOk result (λ bytes. bytes.items ≡ report_bytes self.now) }
+    {
+        joined(alloc, &self.parts)
+    }
+}
+
+/// The bytes of texts, one after the other.
+fn joined(alloc: Global, texts: &[String]) -> Result<Vec<u8>, AllocError>
+    ensures { IfOk result (λ bytes. bytes.items ≡ text_of texts.now) }
+{
+    let mut bytes = Vec::new(alloc);
+    for text in texts {
+        bytes.extend_from_slice(text.as_bytes())?;
+    }
+    Ok(bytes)
 }
 
 /// Appends a line for each file that failed.
@@ -157,13 +183,13 @@ pub fn make_report<R: Threads + Sync>(
     threads: usize,
 ) -> Result<Report, AllocError>
     ensures text { IfOk result
-        (λ r. string_bytes r.text ≡ report_text walked faults.now (nodes_seen nodes.now)) }
+        (λ r. report_bytes r ≡ report_text walked faults.now (nodes_seen nodes.now)) }
     ensures loud { IfOk result (λ r. r.loud ≡ is_loud faults.now (nodes_seen nodes.now)) }
 {
     let conflicts = conflicts_of(alloc, nodes)?;
-    let text = lines(rt, alloc, faults, nodes, &conflicts, threads)?;
+    let parts = lines(rt, alloc, faults, nodes, &conflicts, threads)?;
     let loud = is_loud(faults, nodes, &conflicts);
-    Ok(Report { text, loud })
+    Ok(Report { parts, loud })
 }
 
 /// Whether a report tells of a file that failed, a target that failed or one of these conflicts.
@@ -178,7 +204,25 @@ fn is_loud(
     !faults.is_empty() || has_failed(nodes) || !conflicts.is_empty()
 }
 
-/// All lines.
+/// The lines of files that failed.
+fn fault_lines(alloc: Global, faults: &[FileFault<FaultKind, Kind>]) -> Result<String, AllocError>
+    ensures { IfOk result (λ text. string_bytes text ≡ flat_map file_line faults.now) }
+{
+    let mut out = String::new(alloc);
+    put_faults(&mut out, faults)?;
+    Ok(out)
+}
+
+/// The lines of conflicts.
+fn conflict_lines(alloc: Global, conflicts: &[Conflict]) -> Result<String, AllocError>
+    ensures { IfOk result (λ text. string_bytes text ≡ flat_map conflict_line conflicts.now) }
+{
+    let mut out = String::new(alloc);
+    put_conflicts(&mut out, conflicts)?;
+    Ok(out)
+}
+
+/// All lines, in parts.
 fn lines<R: Threads + Sync>(
     rt: &R,
     alloc: Global,
@@ -186,14 +230,15 @@ fn lines<R: Threads + Sync>(
     nodes: &[Node<'_>],
     conflicts: &[Conflict],
     threads: usize,
-) -> Result<String, AllocError>
-    ensures { IfOk result (λ text. string_bytes text ≡ flat_map file_line faults.now
+) -> Result<Vec<String>, AllocError>
+    ensures { IfOk result (λ parts. text_of parts.items ≡ flat_map file_line faults.now
         ++ (flat_map (node_text walked) (nodes_seen nodes.now)
         ++ flat_map conflict_line conflicts.now)) }
 {
-    let mut out = String::new(alloc);
-    put_faults(&mut out, faults)?;
-    put_by_threads(rt, alloc, &mut out, nodes, threads)?;
-    put_conflicts(&mut out, conflicts)?;
-    Ok(out)
+    let mut parts = Vec::new(alloc);
+    parts.push(fault_lines(alloc, faults)?)?;
+    let mut nodes = node_parts(rt, alloc, nodes, threads)?;
+    parts.append(&mut nodes)?;
+    parts.push(conflict_lines(alloc, conflicts)?)?;
+    Ok(parts)
 }

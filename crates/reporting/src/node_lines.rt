@@ -1,22 +1,20 @@
 //! The lines of labels, written by several threads.
-ghost use Rattle.std.specs.Prelude.{◌≡◌, ◌++◌, ◌<◌, ◌≤◌, ◌*◌, drop, length, string_bytes, IfOk, IfSome, OnOk};
+ghost use Rattle.std.specs.Prelude.{◌≡◌, ◌++◌, ◌<◌, drop, length, string_bytes, IfOk, OnOk};
 ghost use Rattle.std.specs.Fork.{slice_chunk};
 ghost use Rattle.depsets.specs.Listed.{walked};
 ghost use Rattle.reporting.specs.Answers.{node_text};
-ghost use Rattle.reporting.specs.Seen.{AreLinesOf, HaveLines, lines_of, node_seen};
+ghost use Rattle.reporting.specs.Seen.{AreParts, lines_of, node_seen, text_of};
 
 use crate::outcome_lines::put_outcome;
+use parallel::map_places;
 use std::alloc::{AllocError, Global};
-use std::thread::{Threads, map_indices};
+use std::thread::Threads;
 use targets::Outcome;
 use workspace::Label;
 
-/// How many nodes are worth more than one thread.
-const FEW: usize = 128;
-
-/// How many parts of the nodes each thread writes. Nodes that stand together are often much alike in length, so a thread's parts
-/// lie apart.
-const PARTS: usize = 16;
+/// How many nodes each part of a report has. A thread takes the next part that none has taken, so the more parts there are
+/// the more evenly the threads end.
+const PART: usize = 256;
 
 /// A label, and what becomes of it.
 #[derive(Clone, Copy)]
@@ -44,12 +42,13 @@ fn put_nodes(alloc: Global, out: &mut String, nodes: &[Node<'_>]) -> Result<(), 
     Ok(())
 }
 
-/// The lines of nodes.
+/// The lines of nodes, in no more memory than they take.
 fn lines(alloc: Global, nodes: &[Node<'_>]) -> Result<String, AllocError>
     ensures { IfOk result (λ t. string_bytes t ≡ lines_of nodes.now) }
 {
     let mut out = String::new(alloc);
     put_nodes(alloc, &mut out, nodes)?;
+    out.shrink_to_fit();
     Ok(out)
 }
 
@@ -68,110 +67,52 @@ fn part_at<'n, 'a>(nodes: &'n [Node<'a>], size: usize, place: usize) -> &'n [Nod
     &rest[..size.min(rest.len())]
 }
 
-/// The lines of every so many-th part of nodes, from the first one on.
-fn lines_of_parts(
+/// The lines of a part, where each part has so many nodes.
+fn lines_of_part(
     alloc: Global,
-    nodes: &[Node<'_>],
-    size: usize,
-    first: usize,
-    step: usize,
-) -> Result<Vec<String>, AllocError>
-    requires { (0 < size) × (0 < step) }
-    ensures { IfOk result (λ texts. HaveLines nodes.now size first step texts.items) }
-{
-    let parts = nodes.len().div_ceil(size);
-    let mut texts = Vec::new(alloc);
-    let mut place = first;
-    while place < parts {
-        texts.push(lines(alloc, part_at(nodes, size, place))?)?;
-        place = place.saturating_add(step);
-    }
-    Ok(texts)
-}
-
-/// The text of a part, if it was written: that of part p is the text at place p / n of list p % n, of n lists.
-fn text_of_part<'t>(
-    texts: &'t [Result<Vec<String>, AllocError>],
     nodes: &[Node<'_>],
     size: usize,
     place: usize,
-) -> Option<&'t str>
-    requires lines { AreLinesOf nodes.now size texts.now }
-    requires some { 0 < length texts.now }
-    ensures { IfSome result (λ t. t.now ≡ lines_of (slice_chunk nodes.now size place)) }
+) -> Result<String, AllocError>
+    ensures { IfOk result (λ t. string_bytes t ≡ lines_of (slice_chunk nodes.now size place)) }
 {
-    let _nodes = nodes;
-    let lists = texts.len();
-    match &texts[place % lists] {
-        Ok(list) => match list.get(place / lists) {
-            Some(text) => Some(text.as_str()),
-            None => None,
-        },
-        Err(_) => None,
-    }
+    lines(alloc, part_at(nodes, size, place))
 }
 
-/// Appends the lines of a part. What wasn't written before is written here.
-fn put_part(
-    alloc: Global,
-    out: &mut String,
-    part: &[Node<'_>],
-    text: Option<&str>,
-) -> Result<(), AllocError>
-    requires { IfSome text (λ t. t.now ≡ lines_of part.now) }
-    ensures { OnOk result (string_bytes out.new ≡ string_bytes out.old ++ lines_of part.now) }
-{
-    match text {
-        Some(text) => out.push_str(text),
-        None => put_nodes(alloc, out, part),
-    }
-}
-
-/// Appends the lines of nodes, of whose parts these are the texts.
-fn put_parts(
-    alloc: Global,
-    out: &mut String,
-    nodes: &[Node<'_>],
-    size: usize,
-    texts: &[Result<Vec<String>, AllocError>],
-) -> Result<(), AllocError>
-    requires lines { AreLinesOf nodes.now size texts.now }
-    requires some { (0 < length texts.now) × (0 < size) }
-    ensures { OnOk result (string_bytes out.new ≡ string_bytes out.old ++ lines_of nodes.now) }
-{
-    let parts = nodes.len().div_ceil(size);
-    for place in 0..parts {
-        let text = text_of_part(texts, nodes, size, place);
-        put_part(alloc, out, part_at(nodes, size, place), text)?;
-    }
-    Ok(())
-}
-
-/// Appends the lines of nodes, which are written by so many threads at most, each of parts of them that lie apart.
-///
-/// Where no thread can be started, the parts are written one after the other.
-pub(crate) fn put_by_threads<R: Threads + Sync>(
+/// The lines of each part, where each part has so many nodes, written by so many threads.
+fn lines_of_parts<R: Threads + Sync>(
     rt: &R,
     alloc: Global,
-    out: &mut String,
     nodes: &[Node<'_>],
+    size: usize,
     threads: usize,
-) -> Result<(), AllocError>
-    ensures { OnOk result (string_bytes out.new ≡ string_bytes out.old ++ lines_of nodes.now) }
+) -> Result<Vec<String>, AllocError>
+    requires { 0 < size }
+    ensures { IfOk result (λ texts. AreParts nodes.now size texts.items) }
 {
-    if threads < 2 || nodes.len() < FEW {
-        return put_nodes(alloc, out, nodes);
-    }
-    let size = nodes.len().div_ceil(threads.saturating_mul(PARTS));
-    let texts = map_indices(
+    map_places(
         rt,
         alloc,
+        nodes.len().div_ceil(size),
         threads,
-        &|first: usize| -> Result<Vec<String>, AllocError>
-            requires { (0 < size) × (0 < threads) }
+        &|place: usize| -> Result<String, AllocError>
             ensures { IfOk result
-                (λ texts. HaveLines nodes.entry.now size first threads texts.items) }
-        { lines_of_parts(alloc, nodes, size, first, threads) },
-    )?;
-    put_parts(alloc, out, nodes, size, texts.as_slice())
+                (λ t. string_bytes t ≡ lines_of (slice_chunk nodes.entry.now size place)) }
+        { lines_of_part(alloc, nodes, size, place) },
+    )
+}
+
+/// The lines of nodes, in parts that stand one after the other, which are written by so many threads at most.
+///
+/// Where no thread can be started, the parts are written one after the other.
+#[tactic(auto, using(crate::proofs::Parts::parts_are_whole))]
+pub(crate) fn node_parts<R: Threads + Sync>(
+    rt: &R,
+    alloc: Global,
+    nodes: &[Node<'_>],
+    threads: usize,
+) -> Result<Vec<String>, AllocError>
+    ensures { IfOk result (λ texts. text_of texts.items ≡ lines_of nodes.now) }
+{
+    lines_of_parts(rt, alloc, nodes, PART, threads)
 }

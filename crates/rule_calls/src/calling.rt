@@ -30,7 +30,7 @@ pub fn declare_target(
     state: &mut State,
     declared: &PackageTargets,
     rule: &Shared<Rule>,
-    arguments: &Arguments<'_>,
+    arguments: &Arguments<'_, '_>,
 ) -> Result<Target, Broken>
     ensures { Does (declares declared.now.«package» declared.now.targets rule.now
         (given arguments.now)) state.old result state.new }
@@ -59,7 +59,7 @@ pub fn call_rule(
     state: &mut State,
     declared: &mut PackageTargets,
     rule: &Shared<Rule>,
-    arguments: &Arguments<'_>,
+    arguments: &Arguments<'_, '_>,
 ) -> Result<(), Broken>
     ensures { Calls (call declared.old rule.now (given arguments.now) state.old) declared.old
         state.old result declared.new state.new }
@@ -80,7 +80,7 @@ fn read_target(
     heap: &Heap,
     declared: &PackageTargets,
     rule: &Shared<Rule>,
-    arguments: &Arguments<'_>,
+    arguments: &Arguments<'_, '_>,
 ) -> Result<Target, Broken>
     ensures { Gives (target_read heap.now declared.now rule.now (given arguments.now)) result }
 {
@@ -102,7 +102,7 @@ fn new_target(
     alloc: Global,
     declared: &PackageTargets,
     rule: &Shared<Rule>,
-    arguments: &Arguments<'_>,
+    arguments: &Arguments<'_, '_>,
     label: Shared<Label>,
     values: Sequence<AttributeValue>,
 ) -> Result<Target, Broken>

@@ -13,7 +13,7 @@ use targets::{NamedAttribute, Rule};
 
 /// Whether there is no position, each name is one that a call may give, and `name` and each mandatory attribute are
 /// given.
-pub(crate) fn fits(rule: &Rule, arguments: &Arguments<'_>) -> bool
+pub(crate) fn fits(rule: &Rule, arguments: &Arguments<'_, '_>) -> bool
     ensures { result ≡ fits rule.now (given arguments.now) }
 {
     if arguments.items.len() != 0 {
@@ -77,7 +77,7 @@ fn has_attribute(attributes: &[NamedAttribute], name: &Text) -> bool
 }
 
 /// Whether a mandatory attribute isn't given.
-fn misses_any(attributes: &[NamedAttribute], arguments: &Arguments<'_>) -> bool
+fn misses_any(attributes: &[NamedAttribute], arguments: &Arguments<'_, '_>) -> bool
     ensures { result ≡ list_any (is_missed (given arguments.now)) attributes.now }
 {
     for attribute in attributes {
@@ -89,7 +89,7 @@ fn misses_any(attributes: &[NamedAttribute], arguments: &Arguments<'_>) -> bool
 }
 
 /// Whether an attribute is mandatory and isn't given.
-fn is_missed(attribute: &NamedAttribute, arguments: &Arguments<'_>) -> bool
+fn is_missed(attribute: &NamedAttribute, arguments: &Arguments<'_, '_>) -> bool
     ensures { result ≡ is_missed (given arguments.now) attribute.now }
 {
     if !attribute.attribute.get().mandatory {

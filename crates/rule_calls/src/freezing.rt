@@ -6,10 +6,11 @@ ghost use Rattle.targets.specs.RuleCalls.{given_as};
 ghost use Rattle.rule_calls.specs.Freezing.{frozen_option, frozen_for};
 
 use crate::given::given_as;
+use operands::Operand;
 use operations::Arguments;
 use std::alloc::Global;
 use targets::NamedAttribute;
-use values::{Broken, Heap, Item, Ticks, Value};
+use values::{Broken, Heap, Ticks};
 use visits::freeze;
 
 /// Freezes what is given for attributes, in their order. Nothing is kept of it: the target has what was read of it, so
@@ -17,7 +18,7 @@ use visits::freeze;
 pub(crate) fn freeze_given(
     alloc: Global,
     attributes: &[NamedAttribute],
-    arguments: &Arguments<'_>,
+    arguments: &Arguments<'_, '_>,
     heap: &Heap,
     ticks: &mut Ticks,
 ) -> Result<(), Broken>
@@ -36,7 +37,7 @@ pub(crate) fn freeze_given(
 /// Freezes a value, if there is one.
 fn freeze_option(
     alloc: Global,
-    value: Option<&Value>,
+    value: Option<&Operand<'_>>,
     heap: &Heap,
     ticks: &mut Ticks,
 ) -> Result<(), Broken>
@@ -45,7 +46,7 @@ fn freeze_option(
     let Some(value) = value else {
         return Ok(());
     };
-    match freeze(alloc, Item::Value(value), heap, ticks) {
+    match freeze(alloc, value.item(), heap, ticks) {
         Ok(_) => Ok(()),
         Err(broken) => Err(broken),
     }

@@ -11,12 +11,13 @@ ghost use Rattle.rule_calls.specs.Each.{put_read, added};
 use crate::defaults::default_of;
 use crate::given::given_as;
 use crate::typing::typed;
+use operands::Operand;
 use operations::Arguments;
 use plain::Shared;
 use state::text_of;
 use std::alloc::Global;
 use targets::{AttributeValue, NamedAttribute, Sequence};
-use values::{Broken, Heap, Kind, Value};
+use values::{Broken, Heap, Kind};
 use workspace::{Label, is_label, label_with};
 
 /// The label of a target in a package, whose name is a string, or `type`.
@@ -24,7 +25,7 @@ pub(crate) fn label_from(
     alloc: Global,
     heap: &Heap,
     package: &str,
-    name: Option<&Value>,
+    name: Option<&Operand<'_>>,
 ) -> Result<Shared<Label>, Broken>
     ensures { Gives (or_fault Kind.Wrong
         (label_from heap.now «package».now (option_copied name.entry))) result }
@@ -32,7 +33,7 @@ pub(crate) fn label_from(
     let Some(name) = name else {
         return Err(Broken::Kind(Kind::Wrong));
     };
-    match text_of(&heap.see(name)) {
+    match text_of(&heap.see_item(name.item())) {
         Some(name) => label_named(alloc, package, name.as_str()),
         None => Err(Broken::Kind(Kind::Wrong)),
     }
@@ -56,7 +57,7 @@ pub(crate) fn values_for(
     alloc: Global,
     heap: &Heap,
     package: &str,
-    arguments: &Arguments<'_>,
+    arguments: &Arguments<'_, '_>,
     attributes: &[NamedAttribute],
 ) -> Result<Sequence<AttributeValue>, Broken>
     ensures { Gives (added (value_for heap.now «package».now (given arguments.now)) []
@@ -76,7 +77,7 @@ fn put_value(
     alloc: Global,
     heap: &Heap,
     package: &str,
-    arguments: &Arguments<'_>,
+    arguments: &Arguments<'_, '_>,
     attribute: &NamedAttribute,
     values: &mut Sequence<AttributeValue>,
 ) -> Result<(), Broken>
@@ -101,7 +102,7 @@ fn value_for(
     alloc: Global,
     heap: &Heap,
     package: &str,
-    arguments: &Arguments<'_>,
+    arguments: &Arguments<'_, '_>,
     attribute: &NamedAttribute,
 ) -> Result<AttributeValue, Broken>
     ensures { Gives (or_fault Kind.Wrong

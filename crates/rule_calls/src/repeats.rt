@@ -16,7 +16,7 @@ use workspace::Label;
 pub(crate) fn repeats_given(
     alloc: Global,
     attributes: &[NamedAttribute],
-    arguments: &Arguments<'_>,
+    arguments: &Arguments<'_, '_>,
     values: &[AttributeValue],
 ) -> Result<bool, AllocError>
     ensures { IfOk result (λ b. b
@@ -38,7 +38,7 @@ pub(crate) fn repeats_given(
 fn repeats_for(
     alloc: Global,
     attribute: &NamedAttribute,
-    arguments: &Arguments<'_>,
+    arguments: &Arguments<'_, '_>,
     value: &AttributeValue,
 ) -> Result<bool, AllocError>
     ensures { IfOk result (λ b. b

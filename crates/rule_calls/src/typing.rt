@@ -11,10 +11,11 @@ ghost use Rattle.operations.specs.States.{Gives};
 ghost use Rattle.targets.specs.RuleCalls.{typed, is_allowed, if_allowed};
 
 use crate::lists::{labels, read_label, strings};
+use operands::Operand;
 use plain::Shared;
 use std::alloc::Global;
 use targets::{Attribute, AttributeValue};
-use values::{AttributeKind, Broken, Heap, Key, Kind, Seen, Value};
+use values::{AttributeKind, Broken, Heap, Key, Kind, Seen};
 
 /// What a value is for an attribute, whose labels are read in a package, or `type`.
 pub(crate) fn typed(
@@ -22,20 +23,34 @@ pub(crate) fn typed(
     heap: &Heap,
     package: &str,
     attribute: &Attribute,
-    value: &Value,
+    value: &Operand<'_>,
 ) -> Result<AttributeValue, Broken>
     ensures { Gives (or_fault Kind.Wrong (typed heap.now «package».now attribute.now.kind
         attribute.now.values (shape heap.now value.now))) result }
 {
-    let seen = heap.see(value);
+    let value = heap.see_item(value.item());
+    typed_shown(alloc, heap, package, attribute, &value)
+}
+
+/// What a value that shows this is for an attribute, or `type`.
+fn typed_shown(
+    alloc: Global,
+    heap: &Heap,
+    package: &str,
+    attribute: &Attribute,
+    value: &Seen<'_>,
+) -> Result<AttributeValue, Broken>
+    ensures { Gives (or_fault Kind.Wrong (typed heap.now «package».now attribute.now.kind
+        attribute.now.values (seen value.now))) result }
+{
     let allowed = attribute.values.as_slice();
     match attribute.kind {
-        AttributeKind::String => text_value(allowed, &seen),
-        AttributeKind::Int => number_value(allowed, &seen),
-        AttributeKind::Bool => truth_value(&seen),
-        AttributeKind::StringList => strings_value(alloc, heap, &seen),
-        AttributeKind::Label => label_value(alloc, package, &seen),
-        AttributeKind::LabelList => labels_value(alloc, heap, package, &seen),
+        AttributeKind::String => text_value(allowed, value),
+        AttributeKind::Int => number_value(allowed, value),
+        AttributeKind::Bool => truth_value(value),
+        AttributeKind::StringList => strings_value(alloc, heap, value),
+        AttributeKind::Label => label_value(alloc, package, value),
+        AttributeKind::LabelList => labels_value(alloc, heap, package, value),
     }
 }
 

@@ -40,7 +40,10 @@ pub fn analyse<R: Threads + Wait + Sync, G: Gate>(
         return Err(AnalyseStop::Workers);
     }
     match report_on(rt, alloc, workspace, labels, workers as usize, limit, gate) {
-        Ok(report) => Ok(report.text.into_bytes()),
+        Ok(report) => match report.to_bytes(alloc) {
+            Ok(bytes) => Ok(bytes),
+            Err(_) => Err(AnalyseStop::NoMemory),
+        },
         Err(NoReport::TooMany) => Err(AnalyseStop::TooMany),
         Err(NoReport::NoMemory) => Err(AnalyseStop::NoMemory),
         Err(NoReport::NoThread) => Err(AnalyseStop::NoThread),

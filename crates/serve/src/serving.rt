@@ -9,7 +9,7 @@ ghost use Rattle.serve.specs.RequestReports.{IsOfReport, ReportsInput, TooManyIn
 
 use crate::stops::ServeStop;
 use answers::{NoReport, report_on};
-use devices::{InputStop, Sink, Source, WriteFailed, read_input, write_all};
+use devices::{InputStop, Sink, Source, WriteFailed, read_input, write_parts};
 use pool::Gate;
 use reporting::Report;
 use request::{INPUT_LIMIT, InputRefused, Request, WordsStop, read_words, read_workspace};
@@ -132,7 +132,7 @@ where
         Ok(report) => report,
         Err(stop) => return Err(stop),
     };
-    match write_all(writer, report.text.as_bytes()) {
+    match write_parts(writer, &report.parts) {
         Ok(()) => Ok(report.loud),
         Err(WriteFailed) => Err(ServeStop::Write),
     }

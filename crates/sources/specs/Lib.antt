@@ -1,2 +1,3 @@
 pub mod Listed
 pub mod Kept
+pub mod Done

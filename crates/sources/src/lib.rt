@@ -8,6 +8,7 @@ mod files;
 mod kept;
 mod labels;
 mod loads;
+mod read_all;
 mod shares;
 mod sources;
 

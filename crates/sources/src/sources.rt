@@ -1,5 +1,5 @@
 //! The files of a workspace, each read and compiled once.
-ghost use Rattle.std.specs.Prelude.{◌≡◌, ◌<◌, IfOk, length, map, position, bytes_eq};
+ghost use Rattle.std.specs.Prelude.{◌≡◌, ◌<◌, IfOk, length, position, bytes_eq};
 ghost use Rattle.std.specs.List.Sorted.{IsPermutation};
 ghost use Rattle.workspace.specs.Workspaces.{paths_of};
 ghost use Rattle.meaning.specs.Functions.{functions};
@@ -8,10 +8,11 @@ ghost use Rattle.load_graph.specs.Paths.{ArePaths};
 ghost use Rattle.evaluation.specs.Runs.{program_at};
 ghost use Rattle.evaluation.specs.Workspaces.{linked_files, read_file};
 ghost use Rattle.machine.specs.LinkedView.{codes_of};
-ghost use Rattle.sources.specs.Kept.{as_read, kept_of};
+ghost use Rattle.sources.specs.Kept.{as_read};
 
-use crate::files::{Files, PathAndText};
+use crate::files::Files;
 use crate::kept::{Kept, Loads, read_file};
+use crate::read_all::read_all;
 use crate::shares::statements;
 use evaluation::TopNames;
 use lexer::FaultKind;
@@ -20,6 +21,7 @@ use machine::Linked;
 use plain::{Shared, Text};
 use std::alloc::{AllocError, Global};
 use std::marker::Model;
+use std::thread::Threads;
 use workspace::Workspace;
 
 /// The files of a workspace, in ascending order of their paths: what was read of each, and the codes of all of them. The
@@ -44,21 +46,6 @@ impl Model for Sources {
     ghost invariant = { λ s. AreRead s.files s.kept.items (codes_of s.linked) };
 }
 
-/// Reads and compiles files.
-fn read_all(alloc: Global, files: &[PathAndText]) -> Result<(Vec<Kept>, Linked), AllocError>
-    ensures kept { IfOk result (λ r. r.0.items ≡ map kept_of files.now) }
-    ensures codes { IfOk result (λ r. codes_of r.1 ≡ code_of (linked_files files.now)) }
-{
-    let mut all = Vec::with_capacity(alloc, files.len())?;
-    let mut linked = Linked::new(alloc);
-    for file in files {
-        let done = read_file(alloc, &file.0, file.1.as_str())?;
-        all.push(done.kept)?;
-        linked.add(done.code)?;
-    }
-    Ok((all, linked))
-}
-
 /// A file as loading sees it, under its number.
 fn as_read(
     alloc: Global,
@@ -77,17 +64,23 @@ fn as_read(
 }
 
 impl Sources {
-    /// The files of a workspace. Each is parsed and compiled once, and its tree let go at once.
+    /// The files of a workspace. Each is parsed and compiled once, by one of so many threads, which have ended when this
+    /// returns, and its tree let go at once. `rt` is the permission to start threads.
     ///
     /// # Errors
     ///
     /// `AllocError` where memory was refused.
-    pub fn of(alloc: Global, workspace: &Workspace) -> Result<Sources, AllocError>
+    pub fn of<R: Threads + Sync>(
+        rt: &R,
+        alloc: Global,
+        workspace: &Workspace,
+        threads: usize,
+    ) -> Result<Sources, AllocError>
         ensures all { IfOk result (IsPermutation workspace.now) }
         ensures ascending { IfOk result (λ s. ArePaths (paths_of s)) }
     {
         let files = Files::of(alloc, workspace)?;
-        let (kept, linked) = read_all(alloc, files.as_slice())?;
+        let (kept, linked) = read_all(rt, alloc, files.as_slice(), threads)?;
         Ok(Sources {
             files,
             kept,

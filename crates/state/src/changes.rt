@@ -9,6 +9,7 @@ ghost use Rattle.operations.specs.Reading.{number_in, key_in, sequence_in, of_ty
 ghost use Rattle.operations.specs.Changes.{append, extend, set_item, set_in, extended};
 
 use crate::reading::{key_of, number_of, sequence_of};
+use operands::Operand;
 use operations::State;
 use std::alloc::{AllocError, Global};
 use values::{Broken, Group, Item, Items, Kind, Leaf, Seen, Value};
@@ -28,11 +29,11 @@ pub fn extend(
     alloc: Global,
     state: &mut State,
     list: &Value,
-    sequence: &Value,
+    sequence: &Operand<'_>,
 ) -> Result<Value, Broken>
     ensures { Does (extend list.now sequence.now) state.old result state.new }
 {
-    let Some(items) = sequence_of(&state.heap.see(sequence)) else {
+    let Some(items) = sequence_of(&state.heap.see_item(sequence.item())) else {
         return Err(Broken::Kind(Kind::Wrong));
     };
     let items = copied(alloc, items)?;

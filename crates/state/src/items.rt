@@ -134,7 +134,11 @@ fn value_at<'a>(entries: Table<'a>, key: &Key) -> Result<Operand<'a>, Broken>
 }
 
 /// `dict.get(key, default)` of these entries: `type` where the key can't be one. The value of a key is lent.
-pub fn get<'a>(entries: Table<'a>, default: &Value, key: &Seen<'_>) -> Result<Operand<'a>, Broken>
+pub fn get<'a>(
+    entries: Table<'a>,
+    default: &Operand<'_>,
+    key: &Seen<'_>,
+) -> Result<Operand<'a>, Broken>
     ensures { Gives (got (table_entries entries.entry) default.now (seen key.now)) result }
 {
     let Some(key) = key_of(key) else {
@@ -142,6 +146,6 @@ pub fn get<'a>(entries: Table<'a>, default: &Value, key: &Seen<'_>) -> Result<Op
     };
     match entries.get(key) {
         Some(value) => Ok(Operand::lent(value)),
-        None => Ok(Operand::own(default.share()?)),
+        None => Ok(Operand::own(default.item().to_value()?)),
     }
 }

@@ -1,6 +1,7 @@
 //! Depsets with the serials of their owner, and their listings.
 use crate::states::{fresh, prints, string};
 use making::{depset, to_list};
+use operands::Operand;
 use state::new_list;
 use std::alloc::{AllocError, Global};
 use values::{Broken, Items, Leaf, Value};
@@ -15,12 +16,12 @@ fn one_item(alloc: Global, text: &str) -> Result<Items, AllocError> {
 fn depsets_take_the_next_serials(rt: HostRuntime) -> Result<(), Broken> {
     let alloc = rt.alloc();
     let mut state = fresh(alloc)?;
-    let inner = new_list(&mut state, one_item(alloc, "x")?)?;
+    let inner = Operand::own(new_list(&mut state, one_item(alloc, "x")?)?);
     let inner = depset(alloc, &mut state, Some(&inner), None, None)?;
     let mut below = Items::new(alloc);
     below.push(inner)?;
-    let below = new_list(&mut state, below)?;
-    let direct = new_list(&mut state, one_item(alloc, "y")?)?;
+    let below = Operand::own(new_list(&mut state, below)?);
+    let direct = Operand::own(new_list(&mut state, one_item(alloc, "y")?)?);
     let outer = depset(alloc, &mut state, Some(&direct), None, Some(&below))?;
     assert!(rt; state.depsets == 2);
     let Value::Leaf(Leaf::Depset(made)) = &outer else {

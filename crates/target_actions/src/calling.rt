@@ -24,7 +24,7 @@ pub fn call_method(
     label: &Label,
     method: ActionMethod,
     heap: &Heap,
-    arguments: &Arguments<'_>,
+    arguments: &Arguments<'_, '_>,
     work: &mut Work,
 ) -> Result<Value, Broken>
     ensures { MatchResult result

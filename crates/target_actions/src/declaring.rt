@@ -24,7 +24,7 @@ pub(crate) fn declare_file(
     alloc: Global,
     label: &Label,
     heap: &Heap,
-    arguments: &Arguments<'_>,
+    arguments: &Arguments<'_, '_>,
     work: &mut Work,
 ) -> Result<Value, Broken>
     ensures { MatchResult result
@@ -35,7 +35,7 @@ pub(crate) fn declare_file(
         Ok(name) => name,
         Err(broken) => return Err(broken),
     };
-    match text_of(&heap.see(name)) {
+    match text_of(&heap.see_item(name.item())) {
         Some(name) => declared(alloc, label, name, work),
         None => Err(Broken::Kind(Kind::Wrong)),
     }

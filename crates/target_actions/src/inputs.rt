@@ -14,23 +14,24 @@ ghost use Rattle.operations.specs.Instances.{only_files};
 use crate::parts::{files, put_strings};
 use actions::{Files, Inputs, Words};
 use depsets::{Depset, ElementType};
+use operands::Operand;
 use plain::Text;
 use state::{sequence_of, text_of};
 use std::alloc::Global;
-use values::{Broken, Group, Heap, Kind, Leaf, Seen, Value};
+use values::{Broken, Group, Heap, Kind, Leaf, Seen};
 
 /// The inputs of an argument: a sequence of Files, or a depset that is empty or of Files; no Files, where there is none.
 pub(crate) fn inputs_in(
     alloc: Global,
     heap: &Heap,
-    inputs: Option<&Value>,
+    inputs: Option<&Operand<'_>>,
 ) -> Result<Inputs, Broken>
     ensures { Gives (inputs_in heap.now (option_copied inputs.entry)) result }
 {
     let Some(inputs) = inputs else {
         return Ok(Inputs::Files(Files::new(alloc)));
     };
-    match heap.see(inputs) {
+    match heap.see_item(inputs.item()) {
         Seen::List(items) => file_inputs(alloc, heap, items),
         Seen::Tuple(items) => file_inputs(alloc, heap, items),
         Seen::Leaf(leaf) => leaf_inputs(leaf),
@@ -84,7 +85,7 @@ pub(crate) fn words_in(
     alloc: Global,
     heap: &Heap,
     word: &Text,
-    arguments: Option<&Value>,
+    arguments: Option<&Operand<'_>>,
 ) -> Result<Words, Broken>
     ensures { Gives (words_in heap.now word.now (option_copied arguments.entry)) result }
 {
@@ -93,7 +94,7 @@ pub(crate) fn words_in(
     let Some(arguments) = arguments else {
         return Ok(words);
     };
-    let Some(items) = sequence_of(&heap.see(arguments)) else {
+    let Some(items) = sequence_of(&heap.see_item(arguments.item())) else {
         return Err(Broken::Kind(Kind::Wrong));
     };
     match put_strings(heap, items, &mut words) {
@@ -106,7 +107,7 @@ pub(crate) fn words_in(
 pub(crate) fn mnemonic_in(
     alloc: Global,
     heap: &Heap,
-    mnemonic: Option<&Value>,
+    mnemonic: Option<&Operand<'_>>,
 ) -> Result<Text, Broken>
     ensures { Gives (mnemonic_in heap.now (option_copied mnemonic.entry)) result }
 {
@@ -114,7 +115,7 @@ pub(crate) fn mnemonic_in(
         let text = Text::new(alloc, "Action")?;
         return Ok(text);
     };
-    let Some(text) = text_of(&heap.see(mnemonic)) else {
+    let Some(text) = text_of(&heap.see_item(mnemonic.item())) else {
         return Err(Broken::Kind(Kind::Wrong));
     };
     if !is_mnemonic(text) {

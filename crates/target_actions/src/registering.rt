@@ -14,6 +14,7 @@ use actions::{Action, Files, Inputs, Words};
 use calls::{Parameter, check_arguments, got};
 use contexts::{DeclaredFiles, Work};
 use depsets::FileRef;
+use operands::Operand;
 use operations::Arguments;
 use plain::{Shared, Text};
 use state::text_of;
@@ -79,7 +80,7 @@ fn repeats(alloc: Global, files: &[Shared<FileRef>]) -> Result<bool, AllocError>
 pub(crate) fn write(
     alloc: Global,
     heap: &Heap,
-    arguments: &Arguments<'_>,
+    arguments: &Arguments<'_, '_>,
     work: &mut Work,
 ) -> Result<Value, Broken>
     ensures { MatchResult result
@@ -117,8 +118,8 @@ fn write_parameters() -> [Parameter<'static>; 2]
 fn written(
     alloc: Global,
     heap: &Heap,
-    output: &Value,
-    content: &Value,
+    output: &Operand<'_>,
+    content: &Operand<'_>,
     work: &mut Work,
 ) -> Result<Value, Broken>
     ensures { MatchResult result
@@ -127,7 +128,9 @@ fn written(
         (λ e. FaultOr (written work.old (file_in (shape heap.now output.now))
         (string_in (shape heap.now content.now))) e) }
 {
-    match (file_of(&heap.see(output)), text_of(&heap.see(content))) {
+    let output = heap.see_item(output.item());
+    let content = heap.see_item(content.item());
+    match (file_of(&output), text_of(&content)) {
         (Some(file), Some(text)) => {
             let action = file_write(alloc, file, text)?;
             registered(alloc, action, work)

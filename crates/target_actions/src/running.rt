@@ -17,6 +17,7 @@ use crate::registering::registered;
 use actions::Action;
 use calls::{Parameter, check_arguments, got};
 use contexts::Work;
+use operands::Operand;
 use operations::Arguments;
 use plain::Text;
 use state::sequence_of;
@@ -33,7 +34,7 @@ pub(crate) fn run(
     alloc: Global,
     program: Program,
     heap: &Heap,
-    arguments: &Arguments<'_>,
+    arguments: &Arguments<'_, '_>,
     work: &mut Work,
 ) -> Result<Value, Broken>
     ensures { MatchResult result
@@ -62,9 +63,9 @@ fn run_word(
     alloc: Global,
     program: Program,
     heap: &Heap,
-    outputs: &Value,
-    word: &Value,
-    arguments: &Arguments<'_>,
+    outputs: &Operand<'_>,
+    word: &Operand<'_>,
+    arguments: &Arguments<'_, '_>,
     work: &mut Work,
 ) -> Result<Value, Broken>
     ensures { MatchResult result
@@ -73,7 +74,7 @@ fn run_word(
         (λ e. FaultOr (run_with (program_in program) heap.now work.old
         (given_parts outputs.now word.now (given arguments.now))) e) }
 {
-    let outputs = match some_outputs(&heap.see(outputs)) {
+    let outputs = match some_outputs(&heap.see_item(outputs.item())) {
         Ok(outputs) => outputs,
         Err(broken) => return Err(broken),
     };
@@ -81,7 +82,7 @@ fn run_word(
         alloc,
         heap,
         outputs,
-        program.word(&heap.see(word)),
+        program.word(&heap.see_item(word.item())),
         arguments,
     ) {
         Ok(action) => registered(alloc, action, work),
@@ -143,7 +144,7 @@ fn action_for(
     heap: &Heap,
     outputs: Group<'_>,
     word: Option<&Text>,
-    arguments: &Arguments<'_>,
+    arguments: &Arguments<'_, '_>,
 ) -> Result<Action, Broken>
     ensures { Gives (action_of heap.now (group_items outputs.entry) (option_copied word.entry)
         (got_at 2 (codes "inputs") (given arguments.now))
@@ -162,9 +163,9 @@ fn action_of(
     heap: &Heap,
     outputs: Group<'_>,
     word: Option<&Text>,
-    inputs: Option<&Value>,
-    arguments: Option<&Value>,
-    mnemonic: Option<&Value>,
+    inputs: Option<&Operand<'_>>,
+    arguments: Option<&Operand<'_>>,
+    mnemonic: Option<&Operand<'_>>,
 ) -> Result<Action, Broken>
     ensures { Gives (action_of heap.now (group_items outputs.entry) (option_copied word.entry)
         (option_copied inputs.entry) (option_copied arguments.entry)

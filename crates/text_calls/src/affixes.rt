@@ -4,6 +4,7 @@ ghost use Rattle.values.specs.Ticking.{FaultOr};
 ghost use Rattle.operations.specs.States.{Does, Stays};
 ghost use Rattle.operations.specs.Strings.{starts_with, ends_with};
 
+use operands::Operand;
 use operations::State;
 use plain::Text;
 use state::text_of;
@@ -15,10 +16,10 @@ use values::{Broken, Key, Kind, Value};
 /// # Errors
 ///
 /// `type`, where the front is no string.
-pub fn starts_with(state: &State, text: &Text, front: &Value) -> Result<Value, Broken>
+pub fn starts_with(state: &State, text: &Text, front: &Operand<'_>) -> Result<Value, Broken>
     ensures { Does (starts_with text.now front.now) state.now result state.now }
 {
-    let Some(front) = text_of(&state.heap.see(front)) else {
+    let Some(front) = text_of(&state.heap.see_item(front.item())) else {
         return Err(Broken::Kind(Kind::Wrong));
     };
     let begins = has_front(text.as_str(), front.as_str());
@@ -30,10 +31,10 @@ pub fn starts_with(state: &State, text: &Text, front: &Value) -> Result<Value, B
 /// # Errors
 ///
 /// `type`, where the back is no string.
-pub fn ends_with(state: &State, text: &Text, back: &Value) -> Result<Value, Broken>
+pub fn ends_with(state: &State, text: &Text, back: &Operand<'_>) -> Result<Value, Broken>
     ensures { Does (ends_with text.now back.now) state.now result state.now }
 {
-    let Some(back) = text_of(&state.heap.see(back)) else {
+    let Some(back) = text_of(&state.heap.see_item(back.item())) else {
         return Err(Broken::Kind(Kind::Wrong));
     };
     let ends = has_back(text.as_str().as_bytes(), back.as_str().as_bytes());

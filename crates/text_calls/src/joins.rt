@@ -10,6 +10,7 @@ ghost use Rattle.operations.specs.Depsets.{all_in, put_last};
 ghost use Rattle.operations.specs.Strings.{join, or_string_fault};
 
 use crate::splits::string_fault;
+use operands::Operand;
 use operations::State;
 use plain::Text;
 use state::{sequence_of, text_of};
@@ -26,11 +27,11 @@ pub fn join(
     alloc: Global,
     state: &State,
     separator: &Text,
-    sequence: &Value,
+    sequence: &Operand<'_>,
 ) -> Result<Value, Broken>
     ensures { Does (join separator.now sequence.now) state.now result state.now }
 {
-    let Some(items) = sequence_of(&state.heap.see(sequence)) else {
+    let Some(items) = sequence_of(&state.heap.see_item(sequence.item())) else {
         return Err(Broken::Kind(Kind::Wrong));
     };
     join_items(alloc, &state.heap, separator, items)

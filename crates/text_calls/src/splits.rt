@@ -8,6 +8,7 @@ ghost use Rattle.operations.specs.Reading.{string_in, of_type};
 ghost use Rattle.operations.specs.Making.{text};
 ghost use Rattle.operations.specs.Strings.{split, or_string_fault, string_fault};
 
+use operands::Operand;
 use operations::{Made, State};
 use plain::Text;
 use state::{place, text_of};
@@ -24,11 +25,11 @@ pub fn split(
     alloc: Global,
     state: &mut State,
     text: &Text,
-    separator: &Value,
+    separator: &Operand<'_>,
 ) -> Result<Value, Broken>
     ensures { Does (split text.now separator.now) state.old result state.new }
 {
-    let made = match parts_of(alloc, text, &state.heap.see(separator)) {
+    let made = match parts_of(alloc, text, &state.heap.see_item(separator.item())) {
         Ok(made) => made,
         Err(broken) => return Err(broken),
     };

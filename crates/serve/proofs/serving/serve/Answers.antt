@@ -21,10 +21,10 @@ returns-in-Err-clause-input_refused g c e = record {
       c.in-Err.ensures.input_only (ap (λ s. Err s) same);
 }
 
-pub returns-in-Ok-write_all-clause-ok : goal.returns-in-Ok-write_all-clause-ok
-returns-in-Ok-write_all-clause-ok g c =
+pub returns-in-Ok-write_parts-clause-ok : goal.returns-in-Ok-write_parts-clause-ok
+returns-in-Ok-write_parts-clause-ok g c =
     Consumes-whole _ _ c.in-Ok-read_input.input.items
-    (λ (input : List ℕ). WritesAnswer (map g.W.AsStr.text c.args.words.now) input (g.K.Sink.contents c.args.writer.now) (g.K.Sink.contents c.write_all.new.sink) c.in-Ok-report_of.report.loud)
+    (λ (input : List ℕ). WritesAnswer (map g.W.AsStr.text c.args.words.now) input (g.K.Sink.contents c.args.writer.now) (g.K.Sink.contents c.write_parts.new.sink) c.in-Ok-report_of.report.loud)
     c.in-Ok-read_input.ensures.whole c.in-Ok-read_input.ensures.end
     (record {
       answer = c.in-Ok-report_of.ensures.ok.2.answer;
@@ -35,6 +35,6 @@ returns-in-Ok-write_all-clause-ok g c =
         input_part = c.in-Ok-report_of.ensures.ok.1;
         answers = c.in-Ok-report_of.ensures.ok.2.answers;
       };
-      written = rw (c.as_bytes.ensures.value, c.in-Ok-report_of.ensures.ok.2.told) at c.in-Ok-write_all.ensures.ok;
+      written = rw (c.deref.ensures.value, c.in-Ok-report_of.ensures.ok.2.told) at c.in-Ok-write_parts.ensures.ok;
       is_loud = c.in-Ok-report_of.ensures.ok.2.loud;
     })
