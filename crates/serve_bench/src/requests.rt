@@ -83,7 +83,8 @@ fn is_same<R: Threads + Wait + Sync>(rt: &R, alloc: Global, seed: u64) -> Result
     let Some(queued) = at_one_queue(rt, alloc, input)? else {
         return Ok(false);
     };
-    let are_same = one.report == eight.report && one.report.as_slice() == queued.text.as_bytes();
+    let queued = queued.to_bytes(alloc)?;
+    let are_same = one.report == eight.report && one.report == queued;
     Ok(one.ending.is_ok() && one.ending == eight.ending && are_same)
 }
 
