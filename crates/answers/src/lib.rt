@@ -8,6 +8,7 @@
 mod found;
 mod label;
 pub mod laws;
+mod letting_go;
 mod refused;
 mod report;
 mod team;

@@ -15,6 +15,7 @@ ghost use Rattle.plain_workspaces.specs.Workspaces.{evaluated};
 ghost use Rattle.answers.specs.Reports.{IsTooMany, Reports};
 
 use crate::found::found;
+use crate::letting_go::let_go;
 use crate::refused::{NoReport, without_graph};
 use crate::team::{Deques, Shelving, Team};
 use edges::NodeId;
@@ -103,12 +104,13 @@ fn graph_of(alloc: Global, targets: &Targets, labels: &[Label]) -> Result<Graph,
     }
 }
 
-/// The report on the labels of a graph, by a team of workers at any shelf.
+/// The report on the labels of a graph, by a team of workers at any shelf. What it was made of is let go by several threads,
+/// where there are several workers.
 fn report_on_graph<R, S, F, G>(
     rt: &R,
     alloc: Global,
-    targets: &Targets,
-    graph: &Graph,
+    targets: Targets,
+    graph: Graph,
     team: &Team<'_, F, G>,
 ) -> Result<Report, NoReport>
 where
@@ -117,14 +119,18 @@ where
     F: Shelving<S>,
     G: Gate,
     requires workers { (0 < team.now.workers) × (team.now.workers < 65) }
-    ensures report { let w = evaluated targets.now.files targets.now.limit in
+    ensures report { let w = evaluated targets.files targets.limit in
         (workspace : List Pair) (asked : List LabelParts) → IsWorkspace workspace
-        → AreFilesOf workspace targets.now.files → IsGraphOf (dependencies w) asked graph.now
-        → IfOk result (Reports workspace asked targets.now.limit) }
+        → AreFilesOf workspace targets.files → IsGraphOf (dependencies w) asked graph
+        → IfOk result (Reports workspace asked targets.limit) }
     ensures few { result ≡ Err NoReport.TooMany → ⊥ }
 {
-    let found = found::<R, S, F, G>(rt, alloc, targets, graph, team)?;
-    Ok(told(rt, alloc, targets, graph, &found, team.workers)?)
+    let found = found::<R, S, F, G>(rt, alloc, &targets, &graph, team)?;
+    let report = told(rt, alloc, &targets, &graph, &found, team.workers);
+    if team.workers > 1 {
+        let_go(rt, found, graph, targets);
+    }
+    Ok(report?)
 }
 
 /// The report on labels of a workspace and on all that they depend on, where each evaluation may use so many ticks.
@@ -192,5 +198,5 @@ where
         Ok(graph) => graph,
         Err(refused) => return Err(refused),
     };
-    report_on_graph::<R, S, F, G>(rt, alloc, &targets, &graph, team)
+    report_on_graph::<R, S, F, G>(rt, alloc, targets, graph, team)
 }

@@ -5,6 +5,7 @@ use operands::{Bindings, Operand};
 use operations::{Arguments, Defaults, State};
 use plain::{Shared, Text};
 use std::alloc::{AllocError, Global};
+use std::slice;
 use targets::{Attribute, Rule, Sequence};
 use values::{Fields, FunctionRef, Heap, Items, Key, Leaf, MadeId, Names, Ticks, Value};
 
