@@ -6,7 +6,7 @@ ghost use Rattle.values.specs.Shape.{shape};
 ghost use Rattle.values.specs.Seeing.{seen, item_value, table_entries};
 ghost use Rattle.operations.specs.States.{Does, Stays, Gives};
 ghost use Rattle.operations.specs.Making.{entries_in, none};
-ghost use Rattle.operations.specs.Items.{got};
+ghost use Rattle.operations.specs.Items.{found, got, or_else};
 ghost use Rattle.operations.specs.Methods.{get, keys, values};
 
 use operands::Operand;
@@ -16,7 +16,7 @@ use std::alloc::{AllocError, Global};
 use values::{Broken, Heap, Item, Items, Key, Kind, Leaf, Seen, Table, Value};
 
 /// `dict.get(key, default)`: the value of the key, or the default, which is None where it is missing. The value of a key of
-/// a dict that is lent is lent.
+/// a dict that is lent is lent, and so is a default that is.
 ///
 /// # Errors
 ///
@@ -24,7 +24,7 @@ use values::{Broken, Heap, Item, Items, Key, Kind, Leaf, Seen, Table, Value};
 pub fn get<'a>(
     state: &State<'_>,
     dict: &Operand<'a>,
-    arguments: &[Operand<'_>],
+    arguments: &[Operand<'a>],
 ) -> Result<Operand<'a>, Broken>
     ensures { Does (get (entries_in (shape state.now.heap dict.now)) arguments.now) state.now result
         state.now }
@@ -54,40 +54,57 @@ fn got_or_none<'a>(
 fn got<'a>(
     heap: &Heap,
     dict: &Operand<'a>,
-    default: &Operand<'_>,
+    default: &Operand<'a>,
     key: &Operand<'_>,
 ) -> Result<Operand<'a>, Broken>
     ensures { Gives (got (entries_in (shape heap.now dict.now)) default.now
         (shape heap.now key.now)) result }
 {
-    let key = heap.see_item(key.item());
-    if let Some(dict) = dict.lent_seen() {
-        return got_in(&dict, default, &key);
-    }
-    match got_in(&heap.see_item(dict.item()), default, &key) {
-        Ok(value) => Ok(value.into_own()?),
+    match found(heap, dict, key) {
+        Ok(Some(value)) => Ok(value),
+        Ok(None) => Ok(default.share()?),
         Err(broken) => Err(broken),
     }
 }
 
-/// The value of a key of what a dict shows, or another.
-fn got_in<'a>(dict: &Seen<'a>, default: &Operand<'_>, key: &Seen<'_>) -> Result<Operand<'a>, Broken>
-    ensures { Gives (got (entries_in (seen dict.now)) default.now (seen key.now)) result }
+/// The value of a key, if it is there.
+fn found<'a>(
+    heap: &Heap,
+    dict: &Operand<'a>,
+    key: &Operand<'_>,
+) -> Result<Option<Operand<'a>>, Broken>
+    ensures { Gives (found (entries_in (shape heap.now dict.now)) (shape heap.now key.now))
+        result }
 {
-    match dict {
-        Seen::Dict(entries) => state::get(*entries, default, key),
-        _ => without_entries(default, key),
+    let key = heap.see_item(key.item());
+    if let Some(dict) = dict.lent_seen() {
+        return found_in(&dict, &key);
+    }
+    match found_in(&heap.see_item(dict.item()), &key) {
+        Ok(Some(value)) => Ok(Some(value.into_own()?)),
+        Ok(None) => Ok(None),
+        Err(broken) => Err(broken),
     }
 }
 
-/// The default, where there are no entries.
-fn without_entries<'a>(default: &Operand<'_>, key: &Seen<'_>) -> Result<Operand<'a>, Broken>
-    ensures { Gives (got [] default.now (seen key.now)) result }
+/// The value of a key of what a dict shows, if it is there.
+fn found_in<'a>(dict: &Seen<'a>, key: &Seen<'_>) -> Result<Option<Operand<'a>>, Broken>
+    ensures { Gives (found (entries_in (seen dict.now)) (seen key.now)) result }
+{
+    match dict {
+        Seen::Dict(entries) => state::find(*entries, key),
+        _ => without_entries(key),
+    }
+}
+
+/// Where there are no entries, no key has a value.
+fn without_entries<'a>(key: &Seen<'_>) -> Result<Option<Operand<'a>>, Broken>
+    ensures { Gives (found [] (seen key.now)) result }
 {
     if key_of(key).is_none() {
         return Err(Broken::Kind(Kind::Wrong));
     }
-    Ok(Operand::own(default.item().to_value()?))
+    Ok(None)
 }
 
 /// `dict.keys()`: a new list.

@@ -23,7 +23,8 @@ use std::alloc::Global;
 use text_calls::{ends_with, join, split, starts_with};
 use values::{Broken, Item, Kind, Value};
 
-/// The call of a method of a list, a dict, a string or a depset. What `get` finds in a dict that is lent is lent.
+/// The call of a method of a list, a dict, a string or a depset. What `get` finds in a dict that is lent is lent, and so is
+/// a default that is.
 ///
 /// # Errors
 ///
@@ -33,7 +34,7 @@ pub fn call_method<'a>(
     state: &mut State<'_>,
     method: Method,
     receiver: &Operand<'a>,
-    arguments: &Arguments<'_, '_>,
+    arguments: &Arguments<'_, 'a>,
 ) -> Result<Operand<'a>, Broken>
     ensures { Does (method_call method receiver.now (given arguments.now)) state.old result
         state.new }
@@ -50,7 +51,7 @@ fn method_of<'a>(
     state: &mut State<'_>,
     method: Method,
     receiver: &Operand<'a>,
-    items: &[Operand<'_>],
+    items: &[Operand<'a>],
 ) -> Result<Operand<'a>, Broken>
     ensures { Does (method_of method receiver.now items.now) state.old result state.new }
 {

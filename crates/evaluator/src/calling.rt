@@ -72,7 +72,7 @@ fn call_with<'a, L: Link<'a>, P: Place>(
     world: &World<'_, L, P>,
     whole: &mut Whole<P::Work>,
     callee: &Callee<'a>,
-    arguments: &Arguments<'_, '_>,
+    arguments: &Arguments<'_, 'a>,
 ) -> Result<Operand<'a>, Broken>
     ensures { Says (call_of (L.linked world.now.linked.now) (P.place world.now.place.now)
         (callee_seen callee.now) (given arguments.now) whole.old) result whole.new }
@@ -145,7 +145,7 @@ fn call_method<'a, L: Link<'a>, P: Place>(
     whole: &mut Whole<P::Work>,
     value: &Operand<'a>,
     name: &Text,
-    arguments: &Arguments<'_, '_>,
+    arguments: &Arguments<'_, 'a>,
 ) -> Result<Operand<'a>, Broken>
     ensures { Says (method_or_place (L.linked world.now.linked.now) (P.place world.now.place.now)
         (shape_method (shape whole.old.state.heap value.now) name.now) value.now name.now

@@ -62,6 +62,10 @@ abbrev pub or_else : Value → Option Value → Value
 or_else d (Some v) = v
 or_else d None = d
 
+-- the value of what may be a key, if it is one of these entries'
+abbrev pub found : List (Key × Value) → Shape → Result (Option Value) Kind
+found es k = of_type (key_in k) (λ i. Ok (lookup (same_key i) es))
+
 -- `d.get(k, default)`
 abbrev pub got : List (Key × Value) → Value → Shape → Result Value Kind
 got es d k = of_type (key_in k) (λ i. Ok (or_else d (lookup (same_key i) es)))

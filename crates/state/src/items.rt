@@ -5,7 +5,7 @@ ghost use Rattle.values.specs.Seeing.{seen, item_value, group_items, table_entri
 ghost use Rattle.operations.specs.States.{Does, Stays, Gives};
 ghost use Rattle.operations.specs.Reading.{number_in, key_in, of_type};
 ghost use Rattle.operations.specs.Making.{text};
-ghost use Rattle.operations.specs.Items.{item, item_in, item_at, value_at, key_item, byte_at, byte_text, got, or_else};
+ghost use Rattle.operations.specs.Items.{item, item_in, item_at, value_at, key_item, byte_at, byte_text, found};
 
 use crate::reading::{key_of, number_of};
 use operands::Operand;
@@ -19,6 +19,7 @@ use values::{Broken, Group, Item, Key, Kind, Seen, Table, Value, place_of};
 /// # Errors
 ///
 /// `type`, where the base has no items or the index isn't one of it; then `index`, or of a dict `key`.
+#[inline(always)]
 pub fn item<'a>(
     alloc: Global,
     state: &State<'_>,
@@ -38,6 +39,7 @@ pub fn item<'a>(
 }
 
 /// The item of what a base shows.
+#[inline(always)]
 fn item_in<'a>(alloc: Global, base: &Seen<'a>, index: &Seen<'_>) -> Result<Operand<'a>, Broken>
     ensures { Gives (item_in (seen base.now) (seen index.now)) result }
 {
@@ -93,6 +95,7 @@ fn one_byte(alloc: Global, byte: u8) -> Result<Text, AllocError>
 }
 
 /// The item at an index, or `type` where there is no index.
+#[inline(always)]
 fn indexed<'a>(items: Group<'a>, index: Option<i64>) -> Result<Operand<'a>, Broken>
     ensures { Gives (of_type index (item_at (group_items items.entry))) result }
 {
@@ -103,6 +106,7 @@ fn indexed<'a>(items: Group<'a>, index: Option<i64>) -> Result<Operand<'a>, Brok
 }
 
 /// The item at an index, from the end where it is negative, or `index`.
+#[inline(always)]
 fn item_at<'a>(items: Group<'a>, index: i64) -> Result<Operand<'a>, Broken>
     ensures { Gives (item_at (group_items items.entry) index) result }
 {
@@ -133,19 +137,15 @@ fn value_at<'a>(entries: Table<'a>, key: &Key) -> Result<Operand<'a>, Broken>
     }
 }
 
-/// `dict.get(key, default)` of these entries: `type` where the key can't be one. The value of a key is lent.
-pub fn get<'a>(
-    entries: Table<'a>,
-    default: &Operand<'_>,
-    key: &Seen<'_>,
-) -> Result<Operand<'a>, Broken>
-    ensures { Gives (got (table_entries entries.entry) default.now (seen key.now)) result }
+/// What these entries have for a key, if it is one of theirs: `type` where it can't be one. The value of a key is lent.
+pub fn find<'a>(entries: Table<'a>, key: &Seen<'_>) -> Result<Option<Operand<'a>>, Broken>
+    ensures { Gives (found (table_entries entries.entry) (seen key.now)) result }
 {
     let Some(key) = key_of(key) else {
         return Err(Broken::Kind(Kind::Wrong));
     };
     match entries.get(key) {
-        Some(value) => Ok(Operand::lent(value)),
-        None => Ok(Operand::own(default.item().to_value()?)),
+        Some(value) => Ok(Some(Operand::lent(value))),
+        None => Ok(None),
     }
 }
