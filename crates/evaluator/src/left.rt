@@ -66,6 +66,7 @@ impl<'a> Left<'a> {
     }
 
     /// The next item, None at the end.
+    #[inline(always)]
     pub(crate) fn next(&mut self) -> Option<Operand<'a>>
         ensures { MatchOption result ((left_seen self.old ≡ []) × (left_seen self.new ≡ []))
             (λ v. left_seen self.old ≡ v ∷ left_seen self.new) }
@@ -79,6 +80,7 @@ impl<'a> Left<'a> {
 }
 
 /// The next of the items that are one's own.
+#[inline(always)]
 fn next_own<'a>(items: &mut Stack<Value>) -> Option<Operand<'a>>
     ensures { MatchOption result ((items.old ≡ []) × (items.new ≡ []))
         (λ v. items.old ≡ v ∷ items.new) }
@@ -105,6 +107,7 @@ fn keys_from_first<'a>(entries: Table<'a>) -> Left<'a>
 
 impl<'a> ItemsLeft<'a> {
     /// The next item.
+    #[inline(always)]
     fn next(&mut self) -> Option<Operand<'a>>
         ensures { MatchOption result ((items_seen self.old ≡ []) × (items_seen self.new ≡ []))
             (λ v. items_seen self.old ≡ v ∷ items_seen self.new) }
@@ -120,6 +123,7 @@ impl<'a> ItemsLeft<'a> {
 
 impl<'a> KeysLeft<'a> {
     /// The next key.
+    #[inline(always)]
     fn next(&mut self) -> Option<Operand<'a>>
         ensures { MatchOption result ((keys_seen self.old ≡ []) × (keys_seen self.new ≡ []))
             (λ v. keys_seen self.old ≡ v ∷ keys_seen self.new) }

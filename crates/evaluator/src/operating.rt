@@ -18,6 +18,7 @@ use std::alloc::Global;
 use values::{Broken, Item, Key, Value};
 
 /// An operator between two values, but `and` and `or`.
+#[inline(always)]
 pub(crate) fn binary<'a, L: Link<'a>, P: Place>(
     world: &World<'_, L, P>,
     whole: &mut Whole<P::Work>,
@@ -62,6 +63,7 @@ fn binary_with<'a, L: Link<'a>, P: Place>(
 }
 
 /// `not` or `-`.
+#[inline(always)]
 pub(crate) fn sign<'a, L: Link<'a>, P: Place>(
     world: &World<'_, L, P>,
     whole: &Whole<P::Work>,

@@ -17,6 +17,7 @@ use std::alloc::{AllocError, Global};
 use values::{Broken, Heap, Item, Kind};
 
 /// One tick.
+#[inline(always)]
 pub(crate) fn tick<W>(whole: &mut Whole<W>) -> Result<(), Broken>
     ensures { Says (of_state tick whole.old) result whole.new }
 {

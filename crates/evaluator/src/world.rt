@@ -35,34 +35,42 @@ impl<'a, L: Link<'a>, P: Place> Operate<'a> for World<'a, L, P> {
 
     ghost rest = { left_seen };
 
+    #[inline(always)]
     fn refusal(&self, refusal: Refusal) -> Kind {
         functions::refusal_kind(refusal)
     }
 
+    #[inline(always)]
     fn number(&self, number: u64) -> Result<Value, AllocError> {
         functions::number_value(number)
     }
 
+    #[inline(always)]
     fn string(&self, text: &'a Constant) -> Operand<'a> {
         Operand::lent(Item::Key(text.key()))
     }
 
+    #[inline(always)]
     fn none(&self) -> Value {
         Value::Leaf(Leaf::None)
     }
 
+    #[inline(always)]
     fn predeclared(&self, name: Predeclared) -> Operand<'a> {
         language_calls::predeclared(self.default_info, name)
     }
 
+    #[inline(always)]
     fn truth(&self, state: &Whole<'a, P::Work>, value: Item<'_>) -> bool {
         state::truth(&state.state, value)
     }
 
+    #[inline(always)]
     fn tick(&self, state: &mut Whole<'a, P::Work>) -> Result<(), Broken> {
         turns::tick(state)
     }
 
+    #[inline(always)]
     fn binary(
         &self,
         state: &mut Whole<'a, P::Work>,
@@ -73,6 +81,7 @@ impl<'a, L: Link<'a>, P: Place> Operate<'a> for World<'a, L, P> {
         operating::binary(self, state, operator, left, right)
     }
 
+    #[inline(always)]
     fn sign(
         &self,
         state: &mut Whole<'a, P::Work>,
@@ -91,6 +100,7 @@ impl<'a, L: Link<'a>, P: Place> Operate<'a> for World<'a, L, P> {
         operating::increase(self.alloc, state, old, more)
     }
 
+    #[inline(always)]
     fn field(
         &self,
         state: &mut Whole<'a, P::Work>,
@@ -100,6 +110,7 @@ impl<'a, L: Link<'a>, P: Place> Operate<'a> for World<'a, L, P> {
         looks::field(self, state, value, name)
     }
 
+    #[inline(always)]
     fn item(
         &self,
         state: &mut Whole<'a, P::Work>,
@@ -176,6 +187,7 @@ impl<'a, L: Link<'a>, P: Place> Operate<'a> for World<'a, L, P> {
         turns::begin(self.alloc, state, walked)
     }
 
+    #[inline(always)]
     fn next(&self, walk: &mut Left<'a>) -> Option<Operand<'a>> {
         walk.next()
     }
@@ -192,6 +204,7 @@ impl<'a, L: Link<'a>, P: Place> Operate<'a> for World<'a, L, P> {
         turns::parts(self.alloc, state, sequence)
     }
 
+    #[inline(always)]
     fn global(
         &self,
         state: &mut Whole<'a, P::Work>,
@@ -250,10 +263,12 @@ impl<'a, L: Link<'a>, P: Place> Operate<'a> for World<'a, L, P> {
         binding::defaults(self.linked, &state.state, function)
     }
 
+    #[inline(always)]
     fn function(&self, value: Item<'_>) -> Option<FunctionId> {
         functions::function_of(value)
     }
 
+    #[inline(always)]
     fn find(
         &self,
         state: &mut Whole<'a, P::Work>,
@@ -263,6 +278,7 @@ impl<'a, L: Link<'a>, P: Place> Operate<'a> for World<'a, L, P> {
         finding_callees::find(self, state, owner, name)
     }
 
+    #[inline(always)]
     fn call(
         &self,
         state: &mut Whole<'a, P::Work>,
@@ -274,6 +290,7 @@ impl<'a, L: Link<'a>, P: Place> Operate<'a> for World<'a, L, P> {
         calling::call(self, state, callee, items, names, named)
     }
 
+    #[inline(always)]
     fn alloc(&self) -> Global {
         self.alloc
     }

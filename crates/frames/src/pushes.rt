@@ -11,6 +11,7 @@ use operands::{Constant, Operand};
 use syntax::Predeclared;
 
 /// A number that the file writes out.
+#[inline(always)]
 pub fn push_number<'a, W: Operate<'a>>(
     world: &W,
     line: usize,
@@ -29,6 +30,7 @@ pub fn push_number<'a, W: Operate<'a>>(
 }
 
 /// A string that the file writes out.
+#[inline(always)]
 pub fn push_text<'a, W: Operate<'a>>(
     world: &W,
     line: usize,
@@ -46,6 +48,7 @@ pub fn push_text<'a, W: Operate<'a>>(
 }
 
 /// `None`.
+#[inline(always)]
 pub fn push_none<'a, W: Operate<'a>>(
     world: &W,
     line: usize,
@@ -62,6 +65,7 @@ pub fn push_none<'a, W: Operate<'a>>(
 }
 
 /// What each file finds bound.
+#[inline(always)]
 pub fn push_builtin<'a, W: Operate<'a>>(
     world: &W,
     line: usize,

@@ -58,6 +58,7 @@ impl<'a> Slots<'a> {
     }
 
     /// A slot, if it is there.
+    #[inline(always)]
     pub fn get(&self, slot: usize) -> Option<&Option<Operand<'a>>>
         ensures { option_copied result ≡ slice_get self.now slot }
     {
@@ -65,6 +66,7 @@ impl<'a> Slots<'a> {
     }
 
     /// How many slots there are.
+    #[inline(always)]
     pub fn len(&self) -> usize
         ensures { result ≡ length self.now }
     {
@@ -80,6 +82,7 @@ impl<'a> Slots<'a> {
     }
 
     /// A slot that is there gets a value, or is emptied.
+    #[inline(always)]
     fn set(&mut self, slot: usize, value: Option<Operand<'a>>)
         requires { slot < length self.old }
         ensures { self.new ≡ slice_set self.old slot value.entry }
@@ -89,6 +92,7 @@ impl<'a> Slots<'a> {
 
     /// Makes slots up to this one, if they aren't there.
     #[tactic(auto, using(crate::proofs::Putting::put_grown))]
+    #[inline(always)]
     fn reach(&mut self, slot: usize) -> Result<(), AllocError>
         ensures there { IfOk result (λ _. slot < length self.new) }
         ensures same { IfOk result (λ _. (v : Option held.Value)
@@ -102,6 +106,7 @@ impl<'a> Slots<'a> {
 
     /// A slot gets a value, or is emptied.
     #[tactic(auto, using(crate::proofs::Putting::put_there))]
+    #[inline(always)]
     pub fn put(&mut self, slot: usize, value: Option<Operand<'a>>) -> Result<(), AllocError>
         ensures { IfOk result (λ _. self.new ≡ put slot value.entry self.old) }
     {

@@ -45,6 +45,7 @@ impl<T> Stack<T> {
     }
 
     /// How many items it has.
+    #[inline(always)]
     pub fn len(&self) -> usize
         ensures { result ≡ length self.now }
     {
@@ -56,6 +57,7 @@ impl<T> Stack<T> {
     /// # Errors
     ///
     /// Memory was refused.
+    #[inline(always)]
     pub fn push(&mut self, item: T) -> Result<(), AllocError>
     where
         T: Drop,
@@ -66,6 +68,7 @@ impl<T> Stack<T> {
     }
 
     /// Takes the item off the top.
+    #[inline(always)]
     pub fn pop(&mut self) -> Option<T>
         ensures { MatchOption result ((self.old ≡ []) × (self.new ≡ []))
             (λ x. self.old ≡ x ∷ self.new) }

@@ -47,6 +47,7 @@ impl From<AllocError> for Stop {
 }
 
 /// What breaks an operation, at its place.
+#[cold]
 pub fn stop_at(broken: Broken, file: usize, line: usize) -> Stop
     ensures { result ≡ stop_of broken file line }
 {
@@ -57,6 +58,7 @@ pub fn stop_at(broken: Broken, file: usize, line: usize) -> Stop
 }
 
 /// A fault that evaluation finds, at its place.
+#[cold]
 pub fn refused<'a, W: Operate<'a>>(world: &W, refusal: Refusal, file: usize, line: usize) -> Stop
     ensures { result ≡ fault_at ((W.operations world.now).refusal (refusal_seen refusal)) file
         line }

@@ -9,6 +9,7 @@ use std::alloc::AllocError;
 
 /// So many values off the top of a stack, onto another: what was at the top is the lowest of them there. Whether they were
 /// there.
+#[inline(always)]
 pub fn take<'a>(
     count: usize,
     values: &mut Stack<Operand<'a>>,

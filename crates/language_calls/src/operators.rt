@@ -20,6 +20,7 @@ use values::{Broken, Item, Key, Kind, Value};
 /// # Errors
 ///
 /// Those of the operator.
+#[inline(always)]
 pub fn binary(
     alloc: Global,
     state: &mut State,
@@ -49,6 +50,7 @@ pub fn binary(
 }
 
 /// `left == right`.
+#[inline(always)]
 fn equal(state: &mut State, left: Item<'_>, right: Item<'_>) -> Result<Value, Broken>
     ensures { Does (as_truth (equals (item_value left.entry) (item_value right.entry))) state.old
         result state.new }
@@ -60,6 +62,7 @@ fn equal(state: &mut State, left: Item<'_>, right: Item<'_>) -> Result<Value, Br
 }
 
 /// `left != right`.
+#[inline(always)]
 fn not_equal(state: &mut State, left: Item<'_>, right: Item<'_>) -> Result<Value, Broken>
     ensures { Does (as_opposite (equals (item_value left.entry) (item_value right.entry))) state.old
         result state.new }
@@ -71,6 +74,7 @@ fn not_equal(state: &mut State, left: Item<'_>, right: Item<'_>) -> Result<Value
 }
 
 /// `left < right` and its like.
+#[inline(always)]
 fn compared(
     state: &State,
     operator: Comparison,
@@ -87,6 +91,7 @@ fn compared(
 }
 
 /// `left in right`.
+#[inline(always)]
 fn within(state: &mut State, left: Item<'_>, right: Item<'_>) -> Result<Value, Broken>
     ensures { Does (as_truth (member (item_value left.entry) (item_value right.entry))) state.old
         result state.new }
@@ -98,6 +103,7 @@ fn within(state: &mut State, left: Item<'_>, right: Item<'_>) -> Result<Value, B
 }
 
 /// `left not in right`.
+#[inline(always)]
 fn not_within(state: &mut State, left: Item<'_>, right: Item<'_>) -> Result<Value, Broken>
     ensures { Does (as_opposite (member (item_value left.entry) (item_value right.entry))) state.old
         result state.new }
@@ -109,6 +115,7 @@ fn not_within(state: &mut State, left: Item<'_>, right: Item<'_>) -> Result<Valu
 }
 
 /// `left - right` and the other operators of whole numbers alone.
+#[inline(always)]
 fn calculated(
     state: &State,
     operator: Arithmetic,

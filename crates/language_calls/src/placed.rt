@@ -8,6 +8,7 @@ ghost use Rattle.language.specs.Language.{leaf_of, target_of, of_place};
 use values::{Frozen, Held, Item, Leaf, Value};
 
 /// The leaf that a value is, if it is one.
+#[inline(always)]
 pub fn leaf_of<'a>(value: Item<'a>) -> Option<&'a Leaf>
     ensures { option_copied result ≡ leaf_of (item_value value.entry) }
 {
@@ -18,6 +19,7 @@ pub fn leaf_of<'a>(value: Item<'a>) -> Option<&'a Leaf>
     }
 }
 
+#[inline(always)]
 fn value_leaf(value: &Value) -> Option<&Leaf>
     ensures { option_copied result ≡ leaf_of value.now }
 {
@@ -27,6 +29,7 @@ fn value_leaf(value: &Value) -> Option<&Leaf>
     }
 }
 
+#[inline(always)]
 fn tree_leaf(tree: &Frozen) -> Option<&Leaf>
     ensures { option_copied result ≡ leaf_of (value_of tree.now) }
 {
@@ -37,6 +40,7 @@ fn tree_leaf(tree: &Frozen) -> Option<&Leaf>
 }
 
 /// The place of the target that a value is among the dependencies, if it is one.
+#[inline(always)]
 pub fn target_of(value: Item<'_>) -> Option<usize>
     ensures { result ≡ target_of (item_value value.entry) }
 {
@@ -47,6 +51,7 @@ pub fn target_of(value: Item<'_>) -> Option<usize>
 }
 
 /// The target or the object that a value is, if it is one: their fields and methods are those of their place.
+#[inline(always)]
 pub fn of_place<'a>(value: Item<'a>) -> Option<&'a Leaf>
     ensures { option_copied result ≡ of_place (item_value value.entry) }
 {

@@ -29,6 +29,7 @@ impl<'a, T> Model for Active<'a, T> {
 }
 
 /// Whether a function is one of these.
+#[inline(always)]
 fn is_among(function: FunctionId, functions: &[FunctionId]) -> bool
     ensures { result ≡ list_any (λ g. same_function (id_seen function) (id_seen g)) functions.now }
 {
@@ -47,6 +48,7 @@ impl<'a, T: Drop> Active<'a, T> {
     }
 
     /// How many are active.
+    #[inline(always)]
     pub(crate) fn len(&self) -> usize
         ensures { result ≡ length (ids_seen self.now) }
     {
@@ -54,6 +56,7 @@ impl<'a, T: Drop> Active<'a, T> {
     }
 
     /// Whether a function is active.
+    #[inline(always)]
     pub(crate) fn contains(&self, function: FunctionId) -> bool
         ensures { result ≡ list_any (same_function (id_seen function)) (ids_seen self.now) }
     {
@@ -61,6 +64,7 @@ impl<'a, T: Drop> Active<'a, T> {
     }
 
     /// A function is active inside of the others.
+    #[inline(always)]
     pub(crate) fn enter(&mut self, function: FunctionId) -> Result<(), AllocError>
         ensures { IfOk result (λ _. self.new ≡ function ∷ self.old) }
     {
@@ -69,6 +73,7 @@ impl<'a, T: Drop> Active<'a, T> {
     }
 
     /// The innermost one is left.
+    #[inline(always)]
     pub(crate) fn leave(&mut self)
         ensures { ids_seen self.new ≡ outer (ids_seen self.old) }
     {
@@ -76,6 +81,7 @@ impl<'a, T: Drop> Active<'a, T> {
     }
 
     /// A frame for the next call: the memory of one that has ended, or of none.
+    #[inline(always)]
     pub(crate) fn spare(&mut self, alloc: Global) -> Frame<'a, T>
         ensures { self.new ≡ self.old }
     {
@@ -87,6 +93,7 @@ impl<'a, T: Drop> Active<'a, T> {
 
     /// What is in the frame of a function that has ended is let go, and its memory is kept for the next call, unless memory for
     /// that is refused.
+    #[inline(always)]
     pub(crate) fn keep(&mut self, frame: Frame<'a, T>)
         ensures { self.new ≡ self.old }
     {

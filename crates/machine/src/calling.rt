@@ -47,6 +47,7 @@ pub(crate) enum Called<'a, T> {
 const MOST_ACTIVE: usize = 128;
 
 /// A frame at the first instruction of a function, in the memory of one that has ended.
+#[inline(always)]
 pub(crate) fn frame_at_entry<'a, T: Drop>(
     ended: Frame<'a, T>,
     function: FunctionId,
@@ -79,6 +80,7 @@ pub(crate) fn frame_at_entry<'a, T: Drop>(
 }
 
 /// A function whose arguments fit becomes active, if it isn't yet and if not too many are, with the tick of its call.
+#[inline(always)]
 fn enter<'a, W: Operate<'a>>(
     world: &W,
     place: Place,
@@ -108,6 +110,7 @@ fn enter<'a, W: Operate<'a>>(
 }
 
 /// A function written in Starlark is called: the tests of the call, its tick, and a new frame.
+#[inline(always)]
 pub(crate) fn call_function<'a, W: Operate<'a>>(
     world: &W,
     linked: &'a Linked,
@@ -150,6 +153,7 @@ pub(crate) fn call_function<'a, W: Operate<'a>>(
 }
 
 /// Which function written in Starlark is called, if one is.
+#[inline(always)]
 fn function_of<'a, W: Operate<'a>>(world: &W, callee: &Callee) -> Option<FunctionId>
     ensures { option_map id_seen result ≡ called (W.operations world.now) (callee_seen callee.now) }
 {
@@ -160,6 +164,7 @@ fn function_of<'a, W: Operate<'a>>(world: &W, callee: &Callee) -> Option<Functio
 }
 
 /// A call: of a function written in Starlark, or of something else.
+#[inline(always)]
 pub(crate) fn call<'a, W: Operate<'a>>(
     world: &W,
     linked: &'a Linked,

@@ -44,6 +44,7 @@ impl Linked {
     }
 
     /// The code of a function; None where there is none.
+    #[inline(always)]
     pub fn function(&self, function: FunctionId) -> Option<&FunctionCode>
         ensures { option_copied result ≡ code_at (codes_of self.now) (id_seen function) }
     {
@@ -64,6 +65,7 @@ impl Linked {
     }
 
     /// The instruction at a place of a function, with its line.
+    #[inline(always)]
     pub(crate) fn instruction(&self, function: FunctionId, at: usize) -> Option<&Lined>
         ensures there { option_map lined_seen (option_copied result)
             ≡ place (codes_of self.now) (id_seen function) at }

@@ -42,6 +42,7 @@ pub(crate) struct Asked<'a> {
 /// below
 /// them.
 #[tactic(auto, using(frames::proofs::Popping::pops_popped))]
+#[inline(always)]
 fn take_call<'a, W: Operate<'a>>(
     world: &W,
     count: usize,
@@ -77,6 +78,7 @@ fn take_call<'a, W: Operate<'a>>(
 }
 
 /// The run goes on with what a call came to.
+#[inline(always)]
 fn go_on<'a, W: Operate<'a>>(
     _world: &W,
     called: Called<'a, W::Walk>,
@@ -98,6 +100,7 @@ fn go_on<'a, W: Operate<'a>>(
 }
 
 /// The innermost function ends with a value, which its caller gets; without a caller the run is over.
+#[inline(always)]
 fn leave_with<'a, W: Operate<'a>>(
     _world: &W,
     value: Operand<'a>,
@@ -150,6 +153,7 @@ fn end_walks<'a, W: Operate<'a>>(
 }
 
 /// A call, of what an instruction asks for.
+#[inline(always)]
 pub(crate) fn call_asked<'a, W: Operate<'a>>(
     world: &W,
     linked: &'a Linked,
@@ -183,6 +187,7 @@ pub(crate) fn call_asked<'a, W: Operate<'a>>(
 }
 
 /// A call with so many values by position, and those of these names behind them.
+#[inline(never)]
 pub(crate) fn call_with<'a, W: Operate<'a>>(
     world: &W,
     linked: &'a Linked,
@@ -206,6 +211,7 @@ pub(crate) fn call_with<'a, W: Operate<'a>>(
 }
 
 /// A function gives the top back, when its walks have ended.
+#[inline(never)]
 pub(crate) fn give_back<'a, W: Operate<'a>>(
     world: &W,
     line: usize,
@@ -225,6 +231,7 @@ pub(crate) fn give_back<'a, W: Operate<'a>>(
 }
 
 /// To the next turn of the innermost walk; without a walk the function ends.
+#[inline(always)]
 pub(crate) fn again<'a, W: Operate<'a>>(
     world: &W,
     line: usize,

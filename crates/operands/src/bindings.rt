@@ -41,6 +41,7 @@ impl<'a> Bindings<'a> {
     }
 
     /// How many names there are.
+    #[inline(always)]
     pub fn len(&self) -> usize
         ensures { result ≡ length self.now }
     {
@@ -48,6 +49,7 @@ impl<'a> Bindings<'a> {
     }
 
     /// What a name holds, if there is a name of this number.
+    #[inline(always)]
     pub fn get(&self, number: usize) -> Option<&Option<Operand<'a>>>
         ensures { option_copied result ≡ slice_get self.now number }
     {
@@ -55,6 +57,7 @@ impl<'a> Bindings<'a> {
     }
 
     /// A name holds a value from now on, or nothing.
+    #[inline(always)]
     pub fn set(&mut self, number: usize, value: Option<Operand<'a>>)
         requires { number < length self.old }
         ensures { self.new ≡ slice_set self.old number value.entry }

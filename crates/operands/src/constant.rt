@@ -34,6 +34,7 @@ impl Constant {
     }
 
     /// It, as a key.
+    #[inline(always)]
     pub fn key(&self) -> &Key
         ensures { result.now ≡ Key.Text self.now }
     {

@@ -39,6 +39,7 @@ impl<'a> Model for Operand<'a> {
 
 impl<'a> Operand<'a> {
     /// A value of one's own.
+    #[inline(always)]
     pub fn own(value: Value) -> Operand<'a>
         ensures { result ≡ value }
     {
@@ -48,6 +49,7 @@ impl<'a> Operand<'a> {
     }
 
     /// A value that lies in what lives longer.
+    #[inline(always)]
     pub fn lent(item: Item<'a>) -> Operand<'a>
         ensures { result ≡ item_value item.entry }
     {
@@ -57,6 +59,7 @@ impl<'a> Operand<'a> {
     }
 
     /// The value, where it lies.
+    #[inline(always)]
     pub fn item(&self) -> Item<'_>
         ensures { item_value result ≡ self.now }
     {
@@ -68,6 +71,7 @@ impl<'a> Operand<'a> {
 
     /// What is lent shows this, whatever heap there is, for as long as it is lent: None for a value of one's own, and for a
     /// cell, which only its heap can show.
+    #[inline(always)]
     pub fn lent_seen(&self) -> Option<Seen<'a>>
         ensures { MatchOption result Unit
             (λ s. (heap : List Cell) → seen s ≡ shape heap self.now) }
@@ -79,6 +83,7 @@ impl<'a> Operand<'a> {
     }
 
     /// The value, where it is stored.
+    #[inline(always)]
     pub fn stored<'b>(&'b self) -> Stored<'a, 'b>
         ensures { stored_value result ≡ self.now }
     {
@@ -93,6 +98,7 @@ impl<'a> Operand<'a> {
     /// # Errors
     ///
     /// `AllocError` where a count is at its greatest.
+    #[inline(always)]
     pub fn share(&self) -> Result<Operand<'a>, AllocError>
         ensures { IfOk result (λ o. o ≡ self.now) }
     {
@@ -104,6 +110,7 @@ impl<'a> Operand<'a> {
     /// # Errors
     ///
     /// `AllocError` where a count is at its greatest.
+    #[inline(always)]
     pub fn into_own<'b>(self) -> Result<Operand<'b>, AllocError>
         ensures { IfOk result (λ o. o ≡ self.entry) }
     {
@@ -115,6 +122,7 @@ impl<'a> Operand<'a> {
     /// # Errors
     ///
     /// `AllocError` where a count is at its greatest.
+    #[inline(always)]
     pub fn into_value(self) -> Result<Value, AllocError>
         ensures { IfOk result (λ v. v ≡ self.entry) }
     {
@@ -126,6 +134,7 @@ impl<'a> Operand<'a> {
 }
 
 /// A value that was made, or why there is none.
+#[inline(always)]
 pub fn owned<'a>(made: Result<Value, Broken>) -> Result<Operand<'a>, Broken>
     ensures { result ≡ made }
 {
@@ -136,6 +145,7 @@ pub fn owned<'a>(made: Result<Value, Broken>) -> Result<Operand<'a>, Broken>
 }
 
 /// What an item shows in every heap, if it is no cell.
+#[inline(always)]
 fn frozen_item<'a>(item: Item<'a>) -> Option<Seen<'a>>
     ensures { MatchOption result Unit
         (λ s. (heap : List Cell) → seen s ≡ shape heap (item_value item.entry)) }
@@ -148,6 +158,7 @@ fn frozen_item<'a>(item: Item<'a>) -> Option<Seen<'a>>
 }
 
 /// What a value shows in every heap, if it is no cell.
+#[inline(always)]
 fn frozen_value<'a>(value: &'a Value) -> Option<Seen<'a>>
     ensures { MatchOption result Unit (λ s. (heap : List Cell) → seen s ≡ shape heap value.now) }
 {

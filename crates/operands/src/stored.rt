@@ -19,6 +19,7 @@ impl<'a, 'b> Stored<'a, 'b> {
     /// # Errors
     ///
     /// `AllocError` where a count is at its greatest.
+    #[inline(always)]
     pub fn operand(self) -> Result<Operand<'a>, AllocError>
         ensures { IfOk result (λ o. o ≡ stored_value self.entry) }
     {

@@ -45,6 +45,7 @@ pub fn new_dict(alloc: Global, state: &mut State) -> Result<Value, Broken>
 }
 
 /// What an operation gave, at its place: a value of its own, or a new cell.
+#[inline(always)]
 pub fn place(state: &mut State, made: Made) -> Result<Value, Broken>
     ensures { Does (placed made) state.old result state.new }
 {

@@ -26,6 +26,7 @@ use values::{Broken, Group, Heap, Item, Items, Key, Kind, Seen, Value};
 /// # Errors
 ///
 /// `type` for all else; then `overflow` or `large`.
+#[inline(always)]
 pub fn plus(alloc: Global, state: &mut State, a: Item<'_>, b: Item<'_>) -> Result<Value, Broken>
     ensures { Does (plus (item_value a.entry) (item_value b.entry)) state.old result state.new }
 {
@@ -36,6 +37,7 @@ pub fn plus(alloc: Global, state: &mut State, a: Item<'_>, b: Item<'_>) -> Resul
 }
 
 /// What two values of a heap add up to.
+#[inline(always)]
 fn added_in(alloc: Global, heap: &Heap, a: Item<'_>, b: Item<'_>) -> Result<Made, Broken>
     ensures { Gives (added (shape heap.now (item_value a.entry))
         (shape heap.now (item_value b.entry))) result }
@@ -44,6 +46,7 @@ fn added_in(alloc: Global, heap: &Heap, a: Item<'_>, b: Item<'_>) -> Result<Made
 }
 
 /// What two values add up to.
+#[inline(always)]
 fn added(alloc: Global, a: &Seen<'_>, b: &Seen<'_>) -> Result<Made, Broken>
     ensures { Gives (added (seen a.now) (seen b.now)) result }
 {
@@ -56,6 +59,7 @@ fn added(alloc: Global, a: &Seen<'_>, b: &Seen<'_>) -> Result<Made, Broken>
 }
 
 /// What two numbers or two strings add up to.
+#[inline(always)]
 fn key_sum(alloc: Global, a: &Key, b: &Key) -> Result<Made, Broken>
     ensures { Gives (key_sum a.now b.now) result }
 {
@@ -70,6 +74,7 @@ fn key_sum(alloc: Global, a: &Key, b: &Key) -> Result<Made, Broken>
 }
 
 /// A number that was made, or its fault.
+#[inline(always)]
 fn new_number(number: Result<i64, NumberError>) -> Result<Made, Broken>
     ensures { Gives (new_number number) result }
 {
@@ -165,6 +170,7 @@ fn extended(state: &mut State, list: Value, items: Items) -> Result<Value, Broke
 /// # Errors
 ///
 /// `type` for all else; `zero`, and then `overflow`.
+#[inline(always)]
 pub fn calculate(
     state: &State,
     operator: Arithmetic,
@@ -184,6 +190,7 @@ pub fn calculate(
 }
 
 /// What an operator makes of two numbers.
+#[inline(always)]
 fn calculated(operator: Arithmetic, a: i64, b: i64) -> Result<i64, NumberError>
     ensures { result ≡ calculated operator a b }
 {
@@ -196,6 +203,7 @@ fn calculated(operator: Arithmetic, a: i64, b: i64) -> Result<i64, NumberError>
 }
 
 /// A number as a value, or its fault.
+#[inline(always)]
 fn number_value(number: Result<i64, NumberError>) -> Result<Value, Broken>
     ensures { Gives (number_value number) result }
 {
@@ -225,6 +233,7 @@ pub fn negate(state: &State, a: Item<'_>) -> Result<Value, Broken>
 /// # Errors
 ///
 /// `type` for all else.
+#[inline(always)]
 pub fn compare(
     state: &State,
     operator: Comparison,
@@ -241,6 +250,7 @@ pub fn compare(
 }
 
 /// The order of two values.
+#[inline(always)]
 fn order_of(a: &Seen<'_>, b: &Seen<'_>) -> Result<Ordering, Broken>
     ensures { Gives (order_in (seen a.now) (seen b.now)) result }
 {
@@ -251,6 +261,7 @@ fn order_of(a: &Seen<'_>, b: &Seen<'_>) -> Result<Ordering, Broken>
 }
 
 /// The order of two numbers or of two strings.
+#[inline(always)]
 fn key_order(a: &Key, b: &Key) -> Result<Ordering, Broken>
     ensures { Gives (key_order a.now b.now) result }
 {

@@ -7,6 +7,7 @@ use plain::Text;
 use values::{Group, Key, Seen};
 
 /// The whole number that a value is, if it is one.
+#[inline(always)]
 pub fn number_of(value: &Seen<'_>) -> Option<i64>
     ensures { result ≡ number_in (seen value.now) }
 {
@@ -17,6 +18,7 @@ pub fn number_of(value: &Seen<'_>) -> Option<i64>
 }
 
 /// The key that a value is, if it may be one.
+#[inline(always)]
 pub fn key_of<'a>(value: &Seen<'a>) -> Option<&'a Key>
     ensures { option_copied result ≡ key_in (seen value.now) }
 {
@@ -27,6 +29,7 @@ pub fn key_of<'a>(value: &Seen<'a>) -> Option<&'a Key>
 }
 
 /// The string that a value is, if it is one.
+#[inline(always)]
 pub fn text_of<'a>(value: &Seen<'a>) -> Option<&'a Text>
     ensures { option_copied result ≡ string_in (seen value.now) }
 {
@@ -37,6 +40,7 @@ pub fn text_of<'a>(value: &Seen<'a>) -> Option<&'a Text>
 }
 
 /// The items of a list or a tuple.
+#[inline(always)]
 pub fn sequence_of<'a>(value: &Seen<'a>) -> Option<Group<'a>>
     ensures { MatchOption result (sequence_in (seen value.now) ≡ None)
         (λ g. sequence_in (seen value.now) ≡ Some (group_items g)) }

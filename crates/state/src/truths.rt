@@ -7,6 +7,7 @@ use operations::State;
 use values::{Depset, Item, Key, Leaf, Seen};
 
 /// Whether a value counts as true.
+#[inline(always)]
 pub fn truth(state: &State, item: Item<'_>) -> bool
     ensures { result ≡ truth_of state.now (item_value item.entry) }
 {
@@ -21,6 +22,7 @@ pub fn truth(state: &State, item: Item<'_>) -> bool
     }
 }
 
+#[inline(always)]
 fn key_truth(key: &Key) -> bool
     ensures { result ≡ key_truth key.now }
 {
@@ -31,6 +33,7 @@ fn key_truth(key: &Key) -> bool
     }
 }
 
+#[inline(always)]
 fn leaf_truth(leaf: &Leaf) -> bool
     ensures { result ≡ leaf_truth leaf.now }
 {

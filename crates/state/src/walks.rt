@@ -12,6 +12,7 @@ use operations::State;
 use values::{Broken, Frozen, Held, Item, Kind, Value};
 
 /// One tick, or `steps`.
+#[inline(always)]
 pub fn tick(state: &mut State) -> Result<(), Broken>
     ensures { Does tick state.old result state.new }
 {

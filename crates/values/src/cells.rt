@@ -61,6 +61,7 @@ impl Items {
     }
 
     /// How many there are.
+    #[inline(always)]
     pub fn len(&self) -> usize
         ensures { result ≡ length self.now }
     {
@@ -68,6 +69,7 @@ impl Items {
     }
 
     /// All of them, in order.
+    #[inline(always)]
     pub fn as_slice(&self) -> &[Value]
         ensures { result.now ≡ self.now }
     {
@@ -93,6 +95,7 @@ impl Items {
     }
 
     /// Puts an item last. After a refusal of memory they are as they were.
+    #[inline(always)]
     pub fn push(&mut self, value: Value) -> Result<(), AllocError>
         ensures ok { OnOk result (self.new ≡ self.old ++ value ∷ []) }
         ensures err { OnErr result (self.new ≡ self.old) }

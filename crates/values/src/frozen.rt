@@ -136,6 +136,7 @@ impl Frozen {
     }
 
     /// What it holds.
+    #[inline(always)]
     pub fn held(&self) -> &Held
         ensures { tree_of result.now ≡ self.now }
     {
@@ -154,6 +155,7 @@ impl Frozen {
     }
 
     /// What it shows, as a value.
+    #[inline(always)]
     pub fn see(&self) -> Seen<'_>
         ensures { seen result ≡ tree_shape self.now }
     {
@@ -216,6 +218,7 @@ impl Branch {
     }
 
     /// Its parts.
+    #[inline(always)]
     pub fn node(&self) -> &Node
         ensures { node_branch result.now ≡ self.now }
     {
@@ -244,6 +247,7 @@ impl Branch {
     }
 
     /// What it shows, as a value.
+    #[inline(always)]
     pub fn see(&self) -> Seen<'_>
         ensures { seen result ≡ branch_shape self.now }
     {
@@ -252,6 +256,7 @@ impl Branch {
 }
 
 /// The frozen value at a place.
+#[inline(always)]
 pub fn tree_at(trees: &[Frozen], place: usize) -> &Frozen
     requires { place < length trees.now }
     ensures { slice_get trees.now place ≡ Some result.now }
@@ -261,6 +266,7 @@ pub fn tree_at(trees: &[Frozen], place: usize) -> &Frozen
 
 impl Node {
     /// What a branch of these parts shows.
+    #[inline(always)]
     fn see(&self) -> Seen<'_>
         ensures { seen result ≡ branch_shape (node_branch self.now) }
     {

@@ -57,6 +57,7 @@ impl Heap {
     }
 
     /// The cell of this number, if there is one.
+    #[inline(always)]
     pub fn cell(&self, number: usize) -> Option<&Cell>
         ensures { option_copied result ≡ slice_get self.now number }
     {

@@ -15,6 +15,7 @@ pub enum Key {
 
 impl Key {
     /// Another name of the same key.
+    #[inline(always)]
     pub fn share(&self) -> Result<Key, AllocError>
         ensures { IfOk result (λ k. k ≡ self.now) }
     {
@@ -27,6 +28,7 @@ impl Key {
 }
 
 impl Drop for Key {
+    #[inline(always)]
     fn drop(self) {
         match self {
             Key::Text(_) => {}

@@ -55,6 +55,7 @@ pub enum Seen<'a> {
 
 impl<'a> Item<'a> {
     /// A value of one's own, for a cell that keeps it: at most a count more.
+    #[inline(always)]
     pub fn to_value(self) -> Result<Value, AllocError>
         ensures { IfOk result (λ v. v ≡ item_value self.entry) }
     {
@@ -75,6 +76,7 @@ fn key_value(key: &Key) -> Result<Value, AllocError>
 
 impl<'a> Group<'a> {
     /// How many items there are.
+    #[inline(always)]
     pub fn len(&self) -> usize
         ensures { result ≡ length (group_items self.now) }
     {
@@ -85,6 +87,7 @@ impl<'a> Group<'a> {
     }
 
     /// The item at a place.
+    #[inline(always)]
     pub fn item(&self, place: usize) -> Item<'a>
         requires { place < length (group_items self.now) }
         ensures { slice_get (group_items self.now) place ≡ Some (item_value result) }
@@ -96,6 +99,7 @@ impl<'a> Group<'a> {
     }
 }
 
+#[inline(always)]
 fn value_at<'a>(values: &'a [Value], place: usize) -> Item<'a>
     requires { place < length values.now }
     ensures { slice_get values.now place ≡ Some (item_value result) }
@@ -103,6 +107,7 @@ fn value_at<'a>(values: &'a [Value], place: usize) -> Item<'a>
     Item::Value(&values[place])
 }
 
+#[inline(always)]
 fn tree_at<'a>(trees: &'a [Frozen], place: usize) -> Item<'a>
     requires { place < length trees.now }
     ensures { slice_get (map value_of trees.now) place ≡ Some (item_value result) }
@@ -155,6 +160,7 @@ fn tree_slot<'a>(trees: &'a [Option<Frozen>], place: usize) -> Option<Item<'a>>
 
 impl<'a> Table<'a> {
     /// How many entries there are.
+    #[inline(always)]
     pub fn len(&self) -> usize
         ensures { result ≡ length (table_entries self.now) }
     {
@@ -165,6 +171,7 @@ impl<'a> Table<'a> {
     }
 
     /// The key and the value at a place.
+    #[inline(always)]
     pub fn at(&self, place: usize) -> Option<(&'a Key, Item<'a>)>
         ensures { MatchOption result (length (table_entries self.now) ≤ place)
             (λ e. slice_get (table_entries self.now) place ≡ Some (e.0.now, item_value e.1)) }
@@ -247,6 +254,7 @@ fn tree_of_key<'a>(keys: &'a IndexSet<Key>, values: &'a [Frozen], key: &Key) -> 
 
 impl Heap {
     /// What a value shows.
+    #[inline(always)]
     pub fn see<'a>(&'a self, value: &'a Value) -> Seen<'a>
         ensures { seen result ≡ shape self.now value.now }
     {
@@ -262,6 +270,7 @@ impl Heap {
     }
 
     /// What an item shows.
+    #[inline(always)]
     pub fn see_item<'a>(&'a self, item: Item<'a>) -> Seen<'a>
         ensures { seen result ≡ shape self.now (item_value item.entry) }
     {
@@ -275,6 +284,7 @@ impl Heap {
 
 impl Cell {
     /// What a value of this cell shows.
+    #[inline(always)]
     pub fn see(&self) -> Seen<'_>
         ensures { seen result ≡ cell_shape (Some self.now) }
     {

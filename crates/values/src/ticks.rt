@@ -173,6 +173,7 @@ impl Ticks {
     }
 
     /// One tick more, or the fault `steps` where the limit is used up; then they stay as they were.
+    #[inline(always)]
     pub fn tick(&mut self) -> Result<(), Broken>
         ensures answer { MatchResult result (λ _. ticked self.old ≡ Ok self.new)
             (λ e. (e ≡ Broken.Kind Kind.Steps) × (ticked self.old ≡ Err Kind.Steps)) }
@@ -187,6 +188,7 @@ impl Ticks {
     }
 
     /// A visit of a value with this many levels left: a tick, and then the fault `deep` where none is left.
+    #[inline(always)]
     pub fn enter(&mut self, left: u32) -> Result<(), Broken>
         ensures { MatchResult result (λ _. (entered left self.old ≡ Ok self.new) × (0 < left))
             (λ e. FaultOr (entered left self.old) e) }

@@ -15,6 +15,7 @@ pub enum Value {
 
 impl Value {
     /// Another name of the same value: at most one count more, and nothing below it is copied.
+    #[inline(always)]
     pub fn share(&self) -> Result<Value, AllocError>
         ensures { IfOk result (λ v. v ≡ self.now) }
     {
@@ -28,6 +29,7 @@ impl Value {
 }
 
 impl Drop for Value {
+    #[inline(always)]
     fn drop(self) {
         match self {
             Value::Key(_) => {}
