@@ -1,5 +1,5 @@
 //! The fields of a provider.
-ghost use Rattle.std.specs.Prelude.{◌≡◌, IfOk, option_and_then};
+ghost use Rattle.std.specs.Prelude.{◌≡◌, [], IfOk, option_and_then};
 ghost use Rattle.values.specs.Seeing.{seen, group_items, table_entries, item_value};
 ghost use Rattle.values.specs.Shape.{shape};
 ghost use Rattle.targets.specs.RuleCalls.{each_of};
@@ -43,11 +43,11 @@ fn distinct_names(alloc: Global, heap: &Heap, items: Group<'_>) -> Result<Option
     Ok(Some(names))
 }
 
-/// Whether no name is there twice.
-fn are_distinct(alloc: Global, names: &[Text]) -> Result<bool, AllocError>
+/// Puts names into a set without any, and tells whether none of them is there twice.
+fn are_new(seen: &mut IndexSet<Text>, names: &[Text]) -> Result<bool, AllocError>
+    requires { seen.old.keys ≡ [] }
     ensures { IfOk result (λ b. b ≡ are_distinct names.now) }
 {
-    let mut seen = IndexSet::new(alloc);
     for name in names {
         let is_new = seen.insert(name.share()?)?;
         if !is_new {
@@ -55,6 +55,15 @@ fn are_distinct(alloc: Global, names: &[Text]) -> Result<bool, AllocError>
         }
     }
     Ok(true)
+}
+
+/// Whether no name is there twice.
+fn are_distinct(alloc: Global, names: &[Text]) -> Result<bool, AllocError>
+    ensures { IfOk result (λ b. b ≡ are_distinct names.now) }
+{
+    let mut seen = IndexSet::new(alloc);
+    let are_new = are_new(&mut seen, names)?;
+    Ok(are_new)
 }
 
 /// The names of entries whose values are strings.

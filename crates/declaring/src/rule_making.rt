@@ -19,7 +19,7 @@ use operands::Operand;
 use operations::{Arguments, State};
 use plain::Shared;
 use std::alloc::{AllocError, Global};
-use targets::Rule;
+use targets::{Rule, RuleAttributes};
 use values::{Broken, ExportName, Exported, FunctionRef, Kind, Leaf, MadeId, RuleRef, Seen, Value};
 
 /// A call of `rule`, which makes a rule of a function and of attributes. Those may be of this module, or of the modules
@@ -92,7 +92,7 @@ fn rule_with<A: Attributes>(
     };
     let rule = Rule {
         implementation: implementation.share()?,
-        attributes,
+        attributes: RuleAttributes::new(alloc, attributes)?,
     };
     declare_rule(alloc, state, declared, rule)
 }

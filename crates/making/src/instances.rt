@@ -13,6 +13,7 @@ ghost use Rattle.operations.specs.Names.{in_slot};
 ghost use Rattle.operations.specs.Instances.{are_fields, given_fields, new_instance, with_fields, constructed, unless_placed, with_files, with_new_files, info_with, files_in, only_files};
 
 use crate::depset_calls::new_depset;
+use crate::places::{FEW, FirstPlaces, name_at, place_named};
 use operands::Operand;
 use operations::{Arguments, State};
 use plain::{Shared, Text};
@@ -51,7 +52,7 @@ fn with_fields(
     ensures { Does (with_fields provider.now names.now values.now) state.old result state.new }
 {
     let fields = provider.get().fields.as_slice();
-    if !are_fields(fields, names) {
+    if !are_fields(alloc, fields, names)? {
         return Err(Broken::Kind(Kind::Arity));
     }
     let provider = provider.share()?;
@@ -62,8 +63,38 @@ fn with_fields(
     }
 }
 
-/// Whether each name is one of the provider's.
-fn are_fields(fields: &[Text], names: &[Text]) -> bool
+/// Whether each name is one of the provider's. The fields are put in order where many names are given.
+fn are_fields(alloc: Global, fields: &[Text], names: &[Text]) -> Result<bool, AllocError>
+    ensures { IfOk result (λ b. b ≡ are_fields fields.now names.now) }
+{
+    if names.len() <= FEW {
+        return Ok(are_among(fields, names));
+    }
+    let fields = FirstPlaces::new(alloc, fields)?;
+    Ok(are_found(&fields, names))
+}
+
+/// Whether each name is one of the provider's, by a look in order.
+fn are_found(fields: &FirstPlaces<'_>, names: &[Text]) -> bool
+    ensures { result ≡ are_fields fields.now names.now }
+{
+    for name in names {
+        if !is_found(fields, name) {
+            return false;
+        }
+    }
+    true
+}
+
+/// Whether a name is one of the provider's, by a look in order.
+fn is_found(fields: &FirstPlaces<'_>, name: &Text) -> bool
+    ensures { result ≡ list_any (bytes_eq name.now) fields.now }
+{
+    fields.get(name.as_str()).is_some()
+}
+
+/// Whether each name is one of the provider's, by going through them for each.
+fn are_among(fields: &[Text], names: &[Text]) -> bool
     ensures { result ≡ are_fields fields.now names.now }
 {
     for name in names {
@@ -95,9 +126,10 @@ fn given_fields(
 ) -> Result<Fields, AllocError>
     ensures { IfOk result (λ os. os ≡ given_fields fields.now names.now values.now) }
 {
+    let places = FirstPlaces::new(alloc, names)?;
     let mut slots = Fields::with_capacity(alloc, fields.len())?;
     for place in 0..fields.len() {
-        put_field(name_at(fields, place), names, values, &mut slots)?;
+        put_field(name_at(fields, place), &places, values, &mut slots)?;
     }
     Ok(slots)
 }
@@ -105,13 +137,13 @@ fn given_fields(
 /// Puts what a field got last.
 fn put_field(
     field: &Text,
-    names: &[Text],
+    names: &FirstPlaces<'_>,
     values: &[Operand<'_>],
     slots: &mut Fields,
 ) -> Result<(), AllocError>
     ensures { OnOk result (slots.new ≡ slots.old ++ given_for field.now names.now values.now ∷ []) }
 {
-    let value = match given_for(field.as_str(), names, values) {
+    let value = match value_at(values, names.get(field.as_str())) {
         Some(value) => Some(value.item().to_value()?),
         None => None,
     };
@@ -127,30 +159,17 @@ pub fn given_for<'a, 'v>(
 ) -> Option<&'a Operand<'v>>
     ensures { option_copied result ≡ given_for name.now names.now values.now }
 {
-    match place_named(name, names) {
+    value_at(values, place_named(name, names))
+}
+
+/// The value at a place, if there is one.
+fn value_at<'a, 'v>(values: &'a [Operand<'v>], place: Option<usize>) -> Option<&'a Operand<'v>>
+    ensures { option_copied result ≡ at_place values.now place }
+{
+    match place {
         Some(place) => values.get(place),
         None => None,
     }
-}
-
-/// The first place of a name among names.
-fn place_named(name: &str, names: &[Text]) -> Option<usize>
-    ensures { result ≡ place_named name.now names.now }
-{
-    for place in 0..names.len() {
-        if name == name_at(names, place).as_str() {
-            return Some(place);
-        }
-    }
-    None
-}
-
-/// The name at a place.
-fn name_at(names: &[Text], place: usize) -> &Text
-    requires { place < length names.now }
-    ensures { slice_get names.now place ≡ Some result.now }
-{
-    &names[place]
 }
 
 /// The value of an instance's field, if it was given.

@@ -2,4 +2,5 @@ pub mod Adding
 pub mod Typed
 pub mod Repeated
 pub mod Named
+pub mod Sharing
 pub mod Steps

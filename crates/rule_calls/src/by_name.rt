@@ -1,11 +1,11 @@
 //! The targets of a package.
-ghost use Rattle.std.specs.Prelude.{◌≡◌, ◌<◌, ◌++◌, ◌∷◌, [], true, false, None, Some, length, slice_get, MatchOption, OnOk, OnErr, option_copied};
+ghost use Rattle.std.specs.Prelude.{◌≡◌, ◌<◌, ◌++◌, ◌∷◌, [], true, false, None, Some, length, slice_get, MatchOption, IfOk, IfSome, OnOk, OnErr, option_copied};
 ghost use Rattle.targets.specs.RuleCalls.{has_declared};
 ghost use Rattle.targets.specs.Resolving.{target_with};
 ghost use Rattle.rule_calls.specs.Packages.{are_named};
 
 use indexmap::{Equivalent, IndexMap};
-use plain::Text;
+use plain::{Shared, Text};
 use std::alloc::{AllocError, Global};
 use std::hash::{Hash, Hasher};
 use std::marker::Model;
@@ -88,6 +88,17 @@ impl<'a> Equivalent<Text> for Name<'a> {
     }
 }
 
+/// The name of a label as a text: this one, where it is the name, and else a new one.
+#[tactic(auto, using(crate::proofs::Named::same_text))]
+fn name_of(alloc: Global, label: &Label, known: Option<&Text>) -> Result<Text, AllocError>
+    ensures { IfOk result (λ t. t ≡ label.now.name) }
+{
+    match known {
+        Some(text) if text.as_str() == label.name() => text.share(),
+        _ => Text::new(alloc, label.name()),
+    }
+}
+
 impl PackageTargets {
     /// A package without targets.
     pub fn new(alloc: Global, package: Text) -> PackageTargets
@@ -165,8 +176,36 @@ impl PackageTargets {
         }) }
         ensures err { OnErr result (self.new ≡ self.old) }
     {
-        let name = Text::new(alloc, target.label.get().name())?;
+        self.push_as(alloc, None, target)
+    }
+
+    /// The same, where this text may be the target's name: then it is shared.
+    pub(crate) fn push_as(
+        &mut self,
+        alloc: Global,
+        known: Option<&Text>,
+        target: Target,
+    ) -> Result<(), AllocError>
+        requires here { target.label.«package» ≡ self.old.«package» }
+        requires new { has_declared self.old.targets target.label ≡ false }
+        ensures ok { OnOk result (self.new ≡ record {
+          «package» = self.old.«package»;
+          targets = self.old.targets ++ target ∷ [];
+        }) }
+        ensures err { OnErr result (self.new ≡ self.old) }
+    {
+        let name = name_of(alloc, target.label.get(), known)?;
         self.by_name.insert(name, target)?;
         Ok(())
+    }
+
+    /// The label of the target of a name, if the package has declared it.
+    pub(crate) fn named(&self, name: &str) -> Option<&Shared<Label>>
+        ensures { IfSome result (λ l. l.now ≡ record { «package» = self.now.«package»; name = name.now }) }
+    {
+        match self.by_name.get(Name { text: name }) {
+            Some(target) => Some(&target.label),
+            None => None,
+        }
     }
 }

@@ -9,11 +9,15 @@ ghost use Rattle.rule_calls.specs.Called.{target_of, target_read, call, Calls};
 use crate::by_name::PackageTargets;
 use crate::fitting::fits;
 use crate::freezing::freeze_given;
-use crate::given::given_as;
+use crate::given::ByName;
+use crate::here::Here;
 use crate::reading::{label_from, values_for};
 use crate::repeats::repeats_given;
+use making::given_for;
+use operands::Operand;
 use operations::{Arguments, State};
-use plain::Shared;
+use plain::{Shared, Text};
+use state::text_of;
 use std::alloc::Global;
 use targets::{AttributeValue, Rule, Sequence, Target};
 use values::{Broken, Heap, Kind};
@@ -34,6 +38,21 @@ pub fn declare_target(
 ) -> Result<Target, Broken>
     ensures { Does (declares declared.now.«package» declared.now.targets rule.now
         (given arguments.now)) state.old result state.new }
+{
+    let given = ByName::new(alloc, arguments)?;
+    declare_by_name(alloc, state, declared, rule, &given)
+}
+
+/// The same, of what the call gives by name.
+fn declare_by_name(
+    alloc: Global,
+    state: &mut State,
+    declared: &PackageTargets,
+    rule: &Shared<Rule>,
+    arguments: &ByName<'_, '_>,
+) -> Result<Target, Broken>
+    ensures { Does (declares declared.now.«package» declared.now.targets rule.now arguments.now)
+        state.old result state.new }
 {
     if !fits(rule.get(), arguments) {
         return Err(Broken::Kind(Kind::Arity));
@@ -68,9 +87,18 @@ pub fn call_rule(
         Ok(target) => target,
         Err(broken) => return Err(broken),
     };
-    match declared.push(alloc, target) {
+    let name = name_in(&state.heap, arguments.names, arguments.values);
+    match declared.push_as(alloc, name, target) {
         Ok(()) => Ok(()),
         Err(_) => Err(Broken::NoMemory),
+    }
+}
+
+/// The text that a call gives as `name`, if it gives one.
+fn name_in<'h>(heap: &'h Heap, names: &[Text], values: &'h [Operand<'_>]) -> Option<&'h Text> {
+    match given_for("name", names, values) {
+        Some(name) => text_of(&heap.see_item(name.item())),
+        None => None,
     }
 }
 
@@ -80,18 +108,18 @@ fn read_target(
     heap: &Heap,
     declared: &PackageTargets,
     rule: &Shared<Rule>,
-    arguments: &Arguments<'_, '_>,
+    arguments: &ByName<'_, '_>,
 ) -> Result<Target, Broken>
-    ensures { Gives (target_read heap.now declared.now rule.now (given arguments.now)) result }
+    ensures { Gives (target_read heap.now declared.now rule.now arguments.now) result }
 {
     let package = declared.package();
-    let name = given_as("name", arguments);
+    let name = arguments.given_as("name");
     let label = match label_from(alloc, heap, package, name) {
         Ok(label) => label,
         Err(broken) => return Err(broken),
     };
-    let attributes = rule.get().attributes.as_slice();
-    match values_for(alloc, heap, package, arguments, attributes) {
+    let here = Here::new(declared);
+    match values_for(alloc, heap, &here, arguments, &rule.get().attributes) {
         Ok(values) => new_target(alloc, declared, rule, arguments, label, values),
         Err(broken) => Err(broken),
     }
@@ -102,12 +130,12 @@ fn new_target(
     alloc: Global,
     declared: &PackageTargets,
     rule: &Shared<Rule>,
-    arguments: &Arguments<'_, '_>,
+    arguments: &ByName<'_, '_>,
     label: Shared<Label>,
     values: Sequence<AttributeValue>,
 ) -> Result<Target, Broken>
-    ensures { Gives (target_of rule.now declared.now.targets (given arguments.now)
-        (Some label) (Some values)) result }
+    ensures { Gives (target_of rule.now declared.now.targets arguments.now (Some label)
+        (Some values)) result }
 {
     let attributes = rule.get().attributes.as_slice();
     let repeats = repeats_given(alloc, attributes, arguments, values.as_slice())?;

@@ -1,36 +1,32 @@
 //! Whether what a call of a rule gives fits the rule's attributes.
 ghost use Rattle.std.specs.Prelude.{◌≡◌};
 ghost use Rattle.std.specs.List.{list_any, list_all};
-ghost use Rattle.std.specs.Str.{bytes_eq};
-ghost use Rattle.operations.specs.Arguments.{given};
 ghost use Rattle.targets.specs.Attributes.{is_private};
 ghost use Rattle.targets.specs.RuleCalls.{may_name, is_missed, fits};
 
-use crate::given::given_as;
-use operations::Arguments;
+use crate::given::ByName;
 use plain::Text;
-use targets::{NamedAttribute, Rule};
+use targets::{NamedAttribute, Rule, RuleAttributes};
 
 /// Whether there is no position, each name is one that a call may give, and `name` and each mandatory attribute are
 /// given.
-pub(crate) fn fits(rule: &Rule, arguments: &Arguments<'_, '_>) -> bool
-    ensures { result ≡ fits rule.now (given arguments.now) }
+pub(crate) fn fits(rule: &Rule, arguments: &ByName<'_, '_>) -> bool
+    ensures { result ≡ fits rule.now arguments.now }
 {
-    if arguments.items.len() != 0 {
+    if arguments.position_count() != 0 {
         return false;
     }
-    let attributes = rule.attributes.as_slice();
-    if !may_name_all(attributes, arguments.names) {
+    if !may_name_all(&rule.attributes, arguments.names()) {
         return false;
     }
-    if given_as("name", arguments).is_none() {
+    if arguments.given_as("name").is_none() {
         return false;
     }
-    !misses_any(attributes, arguments)
+    !misses_any(rule.attributes.as_slice(), arguments)
 }
 
 /// Whether a call may give each of these names.
-fn may_name_all(attributes: &[NamedAttribute], names: &[Text]) -> bool
+fn may_name_all(attributes: &RuleAttributes, names: &[Text]) -> bool
     ensures { result ≡ list_all (may_name attributes.now) names.now }
 {
     for name in names {
@@ -42,7 +38,7 @@ fn may_name_all(attributes: &[NamedAttribute], names: &[Text]) -> bool
 }
 
 /// Whether a call may give a name: `name`, or an attribute's that isn't private.
-fn may_name(attributes: &[NamedAttribute], name: &Text) -> bool
+fn may_name(attributes: &RuleAttributes, name: &Text) -> bool
     ensures { result ≡ may_name attributes.now name.now }
 {
     if name.as_str() == "name" {
@@ -51,7 +47,7 @@ fn may_name(attributes: &[NamedAttribute], name: &Text) -> bool
     if is_private(name.as_str()) {
         return false;
     }
-    has_attribute(attributes, name)
+    attributes.has(name)
 }
 
 /// Whether an attribute of this name is private.
@@ -64,21 +60,9 @@ fn is_private(name: &str) -> bool
     }
 }
 
-/// Whether one of the attributes has this name.
-fn has_attribute(attributes: &[NamedAttribute], name: &Text) -> bool
-    ensures { result ≡ list_any (λ a. bytes_eq name.now a.name) attributes.now }
-{
-    for attribute in attributes {
-        if *name == attribute.name {
-            return true;
-        }
-    }
-    false
-}
-
 /// Whether a mandatory attribute isn't given.
-fn misses_any(attributes: &[NamedAttribute], arguments: &Arguments<'_, '_>) -> bool
-    ensures { result ≡ list_any (is_missed (given arguments.now)) attributes.now }
+fn misses_any(attributes: &[NamedAttribute], arguments: &ByName<'_, '_>) -> bool
+    ensures { result ≡ list_any (is_missed arguments.now) attributes.now }
 {
     for attribute in attributes {
         if is_missed(attribute, arguments) {
@@ -89,11 +73,11 @@ fn misses_any(attributes: &[NamedAttribute], arguments: &Arguments<'_, '_>) -> b
 }
 
 /// Whether an attribute is mandatory and isn't given.
-fn is_missed(attribute: &NamedAttribute, arguments: &Arguments<'_, '_>) -> bool
-    ensures { result ≡ is_missed (given arguments.now) attribute.now }
+fn is_missed(attribute: &NamedAttribute, arguments: &ByName<'_, '_>) -> bool
+    ensures { result ≡ is_missed arguments.now attribute.now }
 {
     if !attribute.attribute.get().mandatory {
         return false;
     }
-    given_as(attribute.name.as_str(), arguments).is_none()
+    arguments.given_as(attribute.name.as_str()).is_none()
 }

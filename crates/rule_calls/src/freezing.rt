@@ -1,13 +1,11 @@
 //! Freezing what a call of a rule gives.
 ghost use Rattle.std.specs.Prelude.{◌≡◌, Ok, Err, MatchResult, option_copied};
 ghost use Rattle.values.specs.Ticking.{Says, FaultOr};
-ghost use Rattle.operations.specs.Arguments.{given};
 ghost use Rattle.targets.specs.RuleCalls.{given_as};
 ghost use Rattle.rule_calls.specs.Freezing.{frozen_option, frozen_for};
 
-use crate::given::given_as;
+use crate::given::ByName;
 use operands::Operand;
-use operations::Arguments;
 use std::alloc::Global;
 use targets::NamedAttribute;
 use values::{Broken, Heap, Ticks};
@@ -18,15 +16,15 @@ use visits::freeze;
 pub(crate) fn freeze_given(
     alloc: Global,
     attributes: &[NamedAttribute],
-    arguments: &Arguments<'_, '_>,
+    arguments: &ByName<'_, '_>,
     heap: &Heap,
     ticks: &mut Ticks,
 ) -> Result<(), Broken>
-    ensures { Says (frozen_for attributes.now (given arguments.now) heap.now ticks.old) result
+    ensures { Says (frozen_for attributes.now arguments.now heap.now ticks.old) result
         ticks.new }
 {
     for attribute in attributes {
-        let value = given_as(attribute.name.as_str(), arguments);
+        let value = arguments.given_as(attribute.name.as_str());
         if let Err(broken) = freeze_option(alloc, value, heap, ticks) {
             return Err(broken);
         }

@@ -1,21 +1,87 @@
 //! What a call of a rule gives.
-ghost use Rattle.std.specs.Prelude.{◌≡◌, Some, None, option_copied, if◌then◌else◌};
+ghost use Rattle.std.specs.Prelude.{◌≡◌, Some, None, IfOk, length, option_copied, if◌then◌else◌};
 ghost use Rattle.values.specs.Seeing.{item_value};
 ghost use Rattle.values.specs.Shape.{value_of};
 ghost use Rattle.operations.specs.Arguments.{given};
+ghost use Rattle.operations.specs.Items.{at_place};
 ghost use Rattle.targets.specs.RuleCalls.{given_as, unless_none};
 
-use making::given_for;
+use making::FirstPlaces;
 use operands::Operand;
 use operations::Arguments;
+use plain::Text;
+use std::alloc::{AllocError, Global};
+use std::marker::Model;
 use values::{Frozen, Held, Item, Leaf, Value};
 
-/// What was given under a name; None counts as not given.
-pub(crate) fn given_as<'a, 'v>(name: &str, arguments: &Arguments<'a, 'v>) -> Option<&'a Operand<'v>>
-    ensures { option_copied result ≡ given_as (given arguments.now) name.now }
+/// What a call of a rule gives, found by name.
+#[derive(Drop)]
+pub(crate) struct ByName<'a, 'v> {
+    arguments: Arguments<'a, 'v>,
+    places: FirstPlaces<'a>,
+}
+
+impl<'a, 'v> Model for ByName<'a, 'v> {
+    ghost use Rattle.std.specs.Prelude.{◌≡◌};
+    ghost use Rattle.operations.specs.Arguments.{Given, given};
+
+    ghost Value = { Given };
+
+    ghost use Rattle.rule_calls.specs.GivenCode.{given_code};
+
+    ghost coded = { given_code };
+
+    ghost view = { λ b. given b.arguments };
+
+    ghost invariant = { λ b. b.places ≡ b.arguments.names.now };
+}
+
+impl<'a, 'v> ByName<'a, 'v> {
+    /// The arguments of a call.
+    pub(crate) fn new(
+        alloc: Global,
+        arguments: &Arguments<'a, 'v>,
+    ) -> Result<ByName<'a, 'v>, AllocError>
+        ensures { IfOk result (λ b. b ≡ given arguments.now) }
+    {
+        let places = FirstPlaces::new(alloc, arguments.names)?;
+        Ok(ByName {
+            arguments: *arguments,
+            places,
+        })
+    }
+
+    /// How many are given by position.
+    pub(crate) fn position_count(&self) -> usize
+        ensures { result ≡ length self.now.items }
+    {
+        self.arguments.items.len()
+    }
+
+    /// The names that are given.
+    pub(crate) fn names(&self) -> &'a [Text]
+        ensures { result.now ≡ self.now.names }
+    {
+        self.arguments.names
+    }
+
+    /// What was given under a name; None counts as not given.
+    pub(crate) fn given_as(&self, name: &str) -> Option<&'a Operand<'v>>
+        ensures { option_copied result ≡ given_as self.now name.now }
+    {
+        match value_at(self.arguments.values, self.places.get(name)) {
+            Some(value) => unless_none(value),
+            None => None,
+        }
+    }
+}
+
+/// The value at a place, if there is one.
+fn value_at<'a, 'v>(values: &'a [Operand<'v>], place: Option<usize>) -> Option<&'a Operand<'v>>
+    ensures { option_copied result ≡ at_place values.now place }
 {
-    match given_for(name, arguments.names, arguments.values) {
-        Some(value) => unless_none(value),
+    match place {
+        Some(place) => values.get(place),
         None => None,
     }
 }

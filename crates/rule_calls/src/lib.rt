@@ -7,10 +7,10 @@
 
 mod by_name;
 mod calling;
-mod defaults;
 mod fitting;
 mod freezing;
 mod given;
+mod here;
 mod lists;
 mod reading;
 mod repeats;

@@ -1,21 +1,20 @@
 //! Strings, and labels of a package, out of the items of a list.
-ghost use Rattle.std.specs.Prelude.{◌≡◌, [], Ok, Err, Some, MatchResult};
+ghost use Rattle.std.specs.Prelude.{◌≡◌, [], Ok, Err, MatchResult};
 ghost use Rattle.values.specs.Seeing.{seen, group_items};
 ghost use Rattle.values.specs.Shape.{shape};
 ghost use Rattle.values.specs.Ticking.{FaultOr};
-ghost use Rattle.operations.specs.Items.{or_fault};
 ghost use Rattle.operations.specs.Reading.{string_in};
 ghost use Rattle.operations.specs.States.{Gives};
-ghost use Rattle.workspace.specs.Labels.{label_of};
 ghost use Rattle.targets.specs.RuleCalls.{label_in};
 ghost use Rattle.rule_calls.specs.Each.{put_read, added};
 
+use crate::here::Here;
 use plain::Shared;
 use state::text_of;
 use std::alloc::Global;
 use targets::Sequence;
 use values::{Broken, Group, Heap, Kind, Names, Seen};
-use workspace::{Label, LabelRefused};
+use workspace::Label;
 
 /// The strings that items are, or `type`.
 pub(crate) fn strings(alloc: Global, heap: &Heap, items: Group<'_>) -> Result<Names, Broken>
@@ -50,13 +49,13 @@ fn put_text(value: &Seen<'_>, texts: &mut Names) -> Result<(), Broken>
 pub(crate) fn labels(
     alloc: Global,
     heap: &Heap,
-    package: &str,
+    package: &Here<'_>,
     items: Group<'_>,
 ) -> Result<Sequence<Shared<Label>>, Broken>
     ensures { Gives (added (λ v. label_in heap.now «package».now (shape heap.now v)) []
         (group_items items.entry)) result }
 {
-    let mut labels = Sequence::new(alloc);
+    let mut labels = Sequence::with_capacity(alloc, items.len())?;
     for place in 0..items.len() {
         let value = heap.see_item(items.item(place));
         if let Err(broken) = put_label(alloc, heap, package, &value, &mut labels) {
@@ -70,7 +69,7 @@ pub(crate) fn labels(
 fn put_label(
     alloc: Global,
     heap: &Heap,
-    package: &str,
+    package: &Here<'_>,
     value: &Seen<'_>,
     labels: &mut Sequence<Shared<Label>>,
 ) -> Result<(), Broken>
@@ -81,7 +80,7 @@ fn put_label(
     let Some(text) = text_of(value) else {
         return Err(Broken::Kind(Kind::Wrong));
     };
-    match read_label(alloc, package, text.as_str()) {
+    match package.label(alloc, text.as_str()) {
         Ok(label) => {
             if labels.push(label).is_err() {
                 return Err(Broken::NoMemory);
@@ -89,19 +88,5 @@ fn put_label(
             Ok(())
         }
         Err(broken) => Err(broken),
-    }
-}
-
-/// The label that a text is, read in a package, or `type`.
-pub(crate) fn read_label(alloc: Global, package: &str, text: &str) -> Result<Shared<Label>, Broken>
-    ensures { Gives (or_fault Kind.Wrong (label_of text.now (Some «package».now))) result }
-{
-    match Label::read(alloc, text, Some(package)) {
-        Ok(label) => {
-            let label = Shared::new(alloc, label)?;
-            Ok(label)
-        }
-        Err(LabelRefused::Illegal) => Err(Broken::Kind(Kind::Wrong)),
-        Err(LabelRefused::NoMemory) => Err(Broken::NoMemory),
     }
 }

@@ -1,22 +1,21 @@
 //! The label and the values of a target, out of what is given for it.
 ghost use Rattle.std.specs.Prelude.{◌≡◌, [], Ok, Err, MatchResult, option_copied};
 ghost use Rattle.values.specs.Ticking.{FaultOr};
-ghost use Rattle.operations.specs.Arguments.{given};
 ghost use Rattle.operations.specs.Items.{or_fault};
 ghost use Rattle.operations.specs.States.{Gives};
 ghost use Rattle.workspace.specs.Labels.{legal_label};
+ghost use Rattle.targets.specs.Attributes.{default_of};
 ghost use Rattle.targets.specs.RuleCalls.{value_for, label_from};
 ghost use Rattle.rule_calls.specs.Each.{put_read, added};
 
-use crate::defaults::default_of;
-use crate::given::given_as;
+use crate::given::ByName;
+use crate::here::Here;
 use crate::typing::typed;
 use operands::Operand;
-use operations::Arguments;
 use plain::Shared;
 use state::text_of;
 use std::alloc::Global;
-use targets::{AttributeValue, NamedAttribute, Sequence};
+use targets::{AttributeValue, NamedAttribute, RuleAttributes, Sequence};
 use values::{Broken, Heap, Kind};
 use workspace::{Label, is_label, label_with};
 
@@ -56,37 +55,49 @@ fn label_named(alloc: Global, package: &str, name: &str) -> Result<Shared<Label>
 pub(crate) fn values_for(
     alloc: Global,
     heap: &Heap,
-    package: &str,
-    arguments: &Arguments<'_, '_>,
-    attributes: &[NamedAttribute],
+    package: &Here<'_>,
+    arguments: &ByName<'_, '_>,
+    attributes: &RuleAttributes,
 ) -> Result<Sequence<AttributeValue>, Broken>
-    ensures { Gives (added (value_for heap.now «package».now (given arguments.now)) []
+    ensures { Gives (added (value_for heap.now «package».now arguments.now) []
         attributes.now) result }
 {
-    let mut values = Sequence::new(alloc);
-    for attribute in attributes {
-        if let Err(broken) = put_value(alloc, heap, package, arguments, attribute, &mut values) {
+    let mut values = Sequence::with_capacity(alloc, attributes.len())?;
+    for place in 0..attributes.len() {
+        let attribute = attributes.at(place);
+        let default = attributes.default_at(place);
+        if let Err(broken) = put_value(
+            alloc,
+            heap,
+            package,
+            arguments,
+            attribute,
+            default,
+            &mut values,
+        ) {
             return Err(broken);
         }
     }
     Ok(values)
 }
 
-/// Puts what a target has for an attribute last, or `type`.
+/// Puts what a target has for an attribute of this default last, or `type`.
 fn put_value(
     alloc: Global,
     heap: &Heap,
-    package: &str,
-    arguments: &Arguments<'_, '_>,
+    package: &Here<'_>,
+    arguments: &ByName<'_, '_>,
     attribute: &NamedAttribute,
+    default: &AttributeValue,
     values: &mut Sequence<AttributeValue>,
 ) -> Result<(), Broken>
+    requires { default.now ≡ default_of attribute.now.attribute }
     ensures { MatchResult result (λ _. put_read values.old
-        (value_for heap.now «package».now (given arguments.now) attribute.now) ≡ Ok values.new)
+        (value_for heap.now «package».now arguments.now attribute.now) ≡ Ok values.new)
         (λ e. FaultOr (put_read values.old
-        (value_for heap.now «package».now (given arguments.now) attribute.now)) e) }
+        (value_for heap.now «package».now arguments.now attribute.now)) e) }
 {
-    match value_for(alloc, heap, package, arguments, attribute) {
+    match value_for(alloc, heap, package, arguments, attribute, default) {
         Ok(value) => {
             if values.push(value).is_err() {
                 return Err(Broken::NoMemory);
@@ -97,22 +108,23 @@ fn put_value(
     }
 }
 
-/// What a target has for an attribute: what is given, or else the default; or `type`.
+/// What a target has for an attribute: what is given, or else the default, which is shared; or `type`.
 fn value_for(
     alloc: Global,
     heap: &Heap,
-    package: &str,
-    arguments: &Arguments<'_, '_>,
+    package: &Here<'_>,
+    arguments: &ByName<'_, '_>,
     attribute: &NamedAttribute,
+    default: &AttributeValue,
 ) -> Result<AttributeValue, Broken>
+    requires { default.now ≡ default_of attribute.now.attribute }
     ensures { Gives (or_fault Kind.Wrong
-        (value_for heap.now «package».now (given arguments.now) attribute.now)) result }
+        (value_for heap.now «package».now arguments.now attribute.now)) result }
 {
-    let declared = attribute.attribute.get();
-    match given_as(attribute.name.as_str(), arguments) {
-        Some(value) => typed(alloc, heap, package, declared, value),
+    match arguments.given_as(attribute.name.as_str()) {
+        Some(value) => typed(alloc, heap, package, attribute.attribute.get(), value),
         None => {
-            let value = default_of(alloc, declared)?;
+            let value = default.share()?;
             Ok(value)
         }
     }

@@ -1,11 +1,9 @@
 //! Labels that stand twice in a list that is given.
 ghost use Rattle.std.specs.Prelude.{◌≡◌, ◌&&◌, IfOk, true, false};
 ghost use Rattle.std.specs.List.{list_any};
-ghost use Rattle.operations.specs.Arguments.{given};
 ghost use Rattle.targets.specs.RuleCalls.{is_given, repeats, repeats_label, repeats_given};
 
-use crate::given::given_as;
-use operations::Arguments;
+use crate::given::ByName;
 use plain::Shared;
 use std::alloc::{AllocError, Global};
 use std::collections::BTreeSet;
@@ -16,11 +14,11 @@ use workspace::Label;
 pub(crate) fn repeats_given(
     alloc: Global,
     attributes: &[NamedAttribute],
-    arguments: &Arguments<'_, '_>,
+    arguments: &ByName<'_, '_>,
     values: &[AttributeValue],
 ) -> Result<bool, AllocError>
     ensures { IfOk result (λ b. b
-        ≡ repeats_given attributes.now (given arguments.now) values.now) }
+        ≡ repeats_given attributes.now arguments.now values.now) }
 {
     for (place, attribute) in attributes.iter().enumerate() {
         let repeats = match values.get(place) {
@@ -38,13 +36,13 @@ pub(crate) fn repeats_given(
 fn repeats_for(
     alloc: Global,
     attribute: &NamedAttribute,
-    arguments: &Arguments<'_, '_>,
+    arguments: &ByName<'_, '_>,
     value: &AttributeValue,
 ) -> Result<bool, AllocError>
     ensures { IfOk result (λ b. b
-        ≡ (is_given (given arguments.now) attribute.now.name && repeats_label value.now)) }
+        ≡ (is_given arguments.now attribute.now.name && repeats_label value.now)) }
 {
-    if given_as(attribute.name.as_str(), arguments).is_none() {
+    if arguments.given_as(attribute.name.as_str()).is_none() {
         return Ok(false);
     }
     repeats_label(alloc, value)
@@ -66,7 +64,7 @@ fn repeats(alloc: Global, labels: &[Shared<Label>]) -> Result<bool, AllocError>
 {
     let mut seen = BTreeSet::new(alloc);
     for label in labels {
-        let is_new = seen.insert((label.get().package(), label.get().name()))?;
+        let is_new = seen.insert((label.get().name(), label.get().package()))?;
         if !is_new {
             return Ok(true);
         }

@@ -10,7 +10,8 @@ ghost use Rattle.operations.specs.Items.{or_fault};
 ghost use Rattle.operations.specs.States.{Gives};
 ghost use Rattle.targets.specs.RuleCalls.{typed, is_allowed, if_allowed};
 
-use crate::lists::{labels, read_label, strings};
+use crate::here::Here;
+use crate::lists::{labels, strings};
 use operands::Operand;
 use plain::Shared;
 use std::alloc::Global;
@@ -21,7 +22,7 @@ use values::{AttributeKind, Broken, Heap, Key, Kind, Seen};
 pub(crate) fn typed(
     alloc: Global,
     heap: &Heap,
-    package: &str,
+    package: &Here<'_>,
     attribute: &Attribute,
     value: &Operand<'_>,
 ) -> Result<AttributeValue, Broken>
@@ -36,7 +37,7 @@ pub(crate) fn typed(
 fn typed_shown(
     alloc: Global,
     heap: &Heap,
-    package: &str,
+    package: &Here<'_>,
     attribute: &Attribute,
     value: &Seen<'_>,
 ) -> Result<AttributeValue, Broken>
@@ -144,14 +145,18 @@ fn strings_value(alloc: Global, heap: &Heap, value: &Seen<'_>) -> Result<Attribu
 }
 
 /// The label that a string is.
-fn label_value(alloc: Global, package: &str, value: &Seen<'_>) -> Result<AttributeValue, Broken>
+fn label_value(
+    alloc: Global,
+    package: &Here<'_>,
+    value: &Seen<'_>,
+) -> Result<AttributeValue, Broken>
     ensures { (h : List Cell) (ks : List Key) → Gives (or_fault Kind.Wrong
         (typed h «package».now AttributeKind.Label ks (seen value.now))) result }
 {
     let Seen::Key(Key::Text(text)) = value else {
         return Err(Broken::Kind(Kind::Wrong));
     };
-    match read_label(alloc, package, text.as_str()) {
+    match package.label(alloc, text.as_str()) {
         Ok(label) => Ok(AttributeValue::Label(Some(label))),
         Err(broken) => Err(broken),
     }
@@ -161,7 +166,7 @@ fn label_value(alloc: Global, package: &str, value: &Seen<'_>) -> Result<Attribu
 fn labels_value(
     alloc: Global,
     heap: &Heap,
-    package: &str,
+    package: &Here<'_>,
     value: &Seen<'_>,
 ) -> Result<AttributeValue, Broken>
     ensures { (ks : List Key) → Gives (or_fault Kind.Wrong

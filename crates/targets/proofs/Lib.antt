@@ -6,3 +6,4 @@ pub mod Declared
 pub mod NamedTargets
 pub mod Refusals
 pub mod Whole
+pub mod Placing

@@ -1,33 +1,13 @@
 -- Attributes of rules, and what a target has for them (Bazel documentation, "Rules", "Attributes" and the module `attr`;
 -- docs/PROFILE.md, "Attributes").
-use Rattle.std.specs.Prelude.{ℕ, pos, Bool, false, not, ◌&&◌, ◌||◌, nat_eq, List, [], ◌∷◌, Option, Some, None, is_some, codes, bytes_eq}
+use Rattle.std.specs.Prelude.{ℕ, Bool, false, not, ◌&&◌, ◌||◌, nat_eq, List, [], ◌∷◌, Option, Some, None, is_some, codes, bytes_eq}
 use Rattle.std.specs.List.{flat_map, list_all}
-use Rattle.values.specs.declared.key.Key.TheVariants as index
-use Rattle.values.specs.declared.leaf.AttributeKind.{AttributeKind}
-use Rattle.values.specs.declared.leaf.AttributeKind.TheVariants as kind
 use Rattle.workspace.specs.Labels.{LabelParts}
-use Rattle.targets.specs.declared.attributes.Attribute.{Attribute}
 use Rattle.targets.specs.declared.attributes.AttributeValue.{AttributeValue}
 use Rattle.targets.specs.declared.attributes.AttributeValue.TheVariants as has
 use Rattle.targets.specs.declared.attributes.NamedAttribute.{NamedAttribute}
 use Rattle.targets.specs.declared.target.Target.{Target}
-
--- the default of a kind: `""`, `0`, `False`, `[]`, None, `[]`
-abbrev pub default_of_kind : AttributeKind → AttributeValue
-default_of_kind kind.String = has.Key (index.Text [])
-default_of_kind kind.Int = has.Key (index.Number (pos 0))
-default_of_kind kind.Bool = has.Key (index.Truth false)
-default_of_kind kind.StringList = has.Strings []
-default_of_kind kind.Label = has.Label None
-default_of_kind kind.LabelList = has.Labels []
-
-abbrev pub value_or : Option AttributeValue → AttributeValue → AttributeValue
-value_or (Some v) d = v
-value_or None d = d
-
--- the default of an attribute: the one that was given with it, else that of its kind
-abbrev pub default_of : Attribute → AttributeValue
-default_of a = value_or a.default (default_of_kind a.kind)
+pub use Rattle.targets.specs.Defaults.{default_of_kind, value_or, default_of}
 
 -- an attribute whose name begins with `_` can't be set by a target
 abbrev pub is_private : List ℕ → Bool

@@ -1,7 +1,9 @@
+pub mod Defaults
 pub mod Attributes
 pub mod RuleCalls
 pub mod Resolving
 pub mod Checks
 pub mod OutcomeCodes
+pub mod Placed
 pub mod Steps
 pub mod Laws

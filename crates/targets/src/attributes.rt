@@ -1,7 +1,7 @@
 //! Rules and their attributes.
 ghost use Rattle.std.specs.Prelude.{◌≡◌, IfOk};
 
-use crate::Sequence;
+use crate::{RuleAttributes, Sequence};
 use plain::{Shared, Text};
 use std::alloc::AllocError;
 use values::{AttributeKind, FunctionRef, Key, Names, Provider};
@@ -50,7 +50,7 @@ pub struct NamedAttribute {
 #[derive(Drop)]
 pub struct Rule {
     pub implementation: Shared<FunctionRef>,
-    pub attributes: Sequence<NamedAttribute>,
+    pub attributes: RuleAttributes,
 }
 
 impl AttributeValue {

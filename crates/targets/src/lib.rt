@@ -7,12 +7,15 @@
 #![tactic(auto)]
 
 mod attributes;
+mod defaults;
 pub mod laws;
 mod outcome;
+mod rule_attributes;
 mod sequence;
 mod target;
 
 pub use attributes::{AllowFiles, Attribute, AttributeValue, NamedAttribute, Rule};
 pub use outcome::{Actions, Outcome, Providers, TargetFault};
+pub use rule_attributes::RuleAttributes;
 pub use sequence::Sequence;
 pub use target::Target;

@@ -1,5 +1,5 @@
 //! What becomes of a label, as workers hand it on.
-ghost use Rattle.std.specs.Prelude.{◌≡◌, ◌++◌, ◌∷◌, [], OnOk, OnErr};
+ghost use Rattle.std.specs.Prelude.{◌≡◌, ◌++◌, ◌∷◌, [], IfOk, OnOk, OnErr};
 
 use crate::Sequence;
 use actions::Action;
@@ -37,6 +37,14 @@ impl Providers {
         Providers {
             items: Vec::new(alloc),
         }
+    }
+
+    /// None yet, with memory for so many.
+    pub fn with_capacity(alloc: Global, count: usize) -> Result<Providers, AllocError>
+        ensures { IfOk result (λ p. p ≡ []) }
+    {
+        let items = Vec::with_capacity(alloc, count)?;
+        Ok(Providers { items })
     }
 
     /// Puts an instance last. After a refusal of memory they are as they were.

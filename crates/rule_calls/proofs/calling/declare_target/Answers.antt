@@ -1,26 +1,10 @@
-use Rattle.std.proofs.Common.{◌≡◌, ◌∙◌, true, refl, ap, sym, subst}
-use Rattle.values.specs.Ticking.{FaultOr}
-use Rattle.operations.specs.Arguments.{given}
-use Rattle.targets.specs.RuleCalls.{fits}
-use Rattle.targets.specs.declared.attributes.Rule.{Rule}
-use Rattle.rule_calls.specs.Freezing.{frozen_for}
-use Rattle.rule_calls.proofs.Steps.{declares-ok, declares-fault}
+use Rattle.std.proofs.Common.{subst}
+use Rattle.operations.specs.Arguments.{Given}
+use Rattle.operations.specs.States.{Does}
+use Rattle.targets.specs.RuleCalls.{declares}
 use Rattle.rule_calls.proofs.calling.declare_target.Goals as goal
 
-pub returns-in-Ok-freeze_given : goal.returns-in-Ok-freeze_given
-returns-in-Ok-freeze_given c =
-    let d = c.args.declared.now in let r = c.args.rule.now in let g = given c.args.arguments.now in let s = c.args.state.now in
-    let attributes : c.as_slice-attributes.result.now ≡ r.attributes = c.as_slice-attributes.ensures ∙ ap (λ (x : Rule). x.attributes) c.get-2.ensures in
-    let fit : fits r g ≡ true = ap (λ (x : Rule). fits x g) (sym c.get.ensures) ∙ sym c.fits.ensures ∙ c.if-not-fits.false in
-    declares-ok d r g s c.in-Ok.target c.freeze_given.new.ticks fit c.in-Ok.ensures
-    (ap (λ x. frozen_for x g s.heap s.ticks) (sym attributes) ∙ c.in-Ok-freeze_given.ensures)
-
-pub returns-in-Err-freeze_given : goal.returns-in-Err-freeze_given
-returns-in-Err-freeze_given c =
-    let d = c.args.declared.now in let r = c.args.rule.now in let g = given c.args.arguments.now in let s = c.args.state.now in
-    let attributes : c.as_slice-attributes.result.now ≡ r.attributes = c.as_slice-attributes.ensures ∙ ap (λ (x : Rule). x.attributes) c.get-2.ensures in
-    let fit : fits r g ≡ true = ap (λ (x : Rule). fits x g) (sym c.get.ensures) ∙ sym c.fits.ensures ∙ c.if-not-fits.false in (
-      (refl, refl),
-      declares-fault d r g s c.in-Ok.target c.in-Err-freeze_given.broken fit c.in-Ok.ensures
-          (subst (λ x. FaultOr (frozen_for x g s.heap s.ticks) c.in-Err-freeze_given.broken) attributes c.in-Err-freeze_given.ensures),
-    )
+pub returns : goal.returns
+returns c =
+    let d = c.args.declared.now in
+    subst (λ (g : Given). Does (declares d.«package» d.targets c.args.rule.now g) c.args.state.now c.declare_by_name.result c.declare_by_name.new.state) c.in_ok-given.ensures c.declare_by_name.ensures

@@ -13,9 +13,9 @@ use Rattle.rule_calls.proofs.repeats.repeats.Goals as goal
 pub returns-then-not-is_new : goal.returns-then-not-is_new
 returns-then-not-is_new c =
     let ls = c.args.labels.now in let i = c.loop-label.label-index in let d = c.label-item.result in
-    let k : Parts = (c.package.result, c.name.result) in
+    let k : Parts = (c.name.result, c.package.result) in
     let is : parts_label k ≡ get_or ls i d =
-    parts_are k c.get.result.now c.get-in-loop-label.result.now (get_or ls i d) c.package.ensures c.name.ensures (c.get.ensures ∙ c.label-item.is) (c.get-in-loop-label.ensures ∙ c.label-item.is) in
+    parts_are k c.get-in-loop-label.result.now c.get.result.now (get_or ls i d) c.package.ensures c.name.ensures (c.get-in-loop-label.ensures ∙ c.label-item.is) (c.get.ensures ∙ c.label-item.is) in
     let there : list_any (same_label (get_or ls i d)) (take i ls) ≡ true =
     ap (λ (l : LabelParts). list_any (same_label l) (take i ls)) (sym is) ∙ sym (c.loop-label.invariant.noted k) ∙ not-false _ (sym c.in_ok-is_new.ensures.added ∙ c.if-not-is_new.true) in
     sym (repeats-whole ls (i + 1) (repeats-more ls i d c.loop-label-test.true ∙ or_right (repeats (take i ls)) (list_any (same_label (get_or ls i d)) (take i ls)) there))
@@ -23,9 +23,9 @@ returns-then-not-is_new c =
 pub loop-label-preserved : goal.loop-label-preserved
 loop-label-preserved c =
     let ls = c.args.labels.now in let i = c.loop-label.label-index in let d = c.label-item.result in
-    let k : Parts = (c.package.result, c.name.result) in
+    let k : Parts = (c.name.result, c.package.result) in
     let is : parts_label k ≡ get_or ls i d =
-    parts_are k c.get.result.now c.get-in-loop-label.result.now (get_or ls i d) c.package.ensures c.name.ensures (c.get.ensures ∙ c.label-item.is) (c.get-in-loop-label.ensures ∙ c.label-item.is) in
+    parts_are k c.get-in-loop-label.result.now c.get.result.now (get_or ls i d) c.package.ensures c.name.ensures (c.get-in-loop-label.ensures ∙ c.label-item.is) (c.get.ensures ∙ c.label-item.is) in
     let fresh : list_any (same_label (get_or ls i d)) (take i ls) ≡ false =
     ap (λ (l : LabelParts). list_any (same_label l) (take i ls)) (sym is) ∙ sym (c.loop-label.invariant.noted k) ∙ not-true _ (sym c.in_ok-is_new.ensures.added ∙ c.if-not-is_new.false) in
     let whole : take i ls ++ parts_label k ∷ [] ≡ take (i + 1) ls = ap (λ (l : LabelParts). take i ls ++ l ∷ []) is ∙ sym (take_more ls i d c.loop-label-test.true) in

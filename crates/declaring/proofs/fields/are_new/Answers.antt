@@ -5,7 +5,7 @@ use Rattle.std.specs.List.{list_any}
 use Rattle.std.specs.Str.{bytes_eq}
 use Rattle.indexmap.specs.IndexSet.{insert_key}
 use Rattle.declaring.proofs.Distinct.{stands-once, stands-twice}
-use Rattle.declaring.proofs.fields.are_distinct.Goals as goal
+use Rattle.declaring.proofs.fields.are_new.Goals as goal
 
 pub returns-then-not-is_new : goal.returns-then-not-is_new
 returns-then-not-is_new c =

@@ -2,9 +2,9 @@
 ghost use Rattle.std.specs.Prelude.{◌≡◌, [], IfOk};
 ghost use Rattle.targets.specs.Attributes.{default_of, default_of_kind};
 
+use crate::{Attribute, AttributeValue, Sequence};
 use plain::{Shared, Text};
 use std::alloc::{AllocError, Global};
-use targets::{Attribute, AttributeValue, Sequence};
 use values::{AttributeKind, Key, Names};
 
 /// What a target has for an attribute where nothing is given.

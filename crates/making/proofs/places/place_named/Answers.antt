@@ -2,7 +2,7 @@ use Rattle.std.proofs.Common.{◌≡◌, ◌+◌, true, false, if◌then◌else�
 use Rattle.std.specs.Str.{bytes_eq}
 use Rattle.operations.specs.Arguments.{place_from}
 use Rattle.making.proofs.Looks.{place-next}
-use Rattle.making.proofs.instances.place_named.Goals as goal
+use Rattle.making.proofs.places.place_named.Goals as goal
 
 pub returns-then-eq : goal.returns-then-eq
 returns-then-eq c =

@@ -1,0 +1,114 @@
+//! Names by their first places.
+ghost use Rattle.std.specs.Prelude.{◌≡◌, ◌<◌, Some, IfOk, OnOk, length, slice_get};
+ghost use Rattle.operations.specs.Arguments.{place_named};
+ghost use Rattle.making.specs.Places.{ArePlaced, HasFirst};
+
+use plain::Text;
+use std::alloc::{AllocError, Global};
+use std::collections::BTreeMap;
+use std::marker::Model;
+
+/// So many names, at most, are gone through rather than put in order.
+pub(crate) const FEW: usize = 8;
+
+/// Names, each found at its first place: few by going through them, many by order, so that who chooses them can't make this
+/// slow. For few it takes no memory.
+#[derive(Drop)]
+pub struct FirstPlaces<'a> {
+    names: &'a [Text],
+    /// The first place of each, where there are many.
+    places: BTreeMap<&'a str, usize>,
+}
+
+impl<'a> Model for FirstPlaces<'a> {
+    ghost use Rattle.std.specs.Prelude.{ℕ, List, ◌<◌, length};
+    ghost use Rattle.making.specs.Places.{ArePlaced};
+    ghost use Rattle.making.specs.declared.places.TheConstants.{FEW};
+
+    ghost Value = { List (List ℕ) };
+
+    ghost view = { λ p. p.names.now };
+
+    ghost invariant = { λ p. FEW < length p.names.now → ArePlaced p.names.now p.places };
+}
+
+impl<'a> FirstPlaces<'a> {
+    /// These names. Many are put in order, once.
+    pub fn new(alloc: Global, names: &'a [Text]) -> Result<FirstPlaces<'a>, AllocError>
+        ensures { IfOk result (λ p. p ≡ names.now) }
+    {
+        let places = places_of_many(alloc, names)?;
+        Ok(FirstPlaces { names, places })
+    }
+
+    /// The first place of a name, if it is among them.
+    pub fn get(&self, name: &str) -> Option<usize>
+        ensures { result ≡ place_named name.now self.now }
+    {
+        if self.names.len() <= FEW {
+            return place_named(name, self.names);
+        }
+        match self.places.get(name) {
+            Some(place) => Some(*place),
+            None => None,
+        }
+    }
+}
+
+/// The first place of each name, where there are many; else nothing.
+fn places_of_many<'a>(
+    alloc: Global,
+    names: &'a [Text],
+) -> Result<BTreeMap<&'a str, usize>, AllocError>
+    ensures { IfOk result (λ places. FEW < length names.now → ArePlaced names.now places) }
+{
+    if names.len() <= FEW {
+        return Ok(BTreeMap::new(alloc));
+    }
+    places(alloc, names)
+}
+
+/// The first place of each name.
+fn places<'a>(alloc: Global, names: &'a [Text]) -> Result<BTreeMap<&'a str, usize>, AllocError>
+    ensures { IfOk result (λ places. ArePlaced names.now places) }
+{
+    let mut places = BTreeMap::new(alloc);
+    let mut place = names.len();
+    while place > 0 {
+        place -= 1;
+        put(name_at(names, place), place, &mut places)?;
+    }
+    Ok(places)
+}
+
+/// Puts the place of a name, in place of a later one.
+fn put<'a>(
+    name: &'a Text,
+    place: usize,
+    places: &mut BTreeMap<&'a str, usize>,
+) -> Result<(), AllocError>
+    ensures { OnOk result (HasFirst name.now place places.old places.new) }
+{
+    places.insert(name.as_str(), place)?;
+    Ok(())
+}
+
+/// The first place of a name among names, by going through them.
+pub(crate) fn place_named(name: &str, names: &[Text]) -> Option<usize>
+    ensures { result ≡ place_named name.now names.now }
+{
+    for place in 0..names.len() {
+        if name == name_at(names, place).as_str() {
+            return Some(place);
+        }
+    }
+    None
+}
+
+/// The name at a place.
+pub(crate) fn name_at(names: &[Text], place: usize) -> &Text
+    requires { place < length names.now }
+    ensures { slice_get names.now place ≡ Some result.now }
+{
+    &names[place]
+}
