@@ -1,5 +1,5 @@
 //! Actions: what a target registers, to be executed once analysis is over.
-ghost use Rattle.std.specs.Prelude.{◌≡◌, ◌++◌, ◌∷◌, [], length, OnOk, OnErr};
+ghost use Rattle.std.specs.Prelude.{◌≡◌, ◌++◌, ◌∷◌, [], length, IfOk, OnOk, OnErr};
 
 use depsets::{Depset, FileRef};
 use plain::{Shared, Text};
@@ -56,6 +56,14 @@ impl Files {
         Files {
             items: Vec::new(alloc),
         }
+    }
+
+    /// No Files, with memory for so many.
+    pub fn with_capacity(alloc: Global, count: usize) -> Result<Files, AllocError>
+        ensures { IfOk result (λ f. f ≡ []) }
+    {
+        let items = Vec::with_capacity(alloc, count)?;
+        Ok(Files { items })
     }
 
     /// Puts a File last. After a refusal of memory they are as they were.

@@ -18,7 +18,7 @@ use Rattle.analysis.proofs.Notes.{at_label}
 
 -- what a map has depends on package and name alone
 abbrev by_parts : BTreeMap Parts Dependency → LabelParts → Option Dependency
-by_parts m l = get_by (λ (p : Parts). ordering_then (slice_cmp nat_cmp l.«package» p.0.now) (slice_cmp nat_cmp l.name p.1.now)) m
+by_parts m l = get_by (λ (p : Parts). ordering_then (slice_cmp nat_cmp l.name p.0.now) (slice_cmp nat_cmp l.«package» p.1.now)) m
 
 same_found : (m : BTreeMap Parts Dependency) (q k : Parts) → same_label (parts_label q) (parts_label k) ≡ true → get parts_cmp m q ≡ get parts_cmp m k
 same_found m q k h = ap (by_parts m) (same_label-same (parts_label q) (parts_label k) h)

@@ -3,3 +3,4 @@ pub mod Finding
 pub mod Making
 pub mod Returning
 pub mod Lists
+pub mod Unrefused

@@ -21,11 +21,18 @@ both_at Less b = refl
 both_at Equal b = refl
 both_at Greater b = refl
 
--- the order of package and name tells labels as their test does
+swapped : (a b : Bool) → (a && b) ≡ (b && a)
+swapped true true = refl
+swapped true false = refl
+swapped false true = refl
+swapped false false = refl
+
+-- the order of name and package tells labels as their test does
 pub at_label : (k q : Parts) → is_at (parts_cmp k) q ≡ same_label (parts_label q) (parts_label k)
 at_label k q =
     both_at (slice_cmp nat_cmp k.0.now q.0.now) (slice_cmp nat_cmp k.1.now q.1.now)
     ∙ (λ i. at k.0.now q.0.now i && at k.1.now q.1.now i)
+    ∙ swapped (bytes_eq q.0.now k.0.now) (bytes_eq q.1.now k.1.now)
   where
     at : (x y : List ℕ) → is_at (slice_cmp nat_cmp x) y ≡ bytes_eq y x
     at x y = sym (texts_ties x y) ∙ nat_list_eq_equiv.symm x y
@@ -45,7 +52,7 @@ noted_last ls olds news k h more = λ q.
     ∙ sym (list_any-append (same_label (parts_label q)) ls (parts_label k ∷ []))
 
 -- package and name of a label are its parts
-pub parts_are : (k : Parts) (a b l : LabelParts) → k.0.now ≡ a.«package» → k.1.now ≡ b.name → a ≡ l → b ≡ l → parts_label k ≡ l
+pub parts_are : (k : Parts) (a b l : LabelParts) → k.1.now ≡ a.«package» → k.0.now ≡ b.name → a ≡ l → b ≡ l → parts_label k ≡ l
 parts_are k a b l p n x y = λ i. record { «package» = (p ∙ ap (λ (m : LabelParts). m.«package») x) i; name = (n ∙ ap (λ (m : LabelParts). m.name) y) i }
 
 -- a label that is there isn't put again

@@ -18,7 +18,7 @@ use Rattle.values.specs.declared.leaf.Provider.{Provider}
 use Rattle.targets.specs.Checks.{provider_of, is_of, offers}
 use Rattle.targets.specs.Steps.{is_new_instance, are_instances}
 use Rattle.targets.proofs.Facts.{cases_of, both, neither}
-use Rattle.analysis.specs.Returned.{numbers, made_numbers, numbers_cmp, AreReturned}
+use Rattle.analysis.specs.Returned.{numbers, made_numbers, numbers_cmp, HaveNumbers, AreReturned}
 
 -- ---- the test of providers
 
@@ -113,22 +113,36 @@ numbers_at p r = pair_at (numbers p) (numbers r) ∙ of p.id r.id
     of (Some a) None = ap (λ t. t && nat_eq 0 a.number) (none_not a.«module»)
     of (Some a) (Some b) = ap (λ t. t && nat_eq b.number a.number) (one_more b.«module» a.«module»)
 
-pub returned_none : (seen : BTreeSet (ℕ × ℕ)) → seen.keys ≡ [] → AreReturned [] seen
-returned_none seen none = record { instances = refl; numbered = λ p. ap (list_any (is_at (numbers_cmp (numbers p)))) none }
-
 either : (s a : Bool) → cond s true a ≡ (a || (s || false))
 either true true = refl
 either true false = refl
 either false true = refl
 either false false = refl
 
+pub numbered_none : (seen : BTreeSet (ℕ × ℕ)) → seen.keys ≡ [] → HaveNumbers [] seen
+numbered_none seen none = λ p. ap (list_any (is_at (numbers_cmp (numbers p)))) none
+
+pub numbered_last : (ts : List FrozenTree) (olds news : BTreeSet (ℕ × ℕ)) (t : FrozenTree) (p : Provider) → provider_of t ≡ Some p → HaveNumbers ts olds
+    → Updates numbers_cmp olds news (numbers p) true → HaveNumbers (ts ++ t ∷ []) news
+numbered_last ts olds news t p is h more = λ r.
+    more.0 (numbers r) ∙ (λ i. cond (numbers_at p r i) true (h r i)) ∙ either (same_provider r p) (offers ts r) ∙ sym (offers_last ts t p r is)
+
+pub numbered_still : (ts : List FrozenTree) (seen : BTreeSet (ℕ × ℕ)) (t : FrozenTree) → provider_of t ≡ None → HaveNumbers ts seen → HaveNumbers (ts ++ t ∷ []) seen
+numbered_still ts seen t is h = λ r.
+    h r ∙ or_false (offers ts r) ∙ sym (list_any-append (λ x. is_of r (provider_of x)) ts (t ∷ []) ∙ ap (λ o. offers ts r || (is_of r o || false)) is)
+  where
+    or_false : (a : Bool) → a ≡ (a || false)
+    or_false true = refl
+    or_false false = refl
+
+pub returned_none : (seen : BTreeSet (ℕ × ℕ)) → seen.keys ≡ [] → AreReturned [] seen
+returned_none seen none = record { instances = refl; numbered = numbered_none seen none }
+
 pub returned_last : (ts : List FrozenTree) (olds news : BTreeSet (ℕ × ℕ)) (t : FrozenTree) (p : Provider) → provider_of t ≡ Some p → AreReturned ts olds
     → contains numbers_cmp olds (numbers p) ≡ false → Updates numbers_cmp olds news (numbers p) true → AreReturned (ts ++ t ∷ []) news
 returned_last ts olds news t p is h fresh more = record {
   instances = new_last ts t p is h.instances (sym (h.numbered p) ∙ fresh);
-  numbered = λ r.
-      more.0 (numbers r) ∙ (λ i. cond (numbers_at p r i) true (h.numbered r i)) ∙ either (same_provider r p) (offers ts r)
-      ∙ sym (offers_last ts t p r is);
+  numbered = numbered_last ts olds news t p is h.numbered more;
 }
 
 pub returned_again : (ts us : List FrozenTree) (olds : BTreeSet (ℕ × ℕ)) (t : FrozenTree) (p : Provider) → provider_of t ≡ Some p → AreReturned ts olds

@@ -2,3 +2,4 @@ pub mod Noted
 pub mod Seen
 pub mod Made
 pub mod Returned
+pub mod Unasked

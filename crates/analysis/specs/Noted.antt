@@ -9,14 +9,14 @@ use Rattle.std.specs.declared.cmp.Ordering.{Ordering}
 use Rattle.workspace.specs.Labels.{LabelParts}
 use Rattle.targets.specs.RuleCalls.{same_label}
 
--- a label's package and name, where they lie
+-- a label's name and package, where they lie: in one package labels differ by the first alone
 abbrev pub Parts : Type 0
 Parts = Bor (List ℕ) × Bor (List ℕ)
 
 abbrev pub parts_label : Parts → LabelParts
-parts_label p = record { «package» = p.0.now; name = p.1.now }
+parts_label p = record { «package» = p.1.now; name = p.0.now }
 
--- by package, and then by name
+-- by name, and then by package
 abbrev pub parts_cmp : Parts → Parts → Ordering
 parts_cmp p q = ordering_then (slice_cmp nat_cmp p.0.now q.0.now) (slice_cmp nat_cmp p.1.now q.1.now)
 

@@ -20,6 +20,10 @@ numbers p = made_numbers p.id
 abbrev pub numbers_cmp : ℕ × ℕ → ℕ × ℕ → Ordering
 numbers_cmp a b = ordering_then (nat_cmp a.0 b.0) (nat_cmp a.1 b.1)
 
+-- the set has just the numbers of the providers that these are instances of
+abbrev pub HaveNumbers : List FrozenTree → BTreeSet (ℕ × ℕ) → Type 0
+HaveNumbers ts seen = (p : Provider) → contains numbers_cmp seen (numbers p) ≡ offers ts p
+
 -- values that are instances of different providers, and the set has just their providers' numbers
 pub record AreReturned (ts : List FrozenTree) (seen : BTreeSet (ℕ × ℕ)) : Type 0 where
   pub instances : are_instances ts ≡ true

@@ -3,6 +3,7 @@ ghost use Rattle.std.specs.Prelude.{◌≡◌, IfOk, OnOk, option_map, nat_eq};
 ghost use Rattle.std.specs.List.{ends_with};
 ghost use Rattle.targets.specs.Checks.{takes_file, refusal, refused, dependency_of, first_in_value, first_refused};
 ghost use Rattle.targets.specs.Attributes.{labels_in};
+ghost use Rattle.analysis.specs.Unasked.{takes_targets, take_targets, is_no_source, are_no_sources};
 ghost use Rattle.analysis.specs.Seen.{dependency_seen, dependencies_seen, AreFound, HasMore};
 
 use crate::dependency::Dependency;
@@ -15,7 +16,7 @@ use targets::{
 };
 use workspace::Label;
 
-/// Package and name of a label, by which it is found.
+/// Name and package of a label, by which it is found.
 type Parts<'a> = (&'a str, &'a str);
 
 /// Whether a path ends with a text.
@@ -50,6 +51,7 @@ fn takes_file(allowed: &AllowFiles, path: &str) -> bool
 
 /// Why an attribute refuses a dependency, if it does.
 fn refusal(
+    alloc: Global,
     named: &NamedAttribute,
     dependency: &Dependency<'_>,
 ) -> Result<Option<TargetFault>, AllocError>
@@ -65,7 +67,7 @@ fn refusal(
             Ok(Some(TargetFault::FileKind(name, dependency.label.share()?)))
         }
         Outcome::Done(providers, _) => {
-            if offers_enough(providers.as_slice(), attribute.providers.as_slice()) {
+            if offers_enough(alloc, providers.as_slice(), attribute.providers.as_slice())? {
                 return Ok(None);
             }
             let name = named.name.share()?;
@@ -103,7 +105,7 @@ impl<'a> Found<'a> {
         ensures { option_map (λ d. dependency_seen d.now) result
             ≡ dependency_of (dependencies_seen self.now.dependencies.now) label.now }
     {
-        self.by_label.get(&(label.package(), label.name()))
+        self.by_label.get(&(label.name(), label.package()))
     }
 }
 
@@ -129,7 +131,7 @@ fn put<'a>(
     ensures { OnOk result (HasMore dependency.entry found.old found.new) }
 {
     let label = dependency.label.get();
-    let parts = (label.package(), label.name());
+    let parts = (label.name(), label.package());
     if !found.contains_key(&parts) {
         found.insert(parts, dependency)?;
     }
@@ -138,6 +140,7 @@ fn put<'a>(
 
 /// Why an attribute refuses the dependency of a label, if it does.
 fn refused<'a>(
+    alloc: Global,
     named: &NamedAttribute,
     label: &'a Label,
     found: &Found<'a>,
@@ -147,13 +150,14 @@ fn refused<'a>(
         (dependency_of (dependencies_seen found.now.dependencies.now) label.now)) }
 {
     match found.get(label) {
-        Some(dependency) => refusal(named, dependency),
+        Some(dependency) => refusal(alloc, named, dependency),
         None => Ok(None),
     }
 }
 
 /// The first refusal of labels.
 fn first_in_labels<'a>(
+    alloc: Global,
     named: &NamedAttribute,
     labels: &'a [Shared<Label>],
     found: &Found<'a>,
@@ -163,7 +167,7 @@ fn first_in_labels<'a>(
         ≡ first_in_value (dependencies_seen found.now.dependencies.now) named.now labels.now) }
 {
     for label in labels {
-        let fault = refused(named, label.get(), found)?;
+        let fault = refused(alloc, named, label.get(), found)?;
         if fault.is_some() {
             return Ok(fault);
         }
@@ -173,6 +177,7 @@ fn first_in_labels<'a>(
 
 /// The first refusal of a value's labels.
 fn first_in_value<'a>(
+    alloc: Global,
     named: &NamedAttribute,
     value: &'a AttributeValue,
     found: &Found<'a>,
@@ -185,13 +190,19 @@ fn first_in_value<'a>(
         AttributeValue::Key(_) => Ok(None),
         AttributeValue::Strings(_) => Ok(None),
         AttributeValue::Label(None) => Ok(None),
-        AttributeValue::Label(Some(label)) => refused(named, label.get(), found),
-        AttributeValue::Labels(labels) => first_in_labels(named, labels.get().as_slice(), found),
+        AttributeValue::Label(Some(label)) => refused(alloc, named, label.get(), found),
+        AttributeValue::Labels(labels) => first_in_labels(
+            alloc,
+            named,
+            labels.get().as_slice(),
+            found,
+        ),
     }
 }
 
 /// The first refusal of the labels of values, each of the attribute at its place.
 fn first_in_values<'a>(
+    alloc: Global,
     attributes: &[NamedAttribute],
     values: &'a [AttributeValue],
     found: &Found<'a>,
@@ -202,7 +213,7 @@ fn first_in_values<'a>(
 {
     for (place, named) in attributes.iter().enumerate() {
         let fault = match values.get(place) {
-            Some(value) => first_in_value(named, value, found)?,
+            Some(value) => first_in_value(alloc, named, value, found)?,
             None => return Ok(None),
         };
         if fault.is_some() {
@@ -212,7 +223,48 @@ fn first_in_values<'a>(
     Ok(None)
 }
 
+/// Whether none of the attributes asks anything of targets.
+fn take_targets(attributes: &[NamedAttribute]) -> bool
+    ensures { result ≡ take_targets attributes.now }
+{
+    for named in attributes {
+        if !takes_targets(named) {
+            return false;
+        }
+    }
+    true
+}
+
+fn takes_targets(named: &NamedAttribute) -> bool
+    ensures { result ≡ takes_targets named.now }
+{
+    named.attribute.get().providers.len() == 0
+}
+
+/// Whether none of the dependencies is a source file.
+fn are_no_sources(dependencies: &[Dependency<'_>]) -> bool
+    ensures { result ≡ are_no_sources (dependencies_seen dependencies.now) }
+{
+    for dependency in dependencies {
+        if !is_no_source(dependency.outcome) {
+            return false;
+        }
+    }
+    true
+}
+
+fn is_no_source(outcome: &Outcome) -> bool
+    ensures { result ≡ is_no_source outcome.now }
+{
+    match outcome {
+        Outcome::Source(_) => false,
+        Outcome::Done(_, _) => true,
+        Outcome::Failed(_) => true,
+    }
+}
+
 /// Why a target's attributes refuse one of its dependencies: the first, by attribute and then by value.
+#[tactic(auto, using(crate::proofs::Unrefused::none_in_all))]
 pub fn first_refused<'a>(
     alloc: Global,
     target: &'a Target,
@@ -221,7 +273,10 @@ pub fn first_refused<'a>(
     ensures { IfOk result (λ f. f ≡ first_refused (dependencies_seen dependencies.now)
         target.now.rule.attributes target.now.values) }
 {
-    let found = Found::new(alloc, dependencies)?;
     let attributes = target.rule.get().attributes.as_slice();
-    first_in_values(attributes, target.values.as_slice(), &found)
+    if take_targets(attributes) && are_no_sources(dependencies) {
+        return Ok(None);
+    }
+    let found = Found::new(alloc, dependencies)?;
+    first_in_values(alloc, attributes, target.values.as_slice(), &found)
 }

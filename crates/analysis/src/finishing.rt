@@ -145,10 +145,20 @@ fn with_default_info(
     requires { info.now ≡ default_info }
     ensures { IfOk result (λ ps. ps ≡ with_default_info label.now instances.now) }
 {
-    let mut providers = Providers::new(alloc);
-    if !offers(instances, info.get()) {
-        providers.push(missing_default_info(alloc, label, info)?)?;
+    if offers(instances, info.get()) {
+        return shared(alloc, instances);
     }
+    let mut providers = Providers::with_capacity(alloc, instances.len().saturating_add(1))?;
+    providers.push(missing_default_info(alloc, label, info)?)?;
+    put_all(instances, &mut providers)?;
+    Ok(providers)
+}
+
+/// Other names of instances, in no more memory than they take.
+fn shared(alloc: Global, instances: &[Frozen]) -> Result<Providers, AllocError>
+    ensures { IfOk result (λ ps. ps ≡ instances.now) }
+{
+    let mut providers = Providers::with_capacity(alloc, instances.len())?;
     put_all(instances, &mut providers)?;
     Ok(providers)
 }
@@ -173,7 +183,7 @@ fn missing_default_info(
     ensures { IfOk result (λ f. f ≡ missing_default_info label.now) }
 {
     let files = no_files(alloc, label)?;
-    let mut fields = Vec::new(alloc);
+    let mut fields = Vec::with_capacity(alloc, 1)?;
     fields.push(Some(Frozen::of_leaf(Leaf::Depset(files))))?;
     let instance = Branch::instance(alloc, info.share()?, fields)?;
     Ok(Frozen::of_branch(instance))

@@ -1,9 +1,11 @@
 //! Instances of providers.
-ghost use Rattle.std.specs.Prelude.{◌≡◌, option_copied};
+ghost use Rattle.std.specs.Prelude.{◌≡◌, IfOk, option_copied};
 ghost use Rattle.std.specs.List.{list_any};
 ghost use Rattle.targets.specs.Checks.{provider_of, branch_provider, is_of, offers, offers_all, offers_enough};
 
+use crate::offered::Offered;
 use plain::Shared;
+use std::alloc::{AllocError, Global};
 use targets::Sequence;
 use values::{Branch, Frozen, Held, Node, Provider};
 
@@ -52,11 +54,11 @@ pub fn offers(values: &[Frozen], provider: &Provider) -> bool
 }
 
 /// Whether the values have an instance of each of the providers.
-fn offers_all(values: &[Frozen], providers: &[Shared<Provider>]) -> bool
+fn offers_all(values: &Offered<'_>, providers: &[Shared<Provider>]) -> bool
     ensures { result ≡ offers_all values.now providers.now }
 {
     for provider in providers {
-        if !offers(values, provider.get()) {
+        if !values.has(provider.get()) {
             return false;
         }
     }
@@ -64,7 +66,7 @@ fn offers_all(values: &[Frozen], providers: &[Shared<Provider>]) -> bool
 }
 
 /// Whether the values have an instance of each of one of the lists.
-fn offers_one_of(values: &[Frozen], lists: &[Sequence<Shared<Provider>>]) -> bool
+fn offers_one_of(values: &Offered<'_>, lists: &[Sequence<Shared<Provider>>]) -> bool
     ensures { result ≡ list_any (offers_all values.now) lists.now }
 {
     for list in lists {
@@ -76,8 +78,16 @@ fn offers_one_of(values: &[Frozen], lists: &[Sequence<Shared<Provider>>]) -> boo
 }
 
 /// The same, or there is no list.
-pub(crate) fn offers_enough(values: &[Frozen], lists: &[Sequence<Shared<Provider>>]) -> bool
-    ensures { result ≡ offers_enough values.now lists.now }
+pub(crate) fn offers_enough(
+    alloc: Global,
+    values: &[Frozen],
+    lists: &[Sequence<Shared<Provider>>],
+) -> Result<bool, AllocError>
+    ensures { IfOk result (λ b. b ≡ offers_enough values.now lists.now) }
 {
-    lists.is_empty() || offers_one_of(values, lists)
+    if lists.is_empty() {
+        return Ok(true);
+    }
+    let values = Offered::new(alloc, values)?;
+    Ok(offers_one_of(&values, lists))
 }

@@ -9,6 +9,7 @@ mod dependency;
 mod finishing;
 mod instances;
 mod noted;
+mod offered;
 mod outputs;
 mod returned;
 

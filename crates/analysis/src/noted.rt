@@ -12,7 +12,7 @@ use std::collections::BTreeSet;
 use targets::{AttributeValue, Sequence, Target};
 use workspace::Label;
 
-/// Package and name of a label, by which it is found.
+/// Name and package of a label, by which it is found: in one package the first alone is looked at.
 type Parts<'a> = (&'a str, &'a str);
 
 /// The dependencies of a target: the labels that it has for its attributes, in order, each at its first place alone.
@@ -75,7 +75,7 @@ fn note<'a>(
     ensures labels { OnOk result (labels.new ≡ keep same_label labels.old label.now) }
     ensures noted { OnOk result (IsNoted labels.new seen.new) }
 {
-    let is_new = seen.insert((label.get().package(), label.get().name()))?;
+    let is_new = seen.insert((label.get().name(), label.get().package()))?;
     if is_new {
         labels.push(label.share()?)?;
     }

@@ -10,7 +10,7 @@ use std::collections::BTreeSet;
 use values::{Frozen, MadeId, Provider};
 
 /// The numbers by which a provider is told from others.
-fn numbers(provider: &Provider) -> (u64, u64)
+pub(crate) fn numbers(provider: &Provider) -> (u64, u64)
     ensures { result ≡ numbers provider.now }
 {
     match provider.id {
@@ -29,6 +29,17 @@ fn made_numbers(id: MadeId) -> (u64, u64)
 ///
 /// Providers are found by order, so who returns many can't make this slow.
 pub(crate) fn are_instances(alloc: Global, values: &[Frozen]) -> Result<bool, AllocError>
+    ensures { IfOk result (λ b. b ≡ are_instances values.now) }
+{
+    match values {
+        [] => Ok(true),
+        [value] => Ok(provider_of(value).is_some()),
+        _ => are_different(alloc, values),
+    }
+}
+
+/// The same, of any number of values.
+fn are_different(alloc: Global, values: &[Frozen]) -> Result<bool, AllocError>
     ensures { IfOk result (λ b. b ≡ are_instances values.now) }
 {
     let mut seen = BTreeSet::new(alloc);

@@ -16,6 +16,7 @@ use operations::Arguments;
 use places::Place;
 use plain::{Shared, Text};
 use std::alloc::{AllocError, Global};
+use target_actions::Mnemonics;
 use target_fields::{Dependencies, field, item, offers};
 use targets::Target;
 use values::{Broken, Item, Kind, Leaf, Object, Provider, Value};
@@ -28,6 +29,7 @@ pub struct ImplementationPlace<'a> {
     pub label: &'a Label,
     pub target: &'a Target,
     pub dependencies: Dependencies<'a>,
+    pub mnemonics: &'a Mnemonics,
 }
 
 impl<'a> ImplementationPlace<'a> {
@@ -38,6 +40,7 @@ impl<'a> ImplementationPlace<'a> {
         target: &'a Target,
         dependencies: &'a [Dependency<'a>],
         info: &'a Shared<Provider>,
+        mnemonics: &'a Mnemonics,
     ) -> Result<ImplementationPlace<'a>, AllocError>
         requires { info.now ≡ default_info }
         ensures label { IfOk result (λ p. p.label.now ≡ label.now) }
@@ -50,6 +53,7 @@ impl<'a> ImplementationPlace<'a> {
             label,
             target,
             dependencies,
+            mnemonics,
         })
     }
 }
@@ -83,19 +87,28 @@ impl<'a> Place for ImplementationPlace<'a> {
         name: &Text,
         arguments: &Arguments<'_, '_>,
     ) -> Result<Value, Broken> {
-        call_method(alloc, self.label, whole, owner, name, arguments)
+        call_method(
+            alloc,
+            self.label,
+            self.mnemonics,
+            whole,
+            owner,
+            name,
+            arguments,
+        )
     }
 
     fn field(
         &self,
         alloc: Global,
-        _whole: &Whole<Work>,
+        whole: &Whole<Work>,
         owner: &Leaf,
         name: &Text,
     ) -> Result<Value, Broken> {
         field(
             alloc,
             self.label,
+            &whole.state.owner,
             self.target,
             &self.dependencies,
             owner,
@@ -133,6 +146,7 @@ impl<'a> Place for ImplementationPlace<'a> {
 fn call_method(
     alloc: Global,
     label: &Label,
+    mnemonics: &Mnemonics,
     whole: &mut Whole<Work>,
     owner: &Leaf,
     name: &Text,
@@ -147,6 +161,7 @@ fn call_method(
             call_action(
                 alloc,
                 label,
+                mnemonics,
                 whole,
                 ActionMethod::named(name.as_str()),
                 arguments,
@@ -160,6 +175,7 @@ fn call_method(
 fn call_action(
     alloc: Global,
     label: &Label,
+    mnemonics: &Mnemonics,
     whole: &mut Whole<Work>,
     method: Option<ActionMethod>,
     arguments: &Arguments<'_, '_>,
@@ -169,6 +185,15 @@ fn call_action(
     let Some(method) = method else {
         return Err(Broken::Kind(Kind::Name));
     };
-    let heap = &whole.state.heap;
-    target_actions::call_method(alloc, label, method, heap, arguments, &mut whole.work)
+    let state = &whole.state;
+    target_actions::call_method(
+        alloc,
+        label,
+        &state.owner,
+        mnemonics,
+        method,
+        &state.heap,
+        arguments,
+        &mut whole.work,
+    )
 }

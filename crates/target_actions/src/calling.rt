@@ -5,16 +5,19 @@ ghost use Rattle.operations.specs.Arguments.{given};
 ghost use Rattle.contexts.specs.Actions.{method_call, declare_file, write, run, run_shell, run_of};
 
 use crate::declaring::declare_file;
+use crate::mnemonics::Mnemonics;
 use crate::programs::Program;
 use crate::registering::write;
 use crate::running::run;
 use contexts::{ActionMethod, Work};
 use operations::Arguments;
+use plain::Text;
 use std::alloc::Global;
 use values::{Broken, Heap, Value};
 use workspace::Label;
 
-/// What a method gives to the implementation of the target of a label, whose work it adds to.
+/// What a method gives to the implementation of the target of a label, whose work it adds to. `owner` may be the label's text:
+/// then the Files share it.
 ///
 /// # Errors
 ///
@@ -22,6 +25,8 @@ use workspace::Label;
 pub fn call_method(
     alloc: Global,
     label: &Label,
+    owner: &Text,
+    mnemonics: &Mnemonics,
     method: ActionMethod,
     heap: &Heap,
     arguments: &Arguments<'_, '_>,
@@ -32,9 +37,9 @@ pub fn call_method(
         (λ e. FaultOr (method_call label.now method heap.now (given arguments.now) work.old) e) }
 {
     match method {
-        ActionMethod::DeclareFile => declare_file(alloc, label, heap, arguments, work),
-        ActionMethod::Write => write(alloc, heap, arguments, work),
-        ActionMethod::Run => run(alloc, Program::Executable, heap, arguments, work),
-        ActionMethod::RunShell => run(alloc, Program::Command, heap, arguments, work),
+        ActionMethod::DeclareFile => declare_file(alloc, label, owner, heap, arguments, work),
+        ActionMethod::Write => write(alloc, mnemonics, heap, arguments, work),
+        ActionMethod::Run => run(alloc, mnemonics, Program::Executable, heap, arguments, work),
+        ActionMethod::RunShell => run(alloc, mnemonics, Program::Command, heap, arguments, work),
     }
 }

@@ -6,7 +6,7 @@ ghost use Rattle.workspace.specs.Labels.{LabelParts, label_path};
 ghost use Rattle.contexts.specs.Actions.{declare_file, declared, below, file_named};
 
 use calls::argument;
-use contexts::Work;
+use contexts::{Work, text_of_label};
 use depsets::FileRef;
 use operations::Arguments;
 use plain::{Shared, Text};
@@ -23,6 +23,7 @@ use workspace::{Label, is_label};
 pub(crate) fn declare_file(
     alloc: Global,
     label: &Label,
+    owner: &Text,
     heap: &Heap,
     arguments: &Arguments<'_, '_>,
     work: &mut Work,
@@ -36,20 +37,26 @@ pub(crate) fn declare_file(
         Err(broken) => return Err(broken),
     };
     match text_of(&heap.see_item(name.item())) {
-        Some(name) => declared(alloc, label, name, work),
+        Some(name) => declared(alloc, label, owner, name, work),
         None => Err(Broken::Kind(Kind::Wrong)),
     }
 }
 
 /// The File of a name, which is declared; or `type` and then `key`.
-fn declared(alloc: Global, label: &Label, name: &Text, work: &mut Work) -> Result<Value, Broken>
+fn declared(
+    alloc: Global,
+    label: &Label,
+    owner: &Text,
+    name: &Text,
+    work: &mut Work,
+) -> Result<Value, Broken>
     ensures { MatchResult result (λ v. declared label.now work.old name.now ≡ Ok (v, work.new))
         (λ e. FaultOr (declared label.now work.old name.now) e) }
 {
     if !is_label(label.package(), name.as_str()) {
         return Err(Broken::Kind(Kind::Wrong));
     }
-    let file = file_named(alloc, label, name)?;
+    let file = file_named(alloc, label, owner, name)?;
     if work.files.has(&file) {
         return Err(Broken::Kind(Kind::Key));
     }
@@ -61,11 +68,16 @@ fn declared(alloc: Global, label: &Label, name: &Text, work: &mut Work) -> Resul
 }
 
 /// The File of a name that the target of a label declares.
-fn file_named(alloc: Global, label: &Label, name: &Text) -> Result<Shared<FileRef>, AllocError>
+fn file_named(
+    alloc: Global,
+    label: &Label,
+    owner: &Text,
+    name: &Text,
+) -> Result<Shared<FileRef>, AllocError>
     ensures { IfOk result (λ f. f ≡ file_named label.now name.now) }
 {
     let path = path_below(alloc, label.package(), name)?;
-    let owner = Text::new(alloc, label.text())?;
+    let owner = text_of_label(alloc, label, owner)?;
     Shared::new(alloc, FileRef { path, owner })
 }
 

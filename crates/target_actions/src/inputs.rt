@@ -11,6 +11,7 @@ ghost use Rattle.contexts.specs.Actions.{inputs_in, shown_inputs, leaf_inputs, w
 ghost use Rattle.operations.specs.Depsets.{all_in};
 ghost use Rattle.operations.specs.Instances.{only_files};
 
+use crate::mnemonics::Mnemonics;
 use crate::parts::{files, put_strings};
 use actions::{Files, Inputs, Words};
 use depsets::{Depset, ElementType};
@@ -105,14 +106,14 @@ pub(crate) fn words_in(
 
 /// The mnemonic of an argument, which may be missing; or `type`.
 pub(crate) fn mnemonic_in(
-    alloc: Global,
+    mnemonics: &Mnemonics,
     heap: &Heap,
     mnemonic: Option<&Operand<'_>>,
 ) -> Result<Text, Broken>
     ensures { Gives (mnemonic_in heap.now (option_copied mnemonic.entry)) result }
 {
     let Some(mnemonic) = mnemonic else {
-        let text = Text::new(alloc, "Action")?;
+        let text = mnemonics.of_run()?;
         return Ok(text);
     };
     let Some(text) = text_of(&heap.see_item(mnemonic.item())) else {

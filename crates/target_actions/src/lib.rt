@@ -6,9 +6,11 @@
 mod calling;
 mod declaring;
 mod inputs;
+mod mnemonics;
 mod parts;
 mod programs;
 mod registering;
 mod running;
 
 pub use calling::call_method;
+pub use mnemonics::Mnemonics;

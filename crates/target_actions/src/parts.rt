@@ -30,7 +30,7 @@ pub(crate) fn files(alloc: Global, heap: &Heap, items: Group<'_>) -> Result<File
         (λ fs. all_in file_in heap.now (group_items items.entry) ≡ Ok fs)
         (λ e. FaultOr (all_in file_in heap.now (group_items items.entry)) e) }
 {
-    let mut files = Files::new(alloc);
+    let mut files = Files::with_capacity(alloc, items.len())?;
     for place in 0..items.len() {
         if let Err(broken) = put_file(&heap.see_item(items.item(place)), &mut files) {
             return Err(broken);

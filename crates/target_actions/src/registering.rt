@@ -9,6 +9,7 @@ ghost use Rattle.contexts.specs.Actions.{registered, write, write_with, written,
 ghost use Rattle.operations.specs.Reading.{string_in};
 ghost use Rattle.values.specs.Shape.{shape};
 
+use crate::mnemonics::Mnemonics;
 use crate::parts::file_of;
 use actions::{Action, Files, Inputs, Words};
 use calls::{Parameter, check_arguments, got};
@@ -79,6 +80,7 @@ fn repeats(alloc: Global, files: &[Shared<FileRef>]) -> Result<bool, AllocError>
 /// `arity`; `type`, where the output is no File or the content no string; then those of [`registered`].
 pub(crate) fn write(
     alloc: Global,
+    mnemonics: &Mnemonics,
     heap: &Heap,
     arguments: &Arguments<'_, '_>,
     work: &mut Work,
@@ -92,7 +94,7 @@ pub(crate) fn write(
         return Err(broken);
     }
     match (got(arguments, 0, "output"), got(arguments, 1, "content")) {
-        (Some(output), Some(content)) => written(alloc, heap, output, content, work),
+        (Some(output), Some(content)) => written(alloc, mnemonics, heap, output, content, work),
         _ => Err(Broken::Kind(Kind::Arity)),
     }
 }
@@ -117,6 +119,7 @@ fn write_parameters() -> [Parameter<'static>; 2]
 /// The action that writes a content to an output.
 fn written(
     alloc: Global,
+    mnemonics: &Mnemonics,
     heap: &Heap,
     output: &Operand<'_>,
     content: &Operand<'_>,
@@ -132,20 +135,25 @@ fn written(
     let content = heap.see_item(content.item());
     match (file_of(&output), text_of(&content)) {
         (Some(file), Some(text)) => {
-            let action = file_write(alloc, file, text)?;
+            let action = file_write(alloc, mnemonics, file, text)?;
             registered(alloc, action, work)
         }
         _ => Err(Broken::Kind(Kind::Wrong)),
     }
 }
 
-fn file_write(alloc: Global, file: &Shared<FileRef>, content: &Text) -> Result<Action, AllocError>
+fn file_write(
+    alloc: Global,
+    mnemonics: &Mnemonics,
+    file: &Shared<FileRef>,
+    content: &Text,
+) -> Result<Action, AllocError>
     ensures { IfOk result (λ a. a ≡ file_write file.now content.now) }
 {
-    let mut outputs = Files::new(alloc);
+    let mut outputs = Files::with_capacity(alloc, 1)?;
     outputs.push(file.share()?)?;
     Ok(Action {
-        mnemonic: Text::new(alloc, "FileWrite")?,
+        mnemonic: mnemonics.of_write()?,
         outputs,
         inputs: Inputs::Files(Files::new(alloc)),
         words: Words::new(alloc),

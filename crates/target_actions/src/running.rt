@@ -11,6 +11,7 @@ ghost use Rattle.contexts.specs.Actions.{run_of, run_with, run_parameters, some_
 ghost use Rattle.target_actions.specs.Programs.{parameter, program_in, given_parts};
 
 use crate::inputs::{inputs_in, mnemonic_in, words_in};
+use crate::mnemonics::Mnemonics;
 use crate::parts::files;
 use crate::programs::Program;
 use crate::registering::registered;
@@ -32,6 +33,7 @@ use values::{Broken, Group, Heap, Kind, Seen, Value};
 /// `arity`, also where there are no outputs; `type`; then those of [`registered`].
 pub(crate) fn run(
     alloc: Global,
+    mnemonics: &Mnemonics,
     program: Program,
     heap: &Heap,
     arguments: &Arguments<'_, '_>,
@@ -52,7 +54,9 @@ pub(crate) fn run(
         got(arguments, 1, program.parameter()),
     ) {
         (Some(outputs), Some(word)) => {
-            run_word(alloc, program, heap, outputs, word, arguments, work)
+            run_word(
+                alloc, mnemonics, program, heap, outputs, word, arguments, work,
+            )
         }
         _ => Err(Broken::Kind(Kind::Arity)),
     }
@@ -61,6 +65,7 @@ pub(crate) fn run(
 /// Registers the action of outputs, of a word, and of what else a call is given.
 fn run_word(
     alloc: Global,
+    mnemonics: &Mnemonics,
     program: Program,
     heap: &Heap,
     outputs: &Operand<'_>,
@@ -80,6 +85,7 @@ fn run_word(
     };
     match action_for(
         alloc,
+        mnemonics,
         heap,
         outputs,
         program.word(&heap.see_item(word.item())),
@@ -141,6 +147,7 @@ fn if_some(items: Group<'_>) -> Result<Group<'_>, Broken>
 /// The action of outputs, of a word, and of what else a call is given, or `type`.
 fn action_for(
     alloc: Global,
+    mnemonics: &Mnemonics,
     heap: &Heap,
     outputs: Group<'_>,
     word: Option<&Text>,
@@ -154,12 +161,15 @@ fn action_for(
     let inputs = got(arguments, 2, "inputs");
     let strings = got(arguments, 3, "arguments");
     let mnemonic = got(arguments, 4, "mnemonic");
-    action_of(alloc, heap, outputs, word, inputs, strings, mnemonic)
+    action_of(
+        alloc, mnemonics, heap, outputs, word, inputs, strings, mnemonic,
+    )
 }
 
 /// The action of these parts, or `type`.
 fn action_of(
     alloc: Global,
+    mnemonics: &Mnemonics,
     heap: &Heap,
     outputs: Group<'_>,
     word: Option<&Text>,
@@ -186,7 +196,7 @@ fn action_of(
         Ok(words) => words,
         Err(broken) => return Err(broken),
     };
-    match mnemonic_in(alloc, heap, mnemonic) {
+    match mnemonic_in(mnemonics, heap, mnemonic) {
         Ok(mnemonic) => Ok(Action {
             mnemonic,
             outputs,

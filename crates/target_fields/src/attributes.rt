@@ -1,44 +1,34 @@
 //! What a target has for its attributes, as values.
 ghost use Rattle.std.specs.Prelude.{◌≡◌, ◌++◌, ◌∷◌, [], IfOk, OnOk, map, option_copied};
 ghost use Rattle.values.specs.Tree.{leaf};
-ghost use Rattle.contexts.specs.Fields.{value_for, value_named, attribute_value, text_tree, target_tree, frozen_list};
+ghost use Rattle.operations.specs.Items.{at_place};
+ghost use Rattle.contexts.specs.Fields.{value_for, attribute_value, text_tree, target_tree, frozen_list};
 
 use crate::dependencies::Dependencies;
 use plain::{Shared, Text};
 use std::alloc::{AllocError, Global};
-use targets::{AttributeValue, NamedAttribute, Target};
+use targets::{AttributeValue, Target};
 use values::{Branch, Frozen, Key, Leaf, Value};
 use workspace::Label;
 
-/// What a target has for the attribute of a name.
+/// What a target has for the attribute of a name. The attribute is found by order.
 pub(crate) fn value_for<'a>(target: &'a Target, name: &Text) -> Option<&'a AttributeValue>
     ensures { option_copied result ≡ value_for target.now name.now }
 {
-    value_named(
-        name,
-        target.rule.get().attributes.as_slice(),
+    value_at(
         target.values.as_slice(),
+        target.rule.get().attributes.place(name),
     )
 }
 
-/// The value at the place of the first attribute of a name.
-fn value_named<'a>(
-    name: &Text,
-    attributes: &[NamedAttribute],
-    values: &'a [AttributeValue],
-) -> Option<&'a AttributeValue>
-    ensures { option_copied result ≡ value_named name.now attributes.now values.now }
+/// The value at a place, if there is one.
+fn value_at<'a>(values: &'a [AttributeValue], place: Option<usize>) -> Option<&'a AttributeValue>
+    ensures { option_copied result ≡ at_place values.now place }
 {
-    for (place, attribute) in attributes.iter().enumerate() {
-        let value = match values.get(place) {
-            Some(value) => value,
-            None => return None,
-        };
-        if *name == attribute.name {
-            return Some(value);
-        }
+    match place {
+        Some(place) => values.get(place),
+        None => None,
     }
-    None
 }
 
 /// What a target has for an attribute, as a value: labels are the targets of the dependencies.

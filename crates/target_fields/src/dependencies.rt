@@ -14,7 +14,7 @@ use std::marker::Model;
 use values::Provider;
 use workspace::Label;
 
-/// Package and name of a label, by which it is found.
+/// Name and package of a label, by which it is found.
 type Parts<'a> = (&'a str, &'a str);
 
 /// The dependencies of a target with their outcomes, each found by its place and by its label; and `DefaultInfo`.
@@ -78,7 +78,7 @@ impl<'a> Dependencies<'a> {
     pub(crate) fn place(&self, label: &'a Label) -> usize
         ensures { result ≡ place_of self.now label.now }
     {
-        match self.places.get(&(label.package(), label.name())) {
+        match self.places.get(&(label.name(), label.package())) {
             Some(place) => *place,
             None => self.all.len(),
         }
@@ -117,6 +117,6 @@ fn put<'a>(
 ) -> Result<(), AllocError>
     ensures { OnOk result (HasFirst label.now place places.old places.new) }
 {
-    places.insert((label.package(), label.name()), place)?;
+    places.insert((label.name(), label.package()), place)?;
     Ok(())
 }

@@ -12,13 +12,15 @@ use crate::dependencies::Dependencies;
 use crate::files::files_of;
 use crate::listings::files;
 use analysis::Dependency;
+use contexts::text_of_label;
 use plain::Text;
 use std::alloc::{AllocError, Global};
 use targets::Target;
 use values::{Broken, Key, Kind, Leaf, Object, Value};
 use workspace::Label;
 
-/// A field of a target or of an object, in the implementation of the target of a label.
+/// A field of a target or of an object, in the implementation of the target of a label. `text` may be the label's: then it is
+/// shared.
 ///
 /// # Errors
 ///
@@ -26,6 +28,7 @@ use workspace::Label;
 pub fn field<'a>(
     alloc: Global,
     label: &Label,
+    text: &Text,
     target: &'a Target,
     dependencies: &Dependencies<'a>,
     owner: &Leaf,
@@ -39,7 +42,7 @@ pub fn field<'a>(
             or_name(value)
         }
         Leaf::Object(Object::Context) => {
-            let value = context_field(alloc, label, name)?;
+            let value = context_field(alloc, label, text, name)?;
             or_name(value)
         }
         Leaf::Object(Object::ContextAttr) => {
@@ -88,6 +91,14 @@ fn label_value(alloc: Global, label: &Label) -> Result<Value, AllocError>
     Ok(Value::Leaf(Leaf::Label(text)))
 }
 
+/// The label of the target that is analysed, as a value.
+fn own_label(alloc: Global, label: &Label, text: &Text) -> Result<Value, AllocError>
+    ensures { IfOk result (λ v. v ≡ label_value label.now) }
+{
+    let text = text_of_label(alloc, label, text)?;
+    Ok(Value::Leaf(Leaf::Label(text)))
+}
+
 /// `files` of a target.
 fn files_value(
     alloc: Global,
@@ -104,11 +115,16 @@ fn files_value(
 }
 
 /// A field of `ctx`.
-fn context_field(alloc: Global, label: &Label, name: &Text) -> Result<Option<Value>, AllocError>
+fn context_field(
+    alloc: Global,
+    label: &Label,
+    text: &Text,
+    name: &Text,
+) -> Result<Option<Value>, AllocError>
     ensures { IfOk result (λ v. v ≡ context_field label.now name.now) }
 {
     match name.as_str() {
-        "label" => Ok(Some(label_value(alloc, label)?)),
+        "label" => Ok(Some(own_label(alloc, label, text)?)),
         "attr" => Ok(Some(Value::Leaf(Leaf::Object(Object::ContextAttr)))),
         "files" => Ok(Some(Value::Leaf(Leaf::Object(Object::ContextFiles)))),
         "actions" => Ok(Some(Value::Leaf(Leaf::Object(Object::ContextActions)))),

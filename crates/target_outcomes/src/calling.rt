@@ -26,6 +26,7 @@ use places::Link;
 use plain::Shared;
 use running::{Setting, call_implementation};
 use std::alloc::{AllocError, Global};
+use target_actions::Mnemonics;
 use targets::Target;
 use values::{FunctionRef, Kind, Provider};
 use workspace::Label;
@@ -67,6 +68,7 @@ pub(crate) fn implement(
     alloc: Global,
     files: &LoadedFiles,
     info: &Shared<Provider>,
+    mnemonics: &Mnemonics,
     label: &Label,
     target: &Target,
     dependencies: &[Dependency<'_>],
@@ -76,7 +78,7 @@ pub(crate) fn implement(
         target.now (dependencies_seen dependencies.now))) }
 {
     modules::laws::modules_are_found_by_path::<usize, Module, FaultKind, Kind>();
-    let place = ImplementationPlace::new(alloc, label, target, dependencies, info)?;
+    let place = ImplementationPlace::new(alloc, label, target, dependencies, info, mnemonics)?;
     let paths = files.paths();
     let modules = files.modules();
     let sources = files.sources();

@@ -14,16 +14,18 @@ use loading::Placed;
 use plain::Shared;
 use std::alloc::{AllocError, Global};
 use std::marker::Model;
+use target_actions::Mnemonics;
 use targets::{Outcome, Target, TargetFault};
 use values::{Kind, Provider};
 use workspace::Label;
 
-/// What the analysis of every target of a workspace takes: its files, with the modules, and the provider `DefaultInfo`, made
-/// once.
+/// What the analysis of every target of a workspace takes: its files, with the modules, and the provider `DefaultInfo` and the
+/// mnemonics of actions, made once.
 #[derive(Drop)]
 pub struct Analysis<'a> {
     files: &'a LoadedFiles,
     info: Shared<Provider>,
+    mnemonics: Mnemonics,
 }
 
 impl<'a> Model for Analysis<'a> {
@@ -57,7 +59,12 @@ impl<'a> Analysis<'a> {
         ensures { IfOk result (λ a. a ≡ files.now) }
     {
         let info = default_info(alloc)?;
-        Ok(Analysis { files, info })
+        let mnemonics = Mnemonics::new(alloc)?;
+        Ok(Analysis {
+            files,
+            info,
+            mnemonics,
+        })
     }
 
     /// The outcome of a label that names a target, from the outcomes of the labels that the target depends on, which stand in
@@ -131,7 +138,15 @@ impl<'a> Analysis<'a> {
         ensures { IfOk result (λ o. o ≡ finished label.now (implement self.now.files
             self.now.limit label.now target.now (dependencies_seen dependencies.now))) }
     {
-        match implement(alloc, self.files, &self.info, label, target, dependencies)? {
+        match implement(
+            alloc,
+            self.files,
+            &self.info,
+            &self.mnemonics,
+            label,
+            target,
+            dependencies,
+        )? {
             Ok(implemented) => {
                 let Implemented { result, work } = implemented;
                 let Work { files, actions } = work;

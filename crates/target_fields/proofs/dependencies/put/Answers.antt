@@ -10,7 +10,7 @@ use Rattle.target_fields.proofs.dependencies.put.Goals as goal
 
 pub returns : goal.returns
 returns c = λ q.
-    let k : Parts = (c.package.result, c.name.result) in
+    let k : Parts = (c.name.result, c.package.result) in
     let l = c.args.label.now in
     let before = get parts_cmp c.args.places.now q in
     c.in_ok-insert.ensures.updates.0 q ∙ ap (λ (b : Bool). cond b (Some c.args.place) before) (at_label k q)

@@ -8,7 +8,7 @@ use Rattle.target_fields.proofs.dependencies.Dependencies.place.Goals as goal
 
 pub returns-in-Some : goal.returns-in-Some
 returns-in-Some c =
-    let k : Parts = (c.package.result, c.name.result) in
+    let k : Parts = (c.name.result, c.package.result) in
     let l = c.args.label.now in
     let ds = dependencies_seen c.self.inside.all.now in
     found_at ds c.args.self.now c.self.inside.places k l (Some c.in-Some.place.now) c.in-Some.ensures.value c.self.invariant.0 c.self.view_is
@@ -16,7 +16,7 @@ returns-in-Some c =
 
 pub returns-in-None : goal.returns-in-None
 returns-in-None c =
-    let k : Parts = (c.package.result, c.name.result) in
+    let k : Parts = (c.name.result, c.package.result) in
     let l = c.args.label.now in
     let ds = dependencies_seen c.self.inside.all.now in
     sym (length-map c.self.inside.all.now dependency_seen)

@@ -4,7 +4,7 @@ use Rattle.values.specs.View.{FrozenTree}
 use Rattle.targets.specs.Steps.{are_instances}
 use Rattle.analysis.specs.Returned.{AreReturned}
 use Rattle.analysis.proofs.Returning.{returned_none, split_at}
-use Rattle.analysis.proofs.returned.are_instances.Goals as goal
+use Rattle.analysis.proofs.returned.are_different.Goals as goal
 
 pub loop-value-init : goal.loop-value-init
 loop-value-init c = returned_none c.new-seen.result c.new-seen.ensures.empty

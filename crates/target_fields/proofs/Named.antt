@@ -1,0 +1,41 @@
+-- What a target has for the attribute of a name, by the attribute's place.
+use Rattle.std.proofs.Common.{◌≡◌, ◌∙◌, ℕ, ◌+◌, Bool, true, false, suc, List, [], ◌∷◌, slice_get, Option, Some, None, if◌then◌else◌, ap, refl, arith}
+use Rattle.std.specs.Prelude.{option_map}
+use Rattle.std.specs.Str.{bytes_eq}
+use Rattle.operations.specs.Arguments.{place_from, place_named}
+use Rattle.operations.specs.Items.{at_place}
+use Rattle.targets.specs.Placed.{names_of}
+use Rattle.targets.specs.declared.attributes.AttributeValue.{AttributeValue}
+use Rattle.targets.specs.declared.attributes.NamedAttribute.{NamedAttribute}
+use Rattle.contexts.specs.Fields.{value_named}
+
+after : (b : Bool) (i : ℕ) (o p : Option ℕ) → p ≡ option_map (λ n. suc n) o → (if b then Some (suc i) else p) ≡ option_map (λ n. suc n) (if b then Some i else o)
+after true i o p h = refl
+after false i o p h = h
+
+-- a place that is counted from one more
+later_place : (x : List ℕ) (i : ℕ) (ns : List (List ℕ)) → place_from x (suc i) ns ≡ option_map (λ n. suc n) (place_from x i ns)
+later_place x i [] = refl
+later_place x i (n ∷ ns) =
+    let e : suc i + 1 ≡ suc (i + 1) = omega arith in
+    after (bytes_eq x n) i (place_from x (i + 1) ns) (place_from x (suc i + 1) ns) (ap (λ k. place_from x k ns) e ∙ later_place x (i + 1) ns)
+
+next : {A : Type 0} (v : A) (vs : List A) (o : Option ℕ) → at_place (v ∷ vs) (option_map (λ n. suc n) o) ≡ at_place vs o
+next v vs None = refl
+next v vs (Some i) = refl
+
+nowhere : {A : Type 0} (o : Option ℕ) → at_place {A = A} [] o ≡ None
+nowhere None = refl
+nowhere (Some i) = refl
+
+chosen : {A : Type 0} (b : Bool) (v : A) (vs : List A) (o : Option ℕ) (later : Option A) → at_place (v ∷ vs) o ≡ later
+    → at_place (v ∷ vs) (if b then Some 0 else o) ≡ (if b then Some v else later)
+chosen true v vs o later h = refl
+chosen false v vs o later h = h
+
+pub named_at : (x : List ℕ) (named : List NamedAttribute) (vs : List AttributeValue) → at_place vs (place_named x (names_of named)) ≡ value_named x named vs
+named_at x [] vs = refl
+named_at x (a ∷ rest) [] = nowhere (place_named x (names_of (a ∷ rest)))
+named_at x (a ∷ rest) (v ∷ vs) =
+    chosen (bytes_eq x a.name) v vs (place_from x 1 (names_of rest)) (value_named x rest vs)
+    (ap (at_place (v ∷ vs)) (later_place x 0 (names_of rest)) ∙ next v vs (place_from x 0 (names_of rest)) ∙ named_at x rest vs)
