@@ -1,48 +1,16 @@
 //! The end of a module's evaluation.
-ghost use Rattle.std.specs.Prelude.{◌≡◌, Ok, Err, IfOk, MatchOption, MatchResult};
-ghost use Rattle.values.specs.Ticking.{FaultOr};
-ghost use Rattle.evaluation.specs.Runs.{all_frozen, if_named, module_ended, module_of_frozen, naming_of};
+ghost use Rattle.std.specs.Prelude.{◌≡◌, Ok, Err, IfOk, MatchOption};
+ghost use Rattle.evaluation.specs.Runs.{if_named, module_ended, module_of_frozen, naming_of};
 
-use crate::freezing::{freeze_defaults, freeze_globals};
 use crate::handing::{named_defaults, named_globals};
 use crate::naming::Naming;
 use evaluation::{Made, Module, TopNames};
+use frozen_modules::{Left, freeze_all};
 use loading::{Ending, Placed};
-use operations::{Defaults, State};
+use operations::State;
 use plain::{Shared, Text};
 use std::alloc::{AllocError, Global};
-use targets::Sequence;
-use values::{Broken, Fields, Frozen, Heap, Kind, Ticks, Value};
-
-/// The frozen values of a module's globals, and of the defaults of its functions.
-#[derive(Drop)]
-struct Left {
-    globals: Vec<Option<Frozen>>,
-    defaults: Sequence<Sequence<Frozen>>,
-}
-
-/// First all globals are frozen, then all defaults.
-fn freeze_all(
-    alloc: Global,
-    heap: &Heap,
-    globals: &[Option<Value>],
-    defaults: &Defaults,
-    ticks: &mut Ticks,
-) -> Result<Left, Broken>
-    ensures { MatchResult result
-        (λ l. all_frozen heap.now globals.now defaults.now ticks.old
-        ≡ Ok ((l.globals.items, l.defaults), ticks.new))
-        (λ e. FaultOr (all_frozen heap.now globals.now defaults.now ticks.old) e) }
-{
-    let globals = match freeze_globals(alloc, globals, heap, ticks) {
-        Ok(globals) => globals,
-        Err(broken) => return Err(broken),
-    };
-    match freeze_defaults(alloc, defaults, heap, ticks) {
-        Ok(defaults) => Ok(Left { globals, defaults }),
-        Err(broken) => Err(broken),
-    }
-}
+use values::{Broken, Fields, Frozen, Kind};
 
 /// The names that globals give.
 fn naming_of(

@@ -33,13 +33,28 @@ fn named_value(alloc: Global, naming: &Naming, tree: &Frozen) -> Result<Value, A
     }
 }
 
+/// Puts a default last, as a value.
+fn put_named(
+    alloc: Global,
+    naming: &Naming,
+    items: &mut Items,
+    tree: &Frozen,
+) -> Result<(), AllocError>
+    ensures { OnOk result
+        (items.new ≡ items.old ++ value_of (named naming.now tree.now) ∷ []) }
+{
+    let value = named_value(alloc, naming, tree)?;
+    items.push(value)?;
+    Ok(())
+}
+
 /// The defaults of a function.
 fn named_items(alloc: Global, naming: &Naming, trees: &[Frozen]) -> Result<Items, AllocError>
     ensures { IfOk result (λ v. v ≡ map (λ t. value_of (named naming.now t)) trees.now) }
 {
     let mut items = Items::with_capacity(alloc, trees.len())?;
     for i in 0..trees.len() {
-        items.push(named_value(alloc, naming, tree_at(trees, i))?)?;
+        put_named(alloc, naming, &mut items, tree_at(trees, i))?;
     }
     Ok(items)
 }

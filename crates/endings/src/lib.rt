@@ -3,7 +3,6 @@
 
 mod called;
 mod ending;
-mod freezing;
 mod handing;
 mod naming;
 mod parts;

@@ -3,7 +3,7 @@ use Rattle.values.specs.Visits.{all_of}
 use Rattle.values.specs.declared.ticks.TheConstants.{VISITED_LEVELS}
 use Rattle.visits.specs.Freeze.{freeze_at, frozen_slot}
 use Rattle.values.proofs.VisitLemmas.{with_done}
-use Rattle.endings.proofs.freezing.freeze_globals.Given as goal
+use Rattle.frozen_modules.proofs.freezing.freeze_globals.Given as goal
 
 abbrev pub invariant-loop-i : goal.invariant-loop-i
 invariant-loop-i l =

@@ -5,7 +5,7 @@ use Rattle.values.specs.Visits.{all_of}
 use Rattle.values.specs.declared.ticks.TheConstants.{VISITED_LEVELS}
 use Rattle.visits.specs.Freeze.{freeze_at}
 use Rattle.values.proofs.VisitLemmas.{with_done, all_of-next, all_of-fault}
-use Rattle.endings.proofs.freezing.freeze_defaults.Goals as goal
+use Rattle.frozen_modules.proofs.freezing.freeze_defaults.Goals as goal
 
 pub returns-in-Err : goal.returns-in-Err
 returns-in-Err c =

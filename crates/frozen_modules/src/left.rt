@@ -1,0 +1,46 @@
+//! All that a module leaves.
+ghost use Rattle.std.specs.Prelude.{◌≡◌, Ok, MatchResult};
+ghost use Rattle.values.specs.Ticking.{FaultOr};
+ghost use Rattle.evaluation.specs.Runs.{all_frozen};
+
+use crate::freezing::{freeze_defaults, freeze_globals};
+use operations::Defaults;
+use std::alloc::Global;
+use targets::Sequence;
+use values::{Broken, Frozen, Heap, Ticks, Value};
+
+/// The frozen values of a module's globals, and of the defaults of its functions.
+#[derive(Drop)]
+pub struct Left {
+    /// The globals, in the order in which they are bound.
+    pub globals: Vec<Option<Frozen>>,
+    /// The defaults of each function, by number.
+    pub defaults: Sequence<Sequence<Frozen>>,
+}
+
+/// First all globals are frozen, then all defaults.
+///
+/// # Errors
+///
+/// `steps`, `deep` and `type`, as freezing has them. After a `Broken` the ticks are open.
+pub fn freeze_all(
+    alloc: Global,
+    heap: &Heap,
+    globals: &[Option<Value>],
+    defaults: &Defaults,
+    ticks: &mut Ticks,
+) -> Result<Left, Broken>
+    ensures { MatchResult result
+        (λ l. all_frozen heap.now globals.now defaults.now ticks.old
+        ≡ Ok ((l.globals.items, l.defaults), ticks.new))
+        (λ e. FaultOr (all_frozen heap.now globals.now defaults.now ticks.old) e) }
+{
+    let globals = match freeze_globals(alloc, globals, heap, ticks) {
+        Ok(globals) => globals,
+        Err(broken) => return Err(broken),
+    };
+    match freeze_defaults(alloc, defaults, heap, ticks) {
+        Ok(defaults) => Ok(Left { globals, defaults }),
+        Err(broken) => Err(broken),
+    }
+}
