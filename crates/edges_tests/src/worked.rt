@@ -36,41 +36,10 @@ fn stand(
 }
 
 #[test]
-fn an_empty_graph_has_no_node(rt: HostRuntime) -> Result<(), Fail> {
-    let alloc = rt.alloc();
-    assert!(rt; stand(alloc, &[], &[], &[])?);
-    Ok(())
-}
-
-#[test]
-fn a_diamond_stands_in_order(rt: HostRuntime) -> Result<(), Fail> {
-    let alloc = rt.alloc();
-    let rows: [&[usize]; 4] = [&[1, 2], &[3], &[3], &[]];
-    assert!(rt; stand(alloc, &rows, &[3, 1, 2, 0], &[])?);
-    Ok(())
-}
-
-#[test]
-fn a_node_on_itself_is_cyclic(rt: HostRuntime) -> Result<(), Fail> {
-    let alloc = rt.alloc();
-    let rows: [&[usize]; 2] = [&[0], &[]];
-    assert!(rt; stand(alloc, &rows, &[1], &[0])?);
-    Ok(())
-}
-
-#[test]
 fn a_pair_on_each_other_makes_its_users_cyclic(rt: HostRuntime) -> Result<(), Fail> {
     let alloc = rt.alloc();
     let rows: [&[usize]; 5] = [&[1], &[0], &[0, 4], &[2], &[]];
     assert!(rt; stand(alloc, &rows, &[4], &[0, 1, 2, 3])?);
-    Ok(())
-}
-
-#[test]
-fn what_a_cycle_depends_on_is_not_cyclic(rt: HostRuntime) -> Result<(), Fail> {
-    let alloc = rt.alloc();
-    let rows: [&[usize]; 4] = [&[1], &[0, 2], &[3], &[]];
-    assert!(rt; stand(alloc, &rows, &[3, 2], &[0, 1])?);
     Ok(())
 }
 

@@ -8,7 +8,7 @@ use std::alloc::{AllocError, Global};
 use std::process::Abort;
 use std::test::Fail;
 use std::thread::{Builder, Threads};
-use workspace::WorkspaceBuilder;
+use workspace::{Workspace, WorkspaceBuilder};
 
 /// How many modules there are.
 const COUNT: u64 = 10_000;
@@ -40,27 +40,67 @@ fn file(alloc: Global, loaded: Option<u64>) -> Result<FileRead<Names>, AllocErro
     })
 }
 
-/// How many faults modules have, each of which loads the next, and the last one `last`, if given.
-fn faults(alloc: Global, last: Option<u64>) -> Result<Option<usize>, AllocError> {
+/// The workspace of all modules.
+fn workspace(alloc: Global) -> Result<Option<Workspace>, AllocError> {
     let mut builder = WorkspaceBuilder::new(alloc);
-    let mut files = Vec::new(alloc);
     for n in 0..COUNT {
         if builder.add(alloc, path(alloc, n)?.as_str(), "").is_err() {
             return Ok(None);
         }
-        let next = n.saturating_add(1);
-        files.push(Ok(file(alloc, if next < COUNT { Some(next) } else { last })?))?;
     }
-    let Ok(workspace) = builder.finish(alloc) else {
-        return Ok(None);
-    };
-    let paths = Paths::of(alloc, &workspace)?;
+    Ok(builder.finish(alloc).ok())
+}
+
+/// The module that a module loads: the next, and the last one `last`, if given.
+fn loaded(n: u64, last: Option<u64>) -> Option<u64> {
+    let next = n.saturating_add(1);
+    if next < COUNT { Some(next) } else { last }
+}
+
+/// What all modules are read as.
+fn files(
+    alloc: Global,
+    last: Option<u64>,
+) -> Result<Vec<Result<FileRead<Names>, (u8, u64)>>, AllocError> {
+    let mut files = Vec::new(alloc);
+    for n in 0..COUNT {
+        files.push(Ok(file(alloc, loaded(n, last))?))?;
+    }
+    Ok(files)
+}
+
+/// The evaluator of all modules.
+fn fake(
+    alloc: Global,
+    workspace: &Workspace,
+    last: Option<u64>,
+) -> Result<Option<Fake>, AllocError> {
+    let files = files(alloc, last)?;
+    let paths = Paths::of(alloc, workspace)?;
     if files.len() != paths.as_slice().len() {
         return Ok(None);
     }
-    let fake = Fake { paths, files };
-    let modules: Modules<Names, u8, u8> = load_all(alloc, &workspace, &fake)?;
-    Ok(Some(modules.faults().len()))
+    Ok(Some(Fake { paths, files }))
+}
+
+/// How many faults the modules of a workspace have.
+fn count(alloc: Global, workspace: &Workspace, fake: &Fake) -> Option<usize> {
+    let modules: Result<Modules<Names, u8, u8>, AllocError> = load_all(alloc, workspace, fake);
+    match modules {
+        Ok(modules) => Some(modules.faults().len()),
+        Err(_) => None,
+    }
+}
+
+/// How many faults modules have, each of which loads the next, and the last one `last`, if given.
+fn faults(alloc: Global, last: Option<u64>) -> Result<Option<usize>, AllocError> {
+    let Some(workspace) = workspace(alloc)? else {
+        return Ok(None);
+    };
+    match fake(alloc, &workspace, last)? {
+        Some(fake) => Ok(count(alloc, &workspace, &fake)),
+        None => Ok(None),
+    }
 }
 
 /// The same, on a thread with a small stack.

@@ -129,6 +129,34 @@ pub(crate) fn fake_of(
     Ok(Some(Fake { paths, files }))
 }
 
+/// How many of the paths are those of modules without a value.
+fn failed(modules: &Modules<Names, u8, u8>, paths: &[Text]) -> usize {
+    let mut failed: usize = 0;
+    for path in paths {
+        if modules.module(path).is_none() {
+            failed = failed.saturating_add(1);
+        }
+    }
+    failed
+}
+
+/// Whether modules have the faults that are wanted, and all others a value.
+fn are_told(
+    alloc: Global,
+    modules: &Modules<Names, u8, u8>,
+    paths: &[Text],
+    want: &str,
+) -> Result<bool, Fail> {
+    let is_told = told(alloc, modules.faults())?.as_str() == want;
+    Ok(is_told && failed(modules, paths) == modules.faults().len())
+}
+
+/// The same of a workspace.
+fn are_loaded(alloc: Global, workspace: &Workspace, fake: &Fake, want: &str) -> Result<bool, Fail> {
+    let modules: Modules<Names, u8, u8> = load_all(alloc, workspace, fake)?;
+    are_told(alloc, &modules, fake.paths.as_slice(), want)
+}
+
 /// Whether the modules of a row have the faults that it tells, and all others a value.
 fn is_so(alloc: Global, row: &str) -> Result<bool, Fail> {
     let Some((files, want)) = row.split_once('|') else {
@@ -137,18 +165,10 @@ fn is_so(alloc: Global, row: &str) -> Result<bool, Fail> {
     let Some(workspace) = workspace_of(alloc, files)? else {
         return Ok(false);
     };
-    let Some(fake) = fake_of(alloc, &workspace, files)? else {
-        return Ok(false);
-    };
-    let modules: Modules<Names, u8, u8> = load_all(alloc, &workspace, &fake)?;
-    let mut failed: usize = 0;
-    for path in fake.paths.as_slice() {
-        if modules.module(path).is_none() {
-            failed = failed.saturating_add(1);
-        }
+    match fake_of(alloc, &workspace, files)? {
+        Some(fake) => are_loaded(alloc, &workspace, &fake, want),
+        None => Ok(false),
     }
-    let told = told(alloc, modules.faults())?;
-    Ok(failed == modules.faults().len() && told.as_str() == want)
 }
 
 #[test]

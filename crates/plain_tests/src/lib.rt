@@ -1,5 +1,8 @@
-//! Tests of crate `plain`. They are a crate of their own, so that `plain` is proved once.
+//! Tests of crates `plain` and `strings`. They are a crate of their own, so that these are proved once. What operations on strings
+//! and numbers give is shown by the stored runs of `module_check` and `serve_check`.
 #![tactic(auto)]
 
+#[cfg(test)]
+mod limits;
 #[cfg(test)]
 mod texts_and_stacks;

@@ -4,15 +4,24 @@
 //! is `BUILD` is a `BUILD` file's, one that ends in `.bzl` a module's; other files aren't looked at. For each file, in the
 //! order of the input, a line tells `PATH ok` or `PATH:LINE syntax KIND`. The status is 0 where every file has a tree, and
 //! 1 where one has a fault, or where the input isn't of this form, which an error line tells.
+//!
+//! With `time` nothing is read, and it prints how long the reading of long texts takes: down to their logical lines, and to their
+//! trees with the peak of memory. With `time lines` the former alone, with `time NAME` that of one text.
 #![tactic(auto)]
 
+mod lines;
+mod texts;
+
 use anyhow::{Result, bail};
+use lines::time_lines;
 use serde_json::Value;
 use std::alloc::Global;
-use std::io;
 use std::io::Write;
 use std::process::ExitCode;
+use std::rt::{Clock, Files};
+use std::{env, io};
 use syntax::{FileKind, ParseStop, SyntaxFault, parse};
+use texts::time_texts;
 
 /// What a file is, by its path; None where its text isn't looked at.
 fn kind_of(path: &str) -> Option<FileKind> {
@@ -77,8 +86,21 @@ fn check_all<W: Write>(alloc: Global, out: &mut W, input: &Value) -> Result<bool
     Ok(found)
 }
 
+/// Prints the times of what has this name, or of all where there is none.
+fn time<R: Print + Clock + Files + AllocGlobal>(rt: &R, name: Option<&str>) -> Result<()> {
+    if name.is_none_or(|name| name == "lines") {
+        time_lines(rt, rt.alloc())?;
+    }
+    time_texts(rt, name)
+}
+
 fn main(rt: HostRuntime) -> Result<ExitCode> {
     let alloc = rt.alloc();
+    let words: Vec<String> = env::args(&rt)?.collect(alloc)?;
+    if words.len() > 1 {
+        time(&rt, words.get(2).map(|word| word.as_str()))?;
+        return Ok(ExitCode::from(0));
+    }
     let input = io::read_to_string(alloc, rt.reader())?;
     let input = Value::from_slice(alloc, input.as_bytes())?;
     let mut out = io::writer(&rt);

@@ -1,39 +1,35 @@
 //! Files and their verdicts, as tables: the fault that each text has by one of the five passes, or a tree.
-use std::alloc::Global;
+use std::alloc::{AllocError, Global};
 use std::process::Abort;
-use std::test::Fail;
 use syntax::{FaultKind, FileKind, ParseStop, SyntaxFault, parse};
 
-/// What is wrong with a text; memory is ample.
-fn verdict(rt: &impl Abort, alloc: Global, text: &str, kind: FileKind) -> Option<SyntaxFault> {
+/// Whether a text has this fault, or a tree where no fault is wanted.
+fn has(alloc: Global, text: &str, kind: FileKind, want: Option<SyntaxFault>) -> bool {
     match parse(alloc, text, kind) {
-        Ok(_) => None,
-        Err(ParseStop::Fault(fault)) => Some(fault),
-        Err(ParseStop::NoMemory) => panic!(rt; "no memory for {text:?}"),
+        Ok(_) => want.is_none(),
+        Err(ParseStop::Fault(fault)) => want == Some(fault),
+        Err(ParseStop::NoMemory) => false,
     }
 }
 
 fn expect_faults(rt: &impl Abort, alloc: Global, kind: FaultKind, rows: &[(&str, usize)]) {
     for (text, line) in rows {
-        let fault = verdict(rt, alloc, text, FileKind::Module);
-        assert!(rt;
-            fault == Some(SyntaxFault { line: *line, kind }),
-            "{text:?}"
-        );
+        let fault = SyntaxFault { line: *line, kind };
+        assert!(rt; has(alloc, text, FileKind::Module, Some(fault)), "{text:?}");
     }
 }
 
 fn expect_trees(rt: &impl Abort, alloc: Global, kind: FileKind, texts: &[&str]) {
     for text in texts {
-        assert!(rt; verdict(rt, alloc, text, kind).is_none(), "{text:?}");
+        assert!(rt; has(alloc, text, kind, None), "{text:?}");
     }
 }
 
-/// How many statements the top level of a module has.
-fn lines_of(rt: &impl Abort, alloc: Global, text: &str) -> usize {
+/// Whether the top level of a module has so many statements.
+fn has_steps(alloc: Global, text: &str, count: usize) -> bool {
     match parse(alloc, text, FileKind::Module) {
-        Ok(parsed) => parsed.steps.len(),
-        Err(_) => panic!(rt; "no tree of {text:?}"),
+        Ok(parsed) => parsed.steps.len() == count,
+        Err(_) => false,
     }
 }
 
@@ -67,13 +63,8 @@ fn files_with_a_tree(rt: HostRuntime) {
             "x = 1\ny = x\n",
         ],
     );
-    assert!(&rt;
-        lines_of(
-            &rt,
-            rt.alloc(),
-            "x = 1\ndef f():\n  y = 1\n  return y\nz = x\n"
-        ) == 3
-    );
+    let text = "x = 1\ndef f():\n  y = 1\n  return y\nz = x\n";
+    assert!(&rt; has_steps(rt.alloc(), text, 3));
 }
 
 #[test]
@@ -108,14 +99,11 @@ fn lines_that_are_no_statements(rt: HostRuntime) {
             ("x = 1\ny = class\n", 2),
         ],
     );
-    let fault = verdict(&rt, rt.alloc(), "def f(): pass", FileKind::Build);
-    assert!(&rt;
-        fault
-            == Some(SyntaxFault {
-                line: 1,
-                kind: FaultKind::Statement,
-            })
-    );
+    let fault = SyntaxFault {
+        line: 1,
+        kind: FaultKind::Statement,
+    };
+    assert!(&rt; has(rt.alloc(), "def f(): pass", FileKind::Build, Some(fault)));
 }
 
 #[test]
@@ -181,45 +169,62 @@ fn earlier_passes_decide(rt: HostRuntime) {
 }
 
 /// This many signs before a number.
-fn signs(alloc: Global, count: usize) -> Result<String, Fail> {
-    let mut text = String::new(alloc);
-    text.push_str("x = ")?;
-    for _ in 0..count {
-        text.push('-')?;
+fn signs(alloc: Global, count: usize) -> Result<String, AllocError> {
+    let signs = "-".repeat(alloc, count)?;
+    format!(in alloc; "x = {signs}1")
+}
+
+/// Whether so many signs before a number have this fault, or a tree where no fault is wanted.
+fn signs_have(alloc: Global, count: usize, want: Option<SyntaxFault>) -> bool {
+    match signs(alloc, count) {
+        Ok(text) => has(alloc, text.as_str(), FileKind::Module, want),
+        Err(_) => false,
     }
-    text.push('1')?;
-    Ok(text)
+}
+
+/// Puts a line behind so many spaces.
+fn put_line(text: &mut String, spaces: usize, line: &str) -> Result<(), AllocError> {
+    for _ in 0..spaces {
+        text.push(' ')?;
+    }
+    text.push_str(line)?;
+    Ok(())
 }
 
 /// A function with blocks in its block, as many as there are, and in the last a head with its statement on its own line.
-fn nested(alloc: Global, blocks: usize) -> Result<String, Fail> {
-    let mut text = String::from_str(alloc, "def f(x):\n ")?;
-    let mut indent = String::from_str(alloc, " ")?;
-    for _ in 1..blocks {
-        text.push_str("if x:\n ")?;
-        text.push_str(indent.as_str())?;
-        indent.push_str(" ")?;
+fn nested(alloc: Global, blocks: usize) -> Result<String, AllocError> {
+    let mut text = String::from_str(alloc, "def f(x):\n")?;
+    for depth in 1..blocks {
+        put_line(&mut text, depth, "if x:\n")?;
     }
-    text.push_str("if x: x = 1\n")?;
+    put_line(&mut text, blocks, "if x: x = 1\n")?;
     Ok(text)
 }
 
-#[test]
-fn blocks_are_at_most_32_deep(rt: HostRuntime) -> Result<(), Fail> {
-    let alloc = rt.alloc();
-    let text = nested(alloc, 32)?;
-    expect_trees(&rt, alloc, FileKind::Module, &[text.as_str()]);
-    let text = nested(alloc, 33)?;
-    expect_faults(&rt, alloc, FaultKind::Indent, &[(text.as_str(), 34)]);
-    Ok(())
+/// Whether so many blocks inside of one another have this fault, or a tree where no fault is wanted.
+fn nested_have(alloc: Global, blocks: usize, want: Option<SyntaxFault>) -> bool {
+    match nested(alloc, blocks) {
+        Ok(text) => has(alloc, text.as_str(), FileKind::Module, want),
+        Err(_) => false,
+    }
 }
 
 #[test]
-fn expressions_are_at_most_200_deep(rt: HostRuntime) -> Result<(), Fail> {
-    let alloc = rt.alloc();
-    let text = signs(alloc, 199)?;
-    expect_trees(&rt, alloc, FileKind::Module, &[text.as_str()]);
-    let text = signs(alloc, 200)?;
-    expect_faults(&rt, alloc, FaultKind::Statement, &[(text.as_str(), 1)]);
-    Ok(())
+fn blocks_are_at_most_32_deep(rt: HostRuntime) {
+    let fault = SyntaxFault {
+        line: 34,
+        kind: FaultKind::Indent,
+    };
+    assert!(rt; nested_have(rt.alloc(), 32, None));
+    assert!(rt; nested_have(rt.alloc(), 33, Some(fault)));
+}
+
+#[test]
+fn expressions_are_at_most_200_deep(rt: HostRuntime) {
+    let fault = SyntaxFault {
+        line: 1,
+        kind: FaultKind::Statement,
+    };
+    assert!(rt; signs_have(rt.alloc(), 199, None));
+    assert!(rt; signs_have(rt.alloc(), 200, Some(fault)));
 }

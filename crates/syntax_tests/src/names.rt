@@ -5,13 +5,6 @@ use syntax::{
     Binding, FileKind, Function, OwnSlots, Parsed, Predeclared, Round, Statement, Step, Term, parse,
 };
 
-fn parsed(rt: &impl Abort, alloc: Global, text: &str) -> Parsed {
-    match parse(alloc, text, FileKind::Module) {
-        Ok(parsed) => parsed,
-        Err(_) => panic!(rt; "no tree of {text:?}"),
-    }
-}
-
 /// What a term is, where it is a name.
 fn name(term: &Term) -> Option<Binding> {
     match term {
@@ -47,14 +40,25 @@ fn returned(steps: &[Step]) -> Option<&Term> {
     }
 }
 
+/// Whether the last function returns a name that stands for this.
+fn gives_name(parsed: &Parsed, want: Binding) -> bool {
+    match returned(parsed.steps.as_slice()) {
+        Some(value) => name(value) == Some(want),
+        None => false,
+    }
+}
+
+/// The same of a text.
+fn returns(alloc: Global, text: &str, want: Binding) -> bool {
+    match parse(alloc, text, FileKind::Module) {
+        Ok(parsed) => gives_name(&parsed, want),
+        Err(_) => false,
+    }
+}
+
 fn expect_returned(rt: &impl Abort, alloc: Global, rows: &[(&str, Binding)]) {
     for (text, binding) in rows {
-        let parsed = parsed(rt, alloc, text);
-        let found = match returned(parsed.steps.as_slice()) {
-            Some(value) => name(value),
-            None => None,
-        };
-        assert!(rt; found == Some(*binding), "{text:?}");
+        assert!(rt; returns(alloc, text, *binding), "{text:?}");
     }
 }
 
@@ -101,33 +105,32 @@ fn elements(term: &Term) -> Option<(Binding, Binding)> {
     }
 }
 
+/// Whether the elements of the returned comprehension and of the inner one stand for these.
+fn gives_elements(parsed: &Parsed, outer: Binding, inner: Binding) -> bool {
+    match returned(parsed.steps.as_slice()) {
+        Some(value) => elements(value) == Some((outer, inner)),
+        None => false,
+    }
+}
+
+/// The same of a text.
+fn returns_elements(alloc: Global, text: &str, outer: Binding, inner: Binding) -> bool {
+    match parse(alloc, text, FileKind::Module) {
+        Ok(parsed) => gives_elements(&parsed, outer, inner),
+        Err(_) => false,
+    }
+}
+
 #[test]
 fn names_of_comprehensions(rt: HostRuntime) {
-    let rows = [
-        (
-            "def f(a):\n  return [a for b in [a for a in a]]\n",
-            Binding::Slot(0),
-            Binding::Slot(1),
-        ),
-        (
-            "def f(a):\n  return [b for b in [a for c in a]]\n",
-            Binding::Slot(1),
-            Binding::Slot(0),
-        ),
-        (
-            "a = 1\ndef f():\n  return [a for b in [b for b in []]]\n",
-            Binding::Global(0),
-            Binding::Slot(0),
-        ),
-    ];
-    for (text, outer, inner) in rows {
-        let parsed = parsed(&rt, rt.alloc(), text);
-        let found = match returned(parsed.steps.as_slice()) {
-            Some(value) => elements(value),
-            None => None,
-        };
-        assert!(&rt; found == Some((outer, inner)), "{text:?}");
-    }
+    let alloc = rt.alloc();
+    let (first, second) = (Binding::Slot(0), Binding::Slot(1));
+    let text = "def f(a):\n  return [a for b in [a for a in a]]\n";
+    assert!(rt; returns_elements(alloc, text, first, second));
+    let text = "def f(a):\n  return [b for b in [a for c in a]]\n";
+    assert!(rt; returns_elements(alloc, text, second, first));
+    let text = "a = 1\ndef f():\n  return [a for b in [b for b in []]]\n";
+    assert!(rt; returns_elements(alloc, text, Binding::Global(0), first));
 }
 
 /// The last function of a file.
@@ -149,71 +152,65 @@ fn own_slots(term: &Term) -> Option<(OwnSlots, OwnSlots)> {
     }
 }
 
+/// The slots from one to before another.
+fn own(first: usize, end: usize) -> OwnSlots {
+    OwnSlots { first, end }
+}
+
+/// Whether both comprehensions have these slots, the function three, and the top level none.
+fn has_own_slots(parsed: &Parsed, want: OwnSlots) -> bool {
+    let found = match returned(parsed.steps.as_slice()) {
+        Some(value) => own_slots(value),
+        None => None,
+    };
+    let slots = match last_function(parsed.steps.as_slice()) {
+        Some(function) => function.slots,
+        None => 0,
+    };
+    found == Some((want, want)) && slots == 3 && parsed.slots == 0
+}
+
+/// The same of a text.
+fn are_own(alloc: Global, text: &str, want: OwnSlots) -> bool {
+    match parse(alloc, text, FileKind::Module) {
+        Ok(parsed) => has_own_slots(&parsed, want),
+        Err(_) => false,
+    }
+}
+
 #[test]
 fn slots_of_comprehensions(rt: HostRuntime) {
-    let rows = [
-        (
-            "def f(l):\n  return [a for a in [y for y in [1] for z in [2]] if b for b in [3]]\n",
-            (1, 3),
-            (1, 3),
-            3,
-        ),
-        (
-            "def f(l):\n  return [a for a in [y for y in [1] for y in [z for z in [2]]]]\n",
-            (1, 2),
-            (1, 2),
-            3,
-        ),
-    ];
-    for (text, outer, inner, slots) in rows {
-        let parsed = parsed(&rt, rt.alloc(), text);
-        let found = match returned(parsed.steps.as_slice()) {
-            Some(value) => own_slots(value),
-            None => None,
-        };
-        let all = match last_function(parsed.steps.as_slice()) {
-            Some(function) => function.slots,
-            None => 0,
-        };
-        let wanted = (
-            OwnSlots {
-                first: outer.0,
-                end: outer.1,
-            },
-            OwnSlots {
-                first: inner.0,
-                end: inner.1,
-            },
-        );
-        assert!(&rt;
-            found == Some(wanted) && all == slots && parsed.slots == 0,
-            "{text:?}"
-        );
+    let text = "def f(l):\n  return [a for a in [y for y in [1] for z in [2]] if b for b in [3]]\n";
+    assert!(rt; are_own(rt.alloc(), text, own(1, 3)));
+    let text = "def f(l):\n  return [a for a in [y for y in [1] for y in [z for z in [2]]]]\n";
+    assert!(rt; are_own(rt.alloc(), text, own(1, 2)));
+}
+
+/// How many names are loaded, how many slots the top level has, and the number of the last function and of what it binds.
+type Numbers = (usize, usize, usize, usize);
+
+/// The numbers of a file.
+fn numbers(parsed: &Parsed) -> Numbers {
+    match last_function(parsed.steps.as_slice()) {
+        Some(function) => (parsed.loaded, parsed.slots, function.number, function.binds),
+        None => (parsed.loaded, parsed.slots, 0, 0),
+    }
+}
+
+/// Whether the numbers of a text are these.
+fn are_numbers(alloc: Global, text: &str, want: Numbers) -> bool {
+    match parse(alloc, text, FileKind::Module) {
+        Ok(parsed) => numbers(&parsed) == want,
+        Err(_) => false,
     }
 }
 
 #[test]
 fn numbers_of_a_file(rt: HostRuntime) {
-    let rows = [
-        ("", 0, 0, 0, 0),
-        ("x = [a for a in [b for b in [] for c in []]]\n", 0, 2, 0, 0),
-        (
-            "load(\":a.bzl\", \"a\", b = \"c\")\nload(\":b.bzl\", \"d\")\ndef f(): pass\nx = 1\ndef g(l = [i for i in []]): pass\n",
-            3,
-            1,
-            2,
-            5,
-        ),
-    ];
-    for (text, loaded, slots, number, binds) in rows {
-        let parsed = parsed(&rt, rt.alloc(), text);
-        let found = match last_function(parsed.steps.as_slice()) {
-            Some(function) => (function.number, function.binds),
-            None => (0, 0),
-        };
-        assert!(&rt;
-            (parsed.loaded, parsed.slots, found) == (loaded, slots, (number, binds)),
-            "{text:?}"
-        );
-    }
+    assert!(rt; are_numbers(rt.alloc(), "", (0, 0, 0, 0)));
+    let text = "x = [a for a in [b for b in [] for c in []]]\n";
+    assert!(rt; are_numbers(rt.alloc(), text, (0, 2, 0, 0)));
+    let text =
+        "load(\":a.bzl\", \"a\", b = \"c\")\nload(\":b.bzl\", \"d\")\ndef f(): pass\nx = 1\ndef g(l = [i for i in []]): pass\n";
+    assert!(rt; are_numbers(rt.alloc(), text, (3, 1, 2, 5)));
 }

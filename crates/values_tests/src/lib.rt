@@ -1,15 +1,17 @@
-//! Tests of crate `values`. They are a crate of their own, so that `values` is proved once.
+//! Tests of crates `depsets`, `values`, `operands` and `printing`. They are a crate of their own, so that these are proved once.
+//! Changes, equality, freezing, depsets and texts, with their ticks and depths, are shown by the stored runs of `serve_check` and
+//! `module_check`.
 #![tactic(auto)]
 
 #[cfg(test)]
-mod heap;
+mod deep_depsets;
 #[cfg(test)]
-mod script;
+mod lent;
 #[cfg(test)]
-mod texts;
+mod listings;
+#[cfg(test)]
+mod made_depsets;
+#[cfg(test)]
+mod names;
 #[cfg(test)]
 mod threads;
-#[cfg(test)]
-mod visiting;
-#[cfg(test)]
-mod world;
