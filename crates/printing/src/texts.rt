@@ -193,6 +193,7 @@ fn attribute_name(kind: AttributeKind) -> &'static str
         AttributeKind::Int => "int",
         AttributeKind::Bool => "bool",
         AttributeKind::StringList => "string_list",
+        AttributeKind::StringDict => "string_dict",
         AttributeKind::Label => "label",
         AttributeKind::LabelList => "label_list",
     }
