@@ -1,7 +1,2 @@
-pub mod ClaimLemmas
-pub mod ClashLemmas
-pub mod ClashUnique
-pub mod OwnerLemmas
 pub mod Crossing
 pub mod Ascending
-pub mod SortedClaims

@@ -1,5 +1,1 @@
-pub mod Claims
-pub mod Conflicts
-pub mod Clashes
-pub mod Labels
-pub mod Taken
+pub mod Ascending

@@ -26,13 +26,6 @@ pub enum Inputs {
     Depset(Depset),
 }
 
-/// An action and the label of the target that registered it.
-#[derive(Drop)]
-pub struct Owned {
-    pub label: Text,
-    pub action: Action,
-}
-
 /// Files, in order.
 #[derive(Drop)]
 pub struct Files {

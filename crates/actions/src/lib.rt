@@ -1,18 +1,8 @@
-//! Actions of targets, and the paths that more than one of them declares.
+//! Actions of targets, as plain data: what each makes, from what, and the words of its command (`action`).
 //!
-//! An action is plain data: its outputs, its inputs, its words (`action`). Two actions that declare one path
-//! conflict, also within one target; `conflicts` finds all such paths by one sort of what the actions declare, and [`Claims`]
-//! those of actions that lie elsewhere.
-//!
-//! `specs/Conflicts` says what the conflicts of a list of actions are.
+//! `specs/Ascending` says of texts that they are in the order of their bytes.
 #![tactic(auto)]
 
 mod action;
-mod claims;
-mod gather;
-mod laws;
 
-pub use action::{Action, Files, Inputs, Owned, Words};
-pub use claims::Claims;
-pub use gather::{Conflict, conflicts};
-pub use laws::{actions_have_one_list_of_conflicts, owners_of_a_path_are_its_labels};
+pub use action::{Action, Files, Inputs, Words};

@@ -10,7 +10,7 @@ use Rattle.reporting.specs.Reported.{report_bytes}
 use Rattle.loader.specs.Loaded.{AreFilesOf}
 use Rattle.answers.specs.Reports.{IsTooMany, Reports}
 use Rattle.std.proofs.lemmas.List.Elements.{All-map}
-use Rattle.actions.specs.Clashes.{AreAscending}
+use Rattle.actions.specs.Ascending.{AreAscending}
 use Rattle.workspace.specs.Labels.{LabelParts, label_text}
 use Rattle.workspace.specs.Workspaces.{IsWorkspace, Pair}
 use Rattle.graph.specs.Graphs.{GraphView, IsGraphOf}

@@ -3,7 +3,7 @@ use Rattle.std.specs.Prelude.{◌≡◌, ◌↔◌, ℕ, Bool, List, map, Contai
 use Rattle.depsets.specs.Listed.{flat}
 use Rattle.lexer.specs.declared.fault.FaultKind.{FaultKind}
 use Rattle.values.specs.declared.ticks.Kind.{Kind}
-use Rattle.actions.specs.Clashes.{AreAscending}
+use Rattle.actions.specs.Ascending.{AreAscending}
 use Rattle.workspace.specs.Labels.{LabelParts, label_text}
 use Rattle.workspace.specs.Workspaces.{Pair}
 use Rattle.modules.specs.declared.sorting.FileFault.{FileFault}

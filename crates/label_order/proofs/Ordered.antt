@@ -17,7 +17,7 @@ use Rattle.std.proofs.lemmas.Map.Keys.{IsDistinct-head, IsDistinct-tail, IsDisti
 use Rattle.std.proofs.lemmas.Slice.Eq.{bytes_eq-Decides}
 use Rattle.workspace.specs.Labels.{LabelParts, is_label, label_text}
 use Rattle.graph.specs.Same.{label_at, same_label, no_label, same_label-decides}
-use Rattle.actions.specs.Clashes.{AreAscending}
+use Rattle.actions.specs.Ascending.{AreAscending}
 use Rattle.actions.proofs.Ascending.{sorted_ascends}
 use Rattle.label_order.specs.Ordered.{Entry, entry_seen, entries, AreInOrder}
 use Rattle.outcomes.proofs.Owners.{texts_apart}

@@ -2,7 +2,7 @@
 use Rattle.std.specs.Prelude.{◌≡◌, ◌↔◌, ℕ, ◌<◌, List, length, map, Contains, All}
 use Rattle.std.specs.List.{range_with_len}
 use Rattle.std.specs.Borrow.{Bor}
-use Rattle.actions.specs.Clashes.{AreAscending}
+use Rattle.actions.specs.Ascending.{AreAscending}
 use Rattle.workspace.specs.Labels.{LabelParts, label_text}
 use Rattle.graph.specs.Same.{label_at}
 

@@ -7,7 +7,7 @@ use Rattle.std.specs.Ordering.{nat_cmp}
 use Rattle.std.specs.Str.{bytes_eq}
 use Rattle.std.specs.declared.cmp.Ordering.TheVariants.{Less}
 use Rattle.std.proofs.lemmas.List.Sorted.{Contains-permutation, IsPermutation-sym}
-use Rattle.actions.specs.Clashes.{AreAscending, Each}
+use Rattle.actions.specs.Ascending.{AreAscending, Each}
 use Rattle.actions.proofs.Ascending.{sorted_ascends, ascending_same}
 
 -- ---- what a test keeps

@@ -4,7 +4,7 @@ use Rattle.std.specs.List.{flat_map, AllByRecursion}
 use Rattle.std.proofs.lemmas.List.Elements.{recursion_from_All}
 use Rattle.depsets.specs.Flat.{Among}
 use Rattle.depsets.specs.Listed.{walked, flat}
-use Rattle.actions.specs.Conflicts.{conflicts_of}
+use Rattle.claims.specs.Conflicts.{conflicts_of}
 use Rattle.one_tree.specs.Found.{Set}
 use Rattle.one_tree.specs.Sets.{IsOneTree}
 use Rattle.one_tree.proofs.Amidst.{among_cases}

@@ -2,11 +2,11 @@
 use Rattle.std.proofs.Common.{◌≡◌, ◌+◌, ◌||◌, ℕ, Bool, List, [], ◌∷◌, ◌++◌, ◌<◌, length, get_or, drop, map, ap, ◌∙◌, sym, refl}
 use Rattle.std.specs.List.{list_any}
 use Rattle.std.proofs.lemmas.List.{at_drop_more}
-use Rattle.actions.specs.Claims.{all_in_order, claims_of, claims_from}
-use Rattle.actions.specs.Conflicts.{conflicts_of, gathered}
-use Rattle.actions.specs.Taken.{Taken, nothing, with_action, with_actions}
-use Rattle.actions.specs.declared.action.Owned.{Owned}
-use Rattle.actions.proofs.ClaimLemmas.{all_in_order-append}
+use Rattle.claims.specs.Claims.{all_in_order, claims_of, claims_from}
+use Rattle.claims.specs.Conflicts.{conflicts_of, gathered}
+use Rattle.claims.specs.Taken.{Taken, nothing, with_action, with_actions}
+use Rattle.claims.specs.declared.claiming.Owned.{Owned}
+use Rattle.claims.proofs.ClaimLemmas.{all_in_order-append}
 use Rattle.reporting.specs.Answers.{node_actions, owned_actions}
 use Rattle.reporting.specs.Seen.{node_seen, nodes_seen}
 use Rattle.reporting.specs.declared.node_lines.Node.{Node}

@@ -7,9 +7,9 @@ use Rattle.depsets.specs.Own.{Own}
 use Rattle.depsets.specs.Rose.{Rose}
 use Rattle.depsets.specs.declared.element.Element.{Element}
 use Rattle.values.specs.declared.ticks.Kind.{Kind}
-use Rattle.actions.specs.Conflicts.{conflicts_of}
+use Rattle.claims.specs.Conflicts.{conflicts_of}
 use Rattle.actions.specs.declared.action.Action.{Action}
-use Rattle.actions.specs.declared.action.Owned.{Owned}
+use Rattle.claims.specs.declared.claiming.Owned.{Owned}
 use Rattle.workspace.specs.Labels.{LabelParts, label_text}
 use Rattle.modules.specs.declared.sorting.FileFault.{FileFault}
 use Rattle.targets.specs.Steps.{is_failed}

@@ -21,7 +21,7 @@ use Rattle.printing.specs.Texts.{field_head, joined, provider_text, quoted, text
 use Rattle.actions.specs.declared.action.Action.{Action}
 use Rattle.actions.specs.declared.action.Inputs.{Inputs}
 use Rattle.actions.specs.declared.action.Inputs.TheVariants as inputs
-use Rattle.actions.specs.declared.gather.Conflict.{Conflict}
+use Rattle.claims.specs.declared.gather.Conflict.{Conflict}
 use Rattle.workspace.specs.Labels.{LabelParts, label_text}
 use Rattle.loading.specs.Loads.{Path, LoadFault}
 use Rattle.loading.specs.declared.faults.LoadFaultKind.{LoadFaultKind}

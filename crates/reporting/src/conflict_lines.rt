@@ -3,7 +3,7 @@ ghost use Rattle.std.specs.Prelude.{◌≡◌, ◌++◌, string_bytes, OnOk};
 ghost use Rattle.std.specs.List.{flat_map};
 ghost use Rattle.reporting.specs.Lines.{conflict_line, spaced};
 
-use actions::Conflict;
+use claims::Conflict;
 use plain::Text;
 use std::alloc::AllocError;
 

@@ -1,5 +1,5 @@
 use Rattle.std.proofs.Common.{◌≡◌, drop, map}
-use Rattle.actions.specs.Taken.{with_actions}
+use Rattle.claims.specs.Taken.{with_actions}
 use Rattle.reporting.specs.Answers.{owned_by}
 use Rattle.reporting.proofs.made.claim_actions.Given as goal
 

@@ -1,5 +1,5 @@
 use Rattle.std.proofs.Common.{◌≡◌, drop}
-use Rattle.actions.specs.Taken.{nothing, with_actions}
+use Rattle.claims.specs.Taken.{nothing, with_actions}
 use Rattle.reporting.specs.Answers.{owned_actions}
 use Rattle.reporting.specs.Seen.{nodes_seen}
 use Rattle.reporting.proofs.made.claim_all.Given as goal

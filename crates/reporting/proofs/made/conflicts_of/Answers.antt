@@ -1,6 +1,6 @@
 use Rattle.std.proofs.Common.{◌∙◌, [], ap}
-use Rattle.actions.specs.Conflicts.{gathered}
-use Rattle.actions.specs.Taken.{Taken}
+use Rattle.claims.specs.Conflicts.{gathered}
+use Rattle.claims.specs.Taken.{Taken}
 use Rattle.reporting.specs.Answers.{owned_actions}
 use Rattle.reporting.specs.Seen.{nodes_seen}
 use Rattle.reporting.proofs.Taken.{conflicts_taken}

@@ -1,8 +1,0 @@
-use Rattle.std.proofs.Common.{◌∙◌}
-use Rattle.actions.proofs.ClaimLemmas.{actions-next}
-use Rattle.actions.proofs.claims.all_claims.Goals as goal
-
-pub loop-i-preserved : goal.loop-i-preserved
-loop-i-preserved c =
-    actions-next c.args.owned.now c.loop-i.i c.item_at.result.now c.loop-i.claims.items c.claim_all.new.claims.items c.item_at.ensures c.in_ok-claim_all.ensures
-    ∙ c.loop-i.invariant

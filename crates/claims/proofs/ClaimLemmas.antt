@@ -1,0 +1,33 @@
+-- One turn of the loops over actions and outputs, and claims that are put in order one part after the other.
+use Rattle.std.proofs.Common.{◌≡◌, ℕ, ◌+◌, List, [], ◌∷◌, ◌++◌, append_assoc, drop, map, slice_get, Some, sym, ap, ◌∙◌, refl}
+use Rattle.depsets.proofs.Turns.{drop_at}
+use Rattle.depsets.specs.declared.element.FileRef.{FileRef}
+use Rattle.claims.specs.Claims.{claim_on, claims_of, claims_from, put_in_order, all_in_order, in_order}
+use Rattle.claims.specs.Taken.{Taken, with_action}
+use Rattle.claims.specs.declared.claiming.Owned.{Owned}
+use Rattle.claims.specs.declared.claiming.Claim.{Claim}
+
+pub outputs-next : (n : ℕ) (label : List ℕ) (fs : List FileRef) (i : ℕ) (f : FileRef) (cs ds : List Claim) → slice_get fs i ≡ Some f → ds ≡ cs ++ claim_on n label f ∷ []
+    → ds ++ map (claim_on n label) (drop (i + 1) fs) ≡ cs ++ map (claim_on n label) (drop i fs)
+outputs-next n label fs i f cs ds p e =
+    ap (λ x. x ++ map (claim_on n label) (drop (i + 1) fs)) e
+    ∙ append_assoc cs (claim_on n label f ∷ []) (map (claim_on n label) (drop (i + 1) fs))
+    ∙ ap (λ l. cs ++ map (claim_on n label) l) (sym (drop_at fs i f p))
+
+pub actions-next : (os : List Owned) (i : ℕ) (o : Owned) (cs ds : List Claim) → slice_get os i ≡ Some o → ds ≡ cs ++ claims_of i o
+    → ds ++ claims_from (i + 1) (drop (i + 1) os) ≡ cs ++ claims_from i (drop i os)
+actions-next os i o cs ds p e =
+    ap (λ x. x ++ claims_from (i + 1) (drop (i + 1) os)) e ∙ append_assoc cs (claims_of i o) (claims_from (i + 1) (drop (i + 1) os))
+    ∙ ap (λ l. cs ++ claims_from i l) (sym (drop_at os i o p))
+
+pub all_in_order-append : (cs ds es : List Claim) → all_in_order cs (ds ++ es) ≡ all_in_order (all_in_order cs ds) es
+all_in_order-append cs [] es = refl
+all_in_order-append cs (d ∷ ds) es = all_in_order-append (put_in_order cs d) ds es
+
+-- an action more, whose claims stand last
+pub taken-more : (t : Taken) (k n : ℕ) (cs ds : List Claim) (o : Owned) → record { actions = k; claims = in_order cs } ≡ t → n ≡ k + 1 → ds ≡ cs ++ claims_of k o
+    → record { actions = n; claims = in_order ds } ≡ with_action t o
+taken-more t k n cs ds o v e d =
+    let last : in_order ds ≡ all_in_order (in_order cs) (claims_of k o) = ap in_order d ∙ all_in_order-append [] cs (claims_of k o) in
+    let here : record { actions = n; claims = in_order ds } ≡ with_action (record { actions = k; claims = in_order cs }) o = λ i. record { actions = e i; claims = last i } in
+    here ∙ ap (λ u. with_action u o) v

@@ -1,0 +1,5 @@
+pub mod ClaimLemmas
+pub mod ClashLemmas
+pub mod ClashUnique
+pub mod OwnerLemmas
+pub mod SortedClaims

@@ -1,0 +1,36 @@
+-- What actions declare, in order.
+use Rattle.std.specs.Prelude.{ℕ, ◌+◌, List, [], ◌∷◌, ◌++◌, map}
+use Rattle.std.specs.declared.cmp.Ordering.{Ordering}
+use Rattle.std.specs.Ordering.{nat_cmp, then_cmp, on}
+use Rattle.std.specs.Cmp.Lexicographic.{slice_cmp}
+use Rattle.std.specs.BTreeSet.{insert_key}
+use Rattle.depsets.specs.declared.element.FileRef.{FileRef}
+use Rattle.claims.specs.declared.claiming.Owned.{Owned}
+use Rattle.claims.specs.declared.claiming.Claim.{Claim}
+
+-- by bytes of the path, then by bytes of the label, then by the place of the action in the list
+abbrev pub claim_cmp : Claim → Claim → Ordering
+claim_cmp = then_cmp (on (λ c. c.path) (slice_cmp nat_cmp)) (then_cmp (on (λ c. c.label) (slice_cmp nat_cmp)) (on (λ c. c.place) nat_cmp))
+
+-- the action at the place in the list, which the label's target registered, declares the File
+abbrev pub claim_on : ℕ → List ℕ → FileRef → Claim
+claim_on n label f = record { path = f.path; label = label; place = n }
+
+abbrev pub claims_of : ℕ → Owned → List Claim
+claims_of n o = map (claim_on n o.label) o.action.outputs
+
+-- those of all actions of a list, whose first is at the place
+abbrev pub claims_from : ℕ → List Owned → List Claim
+claims_from n [] = []
+claims_from n (o ∷ os) = claims_of n o ++ claims_from (n + 1) os
+
+-- one claim more, at its place in the order; an action that names a path twice claims it once
+abbrev pub put_in_order : List Claim → Claim → List Claim
+put_in_order cs c = insert_key claim_cmp cs c
+
+abbrev pub all_in_order : List Claim → List Claim → List Claim
+all_in_order cs [] = cs
+all_in_order cs (d ∷ ds) = all_in_order (put_in_order cs d) ds
+
+abbrev pub in_order : List Claim → List Claim
+in_order ds = all_in_order [] ds

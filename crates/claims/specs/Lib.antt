@@ -1,0 +1,5 @@
+pub mod Claims
+pub mod Conflicts
+pub mod Clashes
+pub mod Labels
+pub mod Taken
