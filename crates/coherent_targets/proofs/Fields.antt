@@ -4,7 +4,7 @@ use Rattle.std.specs.Prelude.{option_map, slice_get, codes, bytes_eq, nat_lt, le
 use Rattle.depsets.specs.Flat.{nodes}
 use Rattle.depsets.specs.declared.element.Element.{Element}
 use Rattle.depsets.specs.declared.element.Element.TheVariants as element
-use Rattle.values.specs.Tree.{trees}
+use Rattle.values.specs.Tree.{trees, pairs}
 use Rattle.values.specs.View.{FrozenTree}
 use Rattle.values.specs.declared.cells.TheConstants.{LARGEST}
 use Rattle.values.specs.declared.leaf.Leaf.{Leaf}
@@ -13,7 +13,7 @@ use Rattle.values.specs.declared.leaf.Object.{Object}
 use Rattle.values.specs.declared.leaf.Object.TheVariants as object
 use Rattle.values.specs.declared.ticks.Kind.TheVariants.{Name, Large}
 use Rattle.operations.specs.Making.{text}
-use Rattle.one_tree.specs.Found.{Set, in_tree, in_trees}
+use Rattle.one_tree.specs.Found.{Set, in_tree, in_trees, in_pairs}
 use Rattle.one_tree.specs.Sets.{AreIn}
 use Rattle.one_tree.proofs.Changed.{both_in}
 use Rattle.holding.proofs.Steps.{none_in, IfSome, IfGiven, either, or_fault_given, HasValue}
@@ -21,7 +21,9 @@ use Rattle.workspace.specs.Labels.{LabelParts}
 use Rattle.targets.specs.Checks.{Dependency}
 use Rattle.targets.specs.declared.attributes.AttributeValue.{AttributeValue}
 use Rattle.targets.specs.declared.attributes.AttributeValue.TheVariants as has
+use Rattle.targets.specs.TextDicts.{entry_key, entry_tree}
 use Rattle.targets.specs.declared.target.Target.{Target}
+use Rattle.targets.specs.declared.text_dict.TextEntry.{TextEntry}
 use Rattle.outcomes.specs.Found.{in_target}
 use Rattle.contexts.specs.Fields.{object_value, label_value, depset_value, frozen_list, target_field, context_field, value_for, text_tree, element_tree, unless_large, target_tree, attribute_value, files_listed, files_or_name, labels_for, attr_field, object_field, field}
 use Rattle.contexts.specs.Offered.{files_of}
@@ -32,6 +34,10 @@ use Rattle.coherent_targets.proofs.Offered.{map_some, map_all, in_dependencies, 
 all_bare : {A : Type 0} (f : A → FrozenTree) (s : List Set) → ((a : A) → AreIn (in_tree (f a)) s) → (xs : List A) → AreIn (in_trees (trees (map f xs))) s
 all_bare f s k [] = none_in s
 all_bare f s k (x ∷ xs) = both_in (in_tree (f x)) (in_trees (trees (map f xs))) s (k x) (all_bare f s k xs)
+
+entries_bare : (s : List Set) (es : List TextEntry) → AreIn (in_pairs (pairs (map entry_key es) (map entry_tree es))) s
+entries_bare s [] = none_in s
+entries_bare s (e ∷ es) = both_in (in_tree (entry_tree e)) (in_pairs (pairs (map entry_key es) (map entry_tree es))) s (none_in s) (entries_bare s es)
 
 element_bare : (s : List Set) (e : Element) → AreIn (in_tree (element_tree e)) s
 element_bare s (element.Text t) = none_in s
@@ -53,6 +59,7 @@ module _ (s : List Set) (t : Target) (ds : List Dependency) (known : AreIn (in_d
   attribute_in : (v : AttributeValue) → HasValue s (attribute_value ds v)
   attribute_in (has.Key k) = none_in s
   attribute_in (has.Strings ts) = all_bare text_tree s (λ t. none_in s) ts
+  attribute_in (has.StringDict es) = entries_bare s es
   attribute_in (has.Label None) = none_in s
   attribute_in (has.Label (Some l)) = none_in s
   attribute_in (has.Labels ls) = all_bare (target_tree ds) s (λ l. none_in s) ls
