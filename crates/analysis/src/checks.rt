@@ -189,6 +189,7 @@ fn first_in_value<'a>(
     match value {
         AttributeValue::Key(_) => Ok(None),
         AttributeValue::Strings(_) => Ok(None),
+        AttributeValue::StringDict(_) => Ok(None),
         AttributeValue::Label(None) => Ok(None),
         AttributeValue::Label(Some(label)) => refused(alloc, named, label.get(), found),
         AttributeValue::Labels(labels) => first_in_labels(

@@ -43,6 +43,7 @@ fn note_value<'a>(
     match value {
         AttributeValue::Key(_) => Ok(()),
         AttributeValue::Strings(_) => Ok(()),
+        AttributeValue::StringDict(_) => Ok(()),
         AttributeValue::Label(None) => Ok(()),
         AttributeValue::Label(Some(label)) => note(label, seen, labels),
         AttributeValue::Labels(all) => note_all(all.get().as_slice(), seen, labels),

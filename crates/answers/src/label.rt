@@ -11,10 +11,18 @@ use targets::{Outcome, TargetFault};
 use workspace::Label;
 
 /// The analysis of the labels of a workspace, one at a time. It reads the targets alone, so workers share it.
-#[derive(Drop)]
 pub struct LabelAnalysis<'a> {
     targets: &'a Targets,
     analysis: Analysis<'a>,
+}
+
+impl<'a> Drop for LabelAnalysis<'a> {
+    fn drop(self) {
+        let LabelAnalysis {
+            targets: _,
+            analysis: _,
+        } = self;
+    }
 }
 
 impl<'a> Model for LabelAnalysis<'a> {

@@ -4,7 +4,7 @@ use Rattle.std.specs.Cmp.Lexicographic.{pointwise}
 use Rattle.std.specs.Str.{bytes_eq}
 use Rattle.std.proofs.lemmas.Bool.Decides.{Decides-int_eq}
 use Rattle.std.proofs.lemmas.Slice.Eq.{bytes_eq-Decides, slice_eq-Decides}
-use Rattle.depsets.proofs.Same.{id_own, id_same, element_own}
+use Rattle.depsets.specs.Alike.{id_own, id_same, element_own}
 use Rattle.depsets.specs.Elements.{same_element}
 use Rattle.depsets.specs.Listed.{same_id}
 use Rattle.depsets.specs.Own.{Own}

@@ -2,6 +2,7 @@
 use Rattle.std.specs.Prelude.{◌≡◌, ℕ, pos, true, false, List, [], ◌∷◌, Option, Some, None, Result, Ok, Err, refl, codes}
 use Rattle.values.specs.declared.cells.Cell.{Cell}
 use Rattle.values.specs.declared.cells.Cell.TheVariants as cell
+use Rattle.values.specs.declared.key.Key.{Key}
 use Rattle.values.specs.declared.key.Key.TheVariants as index
 use Rattle.values.specs.declared.leaf.AttributeKind.{AttributeKind}
 use Rattle.values.specs.declared.leaf.AttributeKind.TheVariants as kind
@@ -21,6 +22,7 @@ use Rattle.operations.specs.Making.{none, truth, number, text}
 use Rattle.operations.specs.declared.state.State.{State}
 use Rattle.workspace.specs.Labels.{LabelParts}
 use Rattle.workspace.specs.Paths.{are_segments}
+use Rattle.targets.specs.TextDicts.{entry_of}
 use Rattle.targets.specs.declared.attributes.AllowFiles.TheVariants as allowed
 use Rattle.targets.specs.declared.attributes.Attribute.{Attribute}
 use Rattle.targets.specs.declared.attributes.AttributeValue.TheVariants as has
@@ -116,6 +118,34 @@ strings = refl
 
 strings_no_tuple : attribute kind.StringList (with_one (codes "default") (at 0)) (cell.Tuple [] ∷ []) ≡ Err fault.Wrong
 strings_no_tuple = refl
+
+-- attr.string_dict(default = {"B": "2", "A": "\n"}), of a dict with a key that is no string, with a value that is none, of a list
+abbrev dict : List (Key × Value) → Cell
+dict es = cell.Dict es 0
+
+no_files_of_dicts : attribute kind.StringDict (with_one (codes "allow_files") (truth true)) [] ≡ Err fault.Arity
+no_files_of_dicts = refl
+
+dict_bare : attribute kind.StringDict (call [] []) [] ≡ made kind.StringDict [] (plainly kind.StringDict)
+dict_bare = refl
+
+dict_of_strings : attribute kind.StringDict (with_one (codes "default") (at 0))
+    (dict ((index.Text (codes "B"), string (codes "2")) ∷ (index.Text (codes "A"), string (codes "\n")) ∷ []) ∷ [])
+    ≡ made kind.StringDict (dict ((index.Text (codes "B"), string (codes "2")) ∷ (index.Text (codes "A"), string (codes "\n")) ∷ []) ∷ [])
+    (record (plainly kind.StringDict) { default = Some (has.StringDict (entry_of (codes "B") (codes "2") ∷ entry_of (codes "A") (codes "\n") ∷ [])) })
+dict_of_strings = refl
+
+dict_of_numbers : attribute kind.StringDict (with_one (codes "default") (at 0)) (dict ((index.Text (codes "A"), number (pos 1)) ∷ []) ∷ []) ≡ Err fault.Wrong
+dict_of_numbers = refl
+
+dict_by_numbers : attribute kind.StringDict (with_one (codes "default") (at 0)) (dict ((index.Number (pos 1), string (codes "A")) ∷ []) ∷ []) ≡ Err fault.Wrong
+dict_by_numbers = refl
+
+dict_no_list : attribute kind.StringDict (with_one (codes "default") (at 0)) (list [] ∷ []) ≡ Err fault.Wrong
+dict_no_list = refl
+
+list_no_dict : attribute kind.StringList (with_one (codes "default") (at 0)) (dict [] ∷ []) ≡ Err fault.Wrong
+list_no_dict = refl
 
 -- attr.label(default = None), of "//c:d", of ":d"
 label_none : attribute kind.Label (with_one (codes "default") none) [] ≡ made kind.Label [] (record (plainly kind.Label) { default = Some (has.Label None) })

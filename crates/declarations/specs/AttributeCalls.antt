@@ -1,7 +1,7 @@
 -- Declarations of attributes (Bazel documentation, "attr"; which values each parameter takes is docs/PROFILE.md, "Calls for
 -- attributes"). All that is wrong, once the arguments fit, is `type`.
 use Rattle.std.specs.Prelude.{ℕ, Bool, true, false, List, [], ◌∷◌, ◌++◌, length, Option, Some, None, option_map, option_and_then, Result, Ok, Err, codes}
-use Rattle.values.specs.Shape.{Shape, key, atom, items, shape}
+use Rattle.values.specs.Shape.{Shape, key, atom, items, entries, shape}
 use Rattle.values.specs.declared.cells.Cell.{Cell}
 use Rattle.values.specs.declared.key.Key.{Key}
 use Rattle.values.specs.declared.key.Key.TheVariants as index
@@ -19,6 +19,7 @@ use Rattle.operations.specs.States.{then_give}
 use Rattle.operations.specs.declared.state.State.{State}
 use Rattle.workspace.specs.Labels.{LabelParts, label_of}
 use Rattle.targets.specs.RuleCalls.{each_of}
+use Rattle.targets.specs.TextDicts.{text_entry}
 use Rattle.targets.specs.declared.attributes.AllowFiles.{AllowFiles}
 use Rattle.targets.specs.declared.attributes.AllowFiles.TheVariants as allowed
 use Rattle.targets.specs.declared.attributes.Attribute.{Attribute}
@@ -38,6 +39,7 @@ attribute_parameters kind.String = and_others (named_only (codes "values") ∷ [
 attribute_parameters kind.Int = and_others (named_only (codes "values") ∷ [])
 attribute_parameters kind.Bool = and_others []
 attribute_parameters kind.StringList = and_others []
+attribute_parameters kind.StringDict = and_others []
 attribute_parameters kind.Label = and_others (named_only (codes "providers") ∷ named_only (codes "allow_files") ∷ [])
 attribute_parameters kind.LabelList = and_others (named_only (codes "providers") ∷ named_only (codes "allow_files") ∷ [])
 
@@ -74,12 +76,14 @@ or_else (Some a) o = Some a
 or_else None o = o
 
 module _ (h : List Cell) where
-  -- what is shown, as a default of this kind. A list of strings is no tuple, a list of labels may be one; None is a label's.
+  -- What is shown, as a default of this kind. A list of strings is no tuple, a list of labels may be one; None is a label's. Of a
+  -- dict all keys and all values are strings.
   abbrev pub default_typed : AttributeKind → Shape → Option AttributeValue
   default_typed kind.String (key (index.Text t)) = Some (has.Key (index.Text t))
   default_typed kind.Int (key (index.Number n)) = Some (has.Key (index.Number n))
   default_typed kind.Bool (key (index.Truth b)) = Some (has.Key (index.Truth b))
   default_typed kind.StringList (items true xs) = option_map has.Strings (each_of (λ v. string_in (shape h v)) xs)
+  default_typed kind.StringDict (entries es) = option_map has.StringDict (each_of (text_entry h) es)
   default_typed kind.Label (atom plain.None) = Some (has.Label None)
   default_typed kind.Label (key (index.Text t)) = option_map (λ l. has.Label (Some l)) (label_of t None)
   default_typed kind.LabelList (items j xs) = option_map has.Labels (each_of (λ v. whole_label_in (shape h v)) xs)
@@ -145,6 +149,6 @@ abbrev pub attribute_declared : State → Declarations → Option Attribute → 
 attribute_declared s d (Some a) = Ok (attribute_value s a.kind (length d.attributes), with_attribute d a)
 attribute_declared s d None = Err Wrong
 
--- attr.string(..), attr.int(..), attr.bool(..), attr.string_list(..), attr.label(..), attr.label_list(..)
+-- attr.string(..), attr.int(..), attr.bool(..), attr.string_list(..), attr.string_dict(..), attr.label(..), attr.label_list(..)
 abbrev pub new_attribute : AttributeKind → Given → State → Declarations → Result (Value × Declarations) Kind
 new_attribute k g s d = then_give (bound (attribute_parameters k) g) (λ os. attribute_declared s d (attribute_in s.heap k g))

@@ -55,6 +55,7 @@ fn check_attribute(kind: AttributeKind, arguments: &Arguments<'_, '_>) -> Result
         AttributeKind::Int => check_arguments(&with_values(), arguments),
         AttributeKind::Bool => check_arguments(&alone(), arguments),
         AttributeKind::StringList => check_arguments(&alone(), arguments),
+        AttributeKind::StringDict => check_arguments(&alone(), arguments),
         AttributeKind::Label => check_arguments(&with_files(), arguments),
         AttributeKind::LabelList => check_arguments(&with_files(), arguments),
     }

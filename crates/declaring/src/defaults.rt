@@ -10,7 +10,7 @@ use crate::lists::{strings, whole_label, whole_labels};
 use operands::Operand;
 use plain::Shared;
 use std::alloc::{AllocError, Global};
-use targets::AttributeValue;
+use targets::{AttributeValue, TextDict};
 use values::{AttributeKind, Group, Heap, Key, Leaf, Seen};
 
 /// What `default` says, which may be missing; None where it is of another type.
@@ -45,6 +45,7 @@ fn default_typed(
         AttributeKind::Int => Ok(number_default(value)),
         AttributeKind::Bool => Ok(truth_default(value)),
         AttributeKind::StringList => strings_default(alloc, heap, value),
+        AttributeKind::StringDict => dict_default(alloc, heap, value),
         AttributeKind::Label => label_default(alloc, value),
         AttributeKind::LabelList => labels_default(alloc, heap, value),
     }
@@ -95,6 +96,24 @@ fn strings_default(
     };
     match strings(alloc, heap, *items)? {
         Some(texts) => Ok(Some(AttributeValue::Strings(Shared::new(alloc, texts)?))),
+        None => Ok(None),
+    }
+}
+
+/// A dict whose keys and values are strings.
+fn dict_default(
+    alloc: Global,
+    heap: &Heap,
+    value: &Seen<'_>,
+) -> Result<Option<AttributeValue>, AllocError>
+    ensures { IfOk result
+        (λ o. o ≡ default_typed heap.now AttributeKind.StringDict (seen value.now)) }
+{
+    let Seen::Dict(table) = value else {
+        return Ok(None);
+    };
+    match TextDict::read(alloc, heap, *table)? {
+        Some(dict) => Ok(Some(AttributeValue::StringDict(Shared::new(alloc, dict)?))),
         None => Ok(None),
     }
 }

@@ -1,7 +1,6 @@
 pub mod Keys
 pub mod Skip
 pub mod Turns
-pub mod Same
 pub mod TypeLemmas
 pub mod Walked
 pub mod Crossing

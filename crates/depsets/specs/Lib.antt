@@ -10,3 +10,5 @@ pub mod Falls
 pub mod Skip
 pub mod Listed
 pub mod Walker
+pub mod Digests
+pub mod Alike

@@ -11,6 +11,7 @@ ghost use Rattle.depsets.specs.Refusals.{refusal};
 ghost use Rattle.depsets.specs.Own.{Own};
 ghost use Rattle.depsets.specs.Orders.{is_preorder};
 
+use crate::digest::{DigestedElement, DigestedId};
 use crate::{Element, ElementType};
 use plain::Text;
 use std::alloc::{AllocError, Global};
@@ -97,9 +98,9 @@ pub struct Depset {
 #[derive(Drop)]
 #[cycle(depset)]
 struct Node {
-    id: Id,
+    id: DigestedId,
     order: Order,
-    direct: Vec<Element>,
+    direct: Vec<DigestedElement>,
     children: Vec<Depset>,
     levels: u32,
     element_type: Option<ElementType>,
@@ -159,8 +160,12 @@ impl Depset {
         if below >= LEVELS {
             return Err(DepsetError::Deep);
         }
+        let direct = match digested(alloc, direct) {
+            Ok(direct) => direct,
+            Err(_) => return Err(DepsetError::NoMemory),
+        };
         let node = Node {
-            id,
+            id: DigestedId::new(id),
             order,
             direct,
             children,
@@ -185,6 +190,13 @@ impl Depset {
     pub fn id(&self) -> &Id
         ensures { result.now ≡ (label self.now).id }
     {
+        self.node.id.get()
+    }
+
+    /// Its id, with the digest by which a listing looks it up.
+    pub(crate) fn digested_id(&self) -> &DigestedId
+        ensures { result.now ≡ (label self.now).id }
+    {
         &self.node.id
     }
 
@@ -195,8 +207,8 @@ impl Depset {
         self.node.order
     }
 
-    /// Its own elements, without those of its children.
-    pub fn direct(&self) -> &[Element]
+    /// Its own elements, without those of its children. Each is lent with the digest by which a listing looks it up.
+    pub fn direct(&self) -> &[DigestedElement]
         ensures { result.now ≡ (label self.now).direct }
     {
         self.node.direct.as_slice()
@@ -231,6 +243,17 @@ impl Depset {
     {
         self.element_type().is_none()
     }
+}
+
+/// These elements, each with its digest.
+fn digested(alloc: Global, elements: Vec<Element>) -> Result<Vec<DigestedElement>, AllocError>
+    ensures { IfOk result (λ v. v.items ≡ elements.items) }
+{
+    let mut all = Vec::with_capacity(alloc, elements.len())?;
+    for element in elements {
+        all.push(DigestedElement::new(element))?;
+    }
+    Ok(all)
 }
 
 /// The type of these elements, as far as they have one.

@@ -2,6 +2,8 @@
 ghost use Rattle.std.specs.Prelude.{◌≡◌, ◌<◌, [], Some, OnOk, length, slice_get};
 ghost use Rattle.depsets.specs.Keys.{has, keep};
 
+use crate::Element;
+use crate::digest::DigestedElement;
 use indexmap::IndexSet;
 use std::alloc::{AllocError, Global};
 use std::hash::Hash;
@@ -11,7 +13,7 @@ use std::marker::Model;
 ///
 /// No item is copied and no count is touched, so that several threads can list the same depset beside each other.
 #[derive(Drop)]
-pub struct Distinct<'a, T: Eq + Hash> {
+pub(crate) struct Distinct<'a, T: Eq + Hash> {
     items: IndexSet<&'a T>,
 }
 
@@ -34,7 +36,7 @@ impl<'a, T: Eq + Hash> Distinct<'a, T> {
     }
 
     /// Whether an equal item is among them.
-    pub fn contains(&self, item: &T) -> bool
+    pub(crate) fn contains(&self, item: &T) -> bool
         ensures { result ≡ has T.eq self.now item.now }
     {
         self.items.contains(&item)
@@ -49,17 +51,56 @@ impl<'a, T: Eq + Hash> Distinct<'a, T> {
     }
 
     /// How many there are.
-    pub fn len(&self) -> usize
+    pub(crate) fn len(&self) -> usize
         ensures { result ≡ length self.now }
     {
         self.items.len()
     }
 
     /// The item at a place.
-    pub fn at(&self, place: usize) -> &'a T
+    pub(crate) fn at(&self, place: usize) -> &'a T
         requires { place < length self.now }
         ensures { slice_get self.now place ≡ Some result.now }
     {
         self.items.as_slice()[place]
+    }
+}
+
+/// The elements of a listing, each once and where it lies.
+#[derive(Drop)]
+pub struct Elements<'a> {
+    found: Distinct<'a, DigestedElement>,
+}
+
+impl<'a> Model for Elements<'a> {
+    ghost use Rattle.std.specs.Prelude.{List};
+    ghost use Rattle.depsets.specs.declared.element.Element.{Element};
+
+    ghost Value = { List Element };
+
+    ghost view = { λ e. e.found };
+}
+
+impl<'a> Elements<'a> {
+    /// These elements.
+    pub(crate) fn of(found: Distinct<'a, DigestedElement>) -> Self
+        ensures { result ≡ found.entry }
+    {
+        Elements { found }
+    }
+
+    /// How many there are.
+    pub fn len(&self) -> usize
+        ensures { result ≡ length self.now }
+    {
+        self.found.len()
+    }
+
+    /// The element at a place.
+    pub fn at(&self, place: usize) -> &'a Element
+        requires { place < length self.now }
+        ensures { slice_get self.now place ≡ Some result.now }
+    {
+        self.found.at(place).get()
     }
 }

@@ -9,11 +9,13 @@
 #![tactic(auto)]
 
 mod depset;
+mod digest;
 mod distinct;
 mod element;
 mod listing;
 
 pub use depset::{Depset, DepsetError, Id, LEVELS, Order};
-pub use distinct::Distinct;
+pub use digest::DigestedElement;
+pub use distinct::Elements;
 pub use element::{Element, ElementType, FileRef};
 pub use listing::{ITEMS, ListError, Listing};

@@ -12,8 +12,9 @@ ghost use Rattle.depsets.specs.Keys.{keep};
 ghost use Rattle.depsets.specs.Elements.{same_element};
 ghost use Rattle.depsets.specs.Listed.{visited, visited_all, inside, took, same_id, flat, work, walked, IsCoherent};
 
-use crate::distinct::Distinct;
-use crate::{Depset, Element, Id};
+use crate::Depset;
+use crate::digest::{DigestedElement, DigestedId};
+use crate::distinct::{Distinct, Elements};
 use std::alloc::{AllocError, Global};
 use thiserror::Error;
 
@@ -25,7 +26,7 @@ pub const ITEMS: usize = 1_048_576;
 /// A step is the depset itself, one link to a child, or one direct element.
 #[derive(Drop)]
 pub struct Listing<'a> {
-    pub items: Distinct<'a, Element>,
+    pub items: Elements<'a>,
     pub steps: u64,
 }
 
@@ -67,7 +68,7 @@ impl Depset {
             cursor,
         } = walker;
         Ok(Listing {
-            items,
+            items: Elements::of(items),
             steps: cursor.steps,
         })
     }
@@ -124,8 +125,8 @@ impl Cursor {
 /// A walk: the ids that it has left, the items that it has taken, and its steps.
 #[derive(Drop)]
 struct Walker<'a> {
-    seen: Distinct<'a, Id>,
-    items: Distinct<'a, Element>,
+    seen: Distinct<'a, DigestedId>,
+    items: Distinct<'a, DigestedElement>,
     cursor: Cursor,
 }
 
@@ -148,11 +149,11 @@ impl<'a> Walker<'a> {
     fn visit(&mut self, d: &'a Depset, preorder: bool) -> Result<(), AllocError>
         ensures { OnOk result (walk_of self.new ≡ visited preorder d.now (walk_of self.old)) }
     {
-        if self.seen.contains(d.id()) {
+        if self.seen.contains(d.digested_id()) {
             return Ok(());
         }
         self.visit_inside(d, preorder)?;
-        self.seen.put(d.id())?;
+        self.seen.put(d.digested_id())?;
         Ok(())
     }
 
@@ -185,7 +186,10 @@ impl<'a> Walker<'a> {
 }
 
 /// Takes an element, if it is not among the items.
-fn take<'a>(items: &mut Distinct<'a, Element>, element: &'a Element) -> Result<(), AllocError>
+fn take<'a>(
+    items: &mut Distinct<'a, DigestedElement>,
+    element: &'a DigestedElement,
+) -> Result<(), AllocError>
     ensures { OnOk result (items.new ≡ keep same_element items.old element.now) }
 {
     items.put(element)

@@ -14,6 +14,7 @@ kind_named x =
     if bytes_eq x (codes "int") then Some kind.Int else
     if bytes_eq x (codes "bool") then Some kind.Bool else
     if bytes_eq x (codes "string_list") then Some kind.StringList else
+    if bytes_eq x (codes "string_dict") then Some kind.StringDict else
     if bytes_eq x (codes "label") then Some kind.Label else
     if bytes_eq x (codes "label_list") then Some kind.LabelList else
     None

@@ -31,6 +31,7 @@ fn kind_named(name: &str) -> Option<AttributeKind>
         "int" => Some(AttributeKind::Int),
         "bool" => Some(AttributeKind::Bool),
         "string_list" => Some(AttributeKind::StringList),
+        "string_dict" => Some(AttributeKind::StringDict),
         "label" => Some(AttributeKind::Label),
         "label_list" => Some(AttributeKind::LabelList),
         _ => None,

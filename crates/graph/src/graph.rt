@@ -19,10 +19,18 @@ use workspace::Label;
 /// The labels that are reached, by number from 0, and who depends on whom.
 ///
 /// The nodes that are not cyclic come first, each after all that it depends on.
-#[derive(Drop)]
 pub struct Graph {
     labels: Vec<Shared<Label>>,
     edges: Edges,
+}
+
+impl Drop for Graph {
+    fn drop(self) {
+        let Graph {
+            labels: _,
+            edges: _,
+        } = self;
+    }
 }
 
 impl Model for Graph {

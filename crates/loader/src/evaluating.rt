@@ -15,11 +15,20 @@ use values::Kind;
 
 /// What evaluations of files stand on, beside the modules that are known: the files as they were read, the provider
 /// `DefaultInfo`, and how many ticks each evaluation may use.
-#[derive(Drop)]
 pub(crate) struct Evaluator {
     pub sources: Sources,
     pub info: DefaultInfo,
     pub limit: u64,
+}
+
+impl Drop for Evaluator {
+    fn drop(self) {
+        let Evaluator {
+            sources: _,
+            info: _,
+            limit: _,
+        } = self;
+    }
 }
 
 impl Evaluate<usize, Module, FaultKind, Kind> for Evaluator {

@@ -24,10 +24,18 @@ use workspace::Workspace;
 
 /// The files of a workspace, in ascending order of their paths, each read and compiled, and its modules, each evaluated. The
 /// place of a file, from 0, is its number.
-#[derive(Drop)]
 pub struct LoadedFiles {
     evaluator: Evaluator,
     modules: Modules<Module, FaultKind, Kind>,
+}
+
+impl Drop for LoadedFiles {
+    fn drop(self) {
+        let LoadedFiles {
+            evaluator: _,
+            modules: _,
+        } = self;
+    }
 }
 
 impl Model for LoadedFiles {

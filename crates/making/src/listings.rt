@@ -6,7 +6,7 @@ ghost use Rattle.operations.specs.States.{Does, Stays};
 ghost use Rattle.operations.specs.Making.{new_list};
 ghost use Rattle.operations.specs.Depsets.{element_value, to_list};
 
-use depsets::Distinct;
+use depsets::Elements;
 use operations::State;
 use std::alloc::{AllocError, Global};
 use values::{Broken, Depset, Element, Items, Key, Leaf, Value};
@@ -35,7 +35,7 @@ fn listing(alloc: Global, depset: &Depset) -> Result<Items, AllocError>
 }
 
 /// Elements as values.
-fn element_values(alloc: Global, elements: &Distinct<'_, Element>) -> Result<Items, AllocError>
+fn element_values(alloc: Global, elements: &Elements<'_>) -> Result<Items, AllocError>
     ensures { IfOk result (λ items. items ≡ map element_value elements.now) }
 {
     let mut items = Items::with_capacity(alloc, elements.len())?;

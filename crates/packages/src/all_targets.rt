@@ -27,12 +27,22 @@ use values::Kind;
 use workspace::Label;
 
 /// A workspace whose `BUILD` files were evaluated, each once.
-#[derive(Drop)]
 pub struct Targets {
     alloc: Global,
     files: LoadedFiles,
     packages: IndexMap<Text, Package>,
     faults: Vec<FileFault<FaultKind, Kind>>,
+}
+
+impl Drop for Targets {
+    fn drop(self) {
+        let Targets {
+            alloc: _,
+            files: _,
+            packages: _,
+            faults: _,
+        } = self;
+    }
 }
 
 impl Model for Targets {

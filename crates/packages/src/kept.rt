@@ -15,10 +15,18 @@ use values::Kind;
 use workspace::Label;
 
 /// The targets that a package declares, in order, and what each depends on.
-#[derive(Drop)]
 pub(crate) struct DeclaredTargets {
     targets: PackageTargets,
     dependencies: Vec<Sequence<Shared<Label>>>,
+}
+
+impl Drop for DeclaredTargets {
+    fn drop(self) {
+        let DeclaredTargets {
+            targets: _,
+            dependencies: _,
+        } = self;
+    }
 }
 
 impl Model for DeclaredTargets {

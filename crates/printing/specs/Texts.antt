@@ -89,6 +89,7 @@ attribute_text attribute.String = codes "string"
 attribute_text attribute.Int = codes "int"
 attribute_text attribute.Bool = codes "bool"
 attribute_text attribute.StringList = codes "string_list"
+attribute_text attribute.StringDict = codes "string_dict"
 attribute_text attribute.Label = codes "label"
 attribute_text attribute.LabelList = codes "label_list"
 

@@ -9,7 +9,7 @@ ghost use Rattle.depsets.specs.Listed.{walked};
 ghost use Rattle.values.specs.Leaves.{built_in_text};
 ghost use Rattle.printing.specs.Texts.{hex_digit, unescaped, escape, quoted, separator, joined, truth_text, file_text, export_text, exported_text, provider_text, order_text, attribute_text, object_text, element_text, leaf_text, key_text, field_head, tuple_end};
 
-use depsets::Distinct;
+use depsets::Elements;
 use plain::Text;
 use std::alloc::{AllocError, Global};
 use values::{
@@ -193,6 +193,7 @@ fn attribute_name(kind: AttributeKind) -> &'static str
         AttributeKind::Int => "int",
         AttributeKind::Bool => "bool",
         AttributeKind::StringList => "string_list",
+        AttributeKind::StringDict => "string_dict",
         AttributeKind::Label => "label",
         AttributeKind::LabelList => "label_list",
     }
@@ -247,7 +248,7 @@ fn put_element_at(out: &mut String, place: usize, element: &Element) -> Result<(
 }
 
 /// Appends elements with commas between them.
-fn put_elements(out: &mut String, elements: &Distinct<'_, Element>) -> Result<(), AllocError>
+fn put_elements(out: &mut String, elements: &Elements<'_>) -> Result<(), AllocError>
     ensures { OnOk result (string_bytes out.new
         ≡ string_bytes out.old ++ joined (map element_text elements.now)) }
 {

@@ -4,7 +4,7 @@ ghost use Rattle.std.specs.List.{flat_map};
 ghost use Rattle.printing.specs.Texts.{joined, quoted, separator};
 ghost use Rattle.reporting.specs.Lines.{element_paths, path_of, strings_text};
 
-use depsets::{Distinct, Element, FileRef};
+use depsets::{Element, Elements, FileRef};
 use plain::{Shared, Text};
 use printing::{put_quoted, put_separator};
 use std::alloc::AllocError;
@@ -63,7 +63,7 @@ pub(crate) fn put_file_list(out: &mut String, files: &[Shared<FileRef>]) -> Resu
 }
 
 /// Appends the paths of the Files among elements as strings, with commas between them.
-fn put_element_paths(out: &mut String, elements: &Distinct<'_, Element>) -> Result<(), AllocError>
+fn put_element_paths(out: &mut String, elements: &Elements<'_>) -> Result<(), AllocError>
     ensures { OnOk result (string_bytes out.new ≡ string_bytes out.old
         ++ joined (map quoted (flat_map element_paths elements.now))) }
 {
@@ -78,10 +78,7 @@ fn put_element_paths(out: &mut String, elements: &Distinct<'_, Element>) -> Resu
 }
 
 /// Appends the list of the paths of the Files among elements.
-pub(crate) fn put_element_list(
-    out: &mut String,
-    elements: &Distinct<'_, Element>,
-) -> Result<(), AllocError>
+pub(crate) fn put_element_list(out: &mut String, elements: &Elements<'_>) -> Result<(), AllocError>
     ensures { OnOk result (string_bytes out.new
         ≡ string_bytes out.old ++ strings_text (flat_map element_paths elements.now)) }
 {

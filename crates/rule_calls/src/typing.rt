@@ -15,7 +15,7 @@ use crate::lists::{labels, strings};
 use operands::Operand;
 use plain::Shared;
 use std::alloc::Global;
-use targets::{Attribute, AttributeValue};
+use targets::{Attribute, AttributeValue, TextDict};
 use values::{AttributeKind, Broken, Heap, Key, Kind, Seen};
 
 /// What a value is for an attribute, whose labels are read in a package, or `type`.
@@ -50,6 +50,7 @@ fn typed_shown(
         AttributeKind::Int => number_value(allowed, value),
         AttributeKind::Bool => truth_value(value),
         AttributeKind::StringList => strings_value(alloc, heap, value),
+        AttributeKind::StringDict => dict_value(alloc, heap, value),
         AttributeKind::Label => label_value(alloc, package, value),
         AttributeKind::LabelList => labels_value(alloc, heap, package, value),
     }
@@ -141,6 +142,23 @@ fn strings_value(alloc: Global, heap: &Heap, value: &Seen<'_>) -> Result<Attribu
             Ok(AttributeValue::Strings(texts))
         }
         Err(broken) => Err(broken),
+    }
+}
+
+/// A dict whose keys and values are strings.
+fn dict_value(alloc: Global, heap: &Heap, value: &Seen<'_>) -> Result<AttributeValue, Broken>
+    ensures { (p : List ℕ) (ks : List Key) → Gives (or_fault Kind.Wrong
+        (typed heap.now p AttributeKind.StringDict ks (seen value.now))) result }
+{
+    let Seen::Dict(table) = value else {
+        return Err(Broken::Kind(Kind::Wrong));
+    };
+    match TextDict::read(alloc, heap, *table)? {
+        Some(dict) => {
+            let dict = Shared::new(alloc, dict)?;
+            Ok(AttributeValue::StringDict(dict))
+        }
+        None => Err(Broken::Kind(Kind::Wrong)),
     }
 }
 

@@ -14,10 +14,15 @@ use workspace::{File, Workspace};
 pub type PathAndText = (Text, Text);
 
 /// The files of a workspace in ascending order of their paths. The place of a file, from 0, is its number.
-#[derive(Drop)]
 pub struct Files {
     files: Vec<PathAndText>,
     paths: Vec<Text>,
+}
+
+impl Drop for Files {
+    fn drop(self) {
+        let Files { files: _, paths: _ } = self;
+    }
 }
 
 impl Model for Files {

@@ -24,13 +24,22 @@ use workspace::{is_build_file, is_module};
 pub type Loads = Result<Sequence<LoadStatement>, (FaultKind, u64)>;
 
 /// What is kept of a file.
-#[derive(Drop)]
 pub struct Kept {
     /// The names of its top level, by number.
     pub names: Shared<TopNames>,
     /// How many functions it has, with its top level.
     pub functions: usize,
     pub loads: Loads,
+}
+
+impl Drop for Kept {
+    fn drop(self) {
+        let Kept {
+            names: _,
+            functions: _,
+            loads: _,
+        } = self;
+    }
 }
 
 impl Model for Kept {

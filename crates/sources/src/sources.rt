@@ -26,11 +26,20 @@ use workspace::Workspace;
 
 /// The files of a workspace, in ascending order of their paths: what was read of each, and the codes of all of them. The
 /// place of a file, from 0, is its number.
-#[derive(Drop)]
 pub struct Sources {
     files: Files,
     kept: Vec<Kept>,
     linked: Linked,
+}
+
+impl Drop for Sources {
+    fn drop(self) {
+        let Sources {
+            files: _,
+            kept: _,
+            linked: _,
+        } = self;
+    }
 }
 
 impl Model for Sources {

@@ -9,7 +9,7 @@ ghost use Rattle.contexts.specs.Fields.{attribute_labels, files_listed, files_or
 use crate::attributes::frozen_list;
 use crate::dependencies::Dependencies;
 use crate::files::files_of;
-use depsets::{Depset, Distinct, Element};
+use depsets::{Depset, Element, Elements};
 use plain::Shared;
 use std::alloc::{AllocError, Global};
 use targets::AttributeValue;
@@ -112,7 +112,7 @@ fn put_listing(alloc: Global, depset: &Depset, trees: &mut Vec<Frozen>) -> Resul
 }
 
 /// Puts elements last.
-fn put_elements(elements: &Distinct<'_, Element>, trees: &mut Vec<Frozen>) -> Result<(), AllocError>
+fn put_elements(elements: &Elements<'_>, trees: &mut Vec<Frozen>) -> Result<(), AllocError>
     ensures { OnOk result (trees.new.items ≡ trees.old.items ++ map element_tree elements.now) }
 {
     for place in 0..elements.len() {

@@ -21,11 +21,20 @@ use workspace::Label;
 
 /// What the analysis of every target of a workspace takes: its files, with the modules, and the provider `DefaultInfo` and the
 /// mnemonics of actions, made once.
-#[derive(Drop)]
 pub struct Analysis<'a> {
     files: &'a LoadedFiles,
     info: Shared<Provider>,
     mnemonics: Mnemonics,
+}
+
+impl<'a> Drop for Analysis<'a> {
+    fn drop(self) {
+        let Analysis {
+            files: _,
+            info: _,
+            mnemonics: _,
+        } = self;
+    }
 }
 
 impl<'a> Model for Analysis<'a> {

@@ -7,3 +7,5 @@ pub mod NamedTargets
 pub mod Refusals
 pub mod Whole
 pub mod Placing
+pub mod Reading
+pub mod TextDicts

@@ -2,6 +2,7 @@
 use Rattle.std.specs.Prelude.{◌≡◌, ℕ, pos, true, false, List, [], ◌∷◌, Option, None, Some, Ok, Err, refl, codes}
 use Rattle.values.specs.declared.cells.Cell.{Cell}
 use Rattle.values.specs.declared.cells.Cell.TheVariants as cell
+use Rattle.values.specs.declared.key.Key.{Key}
 use Rattle.values.specs.declared.key.Key.TheVariants as index
 use Rattle.values.specs.declared.leaf.AttributeKind.{AttributeKind}
 use Rattle.values.specs.declared.leaf.AttributeKind.TheVariants as kind
@@ -18,6 +19,7 @@ use Rattle.workspace.specs.Labels.{LabelParts}
 use Rattle.workspace.specs.Paths.{are_segments}
 use Rattle.targets.specs.Attributes.{are_attributes}
 use Rattle.targets.specs.RuleCalls.{build_file, module_file, implementation, rule_call}
+use Rattle.targets.specs.TextDicts.{entry_of}
 use Rattle.targets.specs.declared.attributes.AllowFiles.TheVariants as allowed
 use Rattle.targets.specs.declared.attributes.Attribute.{Attribute}
 use Rattle.targets.specs.declared.attributes.AttributeValue.{AttributeValue}
@@ -25,6 +27,7 @@ use Rattle.targets.specs.declared.attributes.AttributeValue.TheVariants as has
 use Rattle.targets.specs.declared.attributes.NamedAttribute.{NamedAttribute}
 use Rattle.targets.specs.declared.attributes.Rule.{Rule}
 use Rattle.targets.specs.declared.target.Target.{Target}
+use Rattle.targets.specs.declared.text_dict.TextEntry.{TextEntry}
 
 -- a BUILD file's evaluation with these cells, and so many ticks used of five
 abbrev evaluation : List Cell → ℕ → State
@@ -229,6 +232,57 @@ default_is_not_asked = refl
 no_list_of_texts : in_a [] n (x_and (codes "words") at_0) (list_of (number (pos 1) ∷ [])) ≡ Err fault.Wrong
 unfolding are_segments
 no_list_of_texts = refl
+
+-- e = rule(_w, {"env": attr.string_dict(default = {"A": "1"})})
+abbrev e : Rule
+e = rule (called (codes "env") (with_default kind.StringDict (Some (has.StringDict (entry_of (codes "A") (codes "1") ∷ [])))) ∷ [])
+
+abbrev e_target : List TextEntry → Target
+e_target es = record { label = label (codes "x"); rule = e; values = has.StringDict es ∷ [] }
+
+-- the dict in cell 0, of entries
+abbrev dict_of : List (Key × Value) → List Cell
+dict_of es = cell.Dict es 0 ∷ []
+
+default_dict : in_a [] e x_alone [] ≡ Ok (e_target (entry_of (codes "A") (codes "1") ∷ []), evaluation [] 0)
+unfolding are_segments freeze_at
+default_dict = refl
+
+-- env = {"B": "2", "A": "\n"}: the order is kept, and the dict, its two keys and its two values are frozen
+abbrev given_entries : List Cell
+given_entries = dict_of ((index.Text (codes "B"), text (codes "2")) ∷ (index.Text (codes "A"), text (codes "\n")) ∷ [])
+
+given_dict : in_a [] e (x_and (codes "env") at_0) given_entries
+    ≡ Ok (e_target (entry_of (codes "B") (codes "2") ∷ entry_of (codes "A") (codes "\n") ∷ []), evaluation given_entries 5)
+unfolding are_segments freeze_at
+given_dict = refl
+
+-- with one tick less left
+no_tick_for_dict : rule_call (build_file (codes "a") []) e (x_and (codes "env") at_0) (evaluation given_entries 1) ≡ Err fault.Steps
+unfolding are_segments freeze_at
+no_tick_for_dict = refl
+
+-- env = {}: that is no default
+empty_dict : in_a [] e (x_and (codes "env") at_0) (dict_of []) ≡ Ok (e_target [], evaluation (dict_of []) 1)
+unfolding are_segments freeze_at
+empty_dict = refl
+
+-- env = {1: "a"}, env = {"a": 1}, env = [], env = (): other types
+key_is_no_text : in_a [] e (x_and (codes "env") at_0) (dict_of ((index.Number (pos 1), text (codes "a")) ∷ [])) ≡ Err fault.Wrong
+unfolding are_segments
+key_is_no_text = refl
+
+value_is_no_text : in_a [] e (x_and (codes "env") at_0) (dict_of ((index.Text (codes "a"), number (pos 1)) ∷ [])) ≡ Err fault.Wrong
+unfolding are_segments
+value_is_no_text = refl
+
+list_is_no_dict : in_a [] e (x_and (codes "env") at_0) (list_of []) ≡ Err fault.Wrong
+unfolding are_segments
+list_is_no_dict = refl
+
+tuple_is_no_dict : in_a [] e (x_and (codes "env") at_0) (cell.Tuple [] ∷ []) ≡ Err fault.Wrong
+unfolding are_segments
+tuple_is_no_dict = refl
 
 -- d = rule(_w, {"deps": attr.label_list(default = ["//a:b", "//a:b"])}): a default may have a label twice, also where None is given
 abbrev d : Rule

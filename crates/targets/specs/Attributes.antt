@@ -26,6 +26,7 @@ are_attributes named = list_all is_attribute named
 abbrev pub labels_in : AttributeValue → List LabelParts
 labels_in (has.Key k) = []
 labels_in (has.Strings ts) = []
+labels_in (has.StringDict es) = []
 labels_in (has.Label None) = []
 labels_in (has.Label (Some l)) = l ∷ []
 labels_in (has.Labels ls) = ls

@@ -7,12 +7,13 @@ use Rattle.targets.specs.declared.attributes.Attribute.{Attribute}
 use Rattle.targets.specs.declared.attributes.AttributeValue.{AttributeValue}
 use Rattle.targets.specs.declared.attributes.AttributeValue.TheVariants as has
 
--- the default of a kind: `""`, `0`, `False`, `[]`, None, `[]`
+-- the default of a kind: `""`, `0`, `False`, `[]`, `{}`, None, `[]`
 abbrev pub default_of_kind : AttributeKind → AttributeValue
 default_of_kind kind.String = has.Key (index.Text [])
 default_of_kind kind.Int = has.Key (index.Number (pos 0))
 default_of_kind kind.Bool = has.Key (index.Truth false)
 default_of_kind kind.StringList = has.Strings []
+default_of_kind kind.StringDict = has.StringDict []
 default_of_kind kind.Label = has.Label None
 default_of_kind kind.LabelList = has.Labels []
 

@@ -3,7 +3,7 @@
 use Rattle.std.specs.Prelude.{ℕ, Bool, true, false, not, ◌&&◌, ◌||◌, nat_eq, List, [], ◌∷◌, length, Option, Some, None, option_map, option_and_then, Ok, Err, is_some, if◌then◌else◌, codes, bytes_eq}
 use Rattle.std.specs.List.{list_any, list_all}
 use Rattle.values.specs.Leaves.{same_key}
-use Rattle.values.specs.Shape.{Shape, key, items, shape}
+use Rattle.values.specs.Shape.{Shape, key, items, entries, shape}
 use Rattle.values.specs.Ticking.{Count, Ticking, then_on}
 use Rattle.values.specs.Visits.{all_of}
 use Rattle.values.specs.declared.cells.Cell.{Cell}
@@ -22,6 +22,7 @@ use Rattle.operations.specs.Reading.{string_in}
 use Rattle.operations.specs.States.{Op, with_ticks}
 use Rattle.workspace.specs.Labels.{LabelParts, label_of, legal_label}
 use Rattle.targets.specs.Attributes.{default_of, is_private}
+use Rattle.targets.specs.TextDicts.{text_entry}
 use Rattle.targets.specs.declared.attributes.Attribute.{Attribute}
 use Rattle.targets.specs.declared.attributes.AttributeValue.{AttributeValue}
 use Rattle.targets.specs.declared.attributes.AttributeValue.TheVariants as has
@@ -78,12 +79,14 @@ module _ (h : List Cell) («package» : List ℕ) where
   abbrev pub label_in : Shape → Option LabelParts
   label_in s = option_and_then (λ t. label_of t (Some «package»)) (string_in s)
 
-  -- what is shown, as a value of an attribute of this kind. A list attribute takes a list, and no tuple.
+  -- What is shown, as a value of an attribute of this kind. A list attribute takes a list, and no tuple. Of a dict all keys and
+  -- all values are strings.
   abbrev pub typed : AttributeKind → List Key → Shape → Option AttributeValue
   typed kind.String allowed (key (index.Text t)) = if_allowed allowed (index.Text t)
   typed kind.Int allowed (key (index.Number n)) = if_allowed allowed (index.Number n)
   typed kind.Bool allowed (key (index.Truth b)) = Some (has.Key (index.Truth b))
   typed kind.StringList allowed (items true xs) = option_map has.Strings (each_of (λ v. string_in (shape h v)) xs)
+  typed kind.StringDict allowed (entries es) = option_map has.StringDict (each_of (text_entry h) es)
   typed kind.Label allowed (key (index.Text t)) = option_map (λ l. has.Label (Some l)) (label_of t (Some «package»))
   typed kind.LabelList allowed (items true xs) = option_map has.Labels (each_of (λ v. label_in (shape h v)) xs)
   typed _ _ _ = None

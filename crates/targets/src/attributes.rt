@@ -1,7 +1,7 @@
 //! Rules and their attributes.
 ghost use Rattle.std.specs.Prelude.{◌≡◌, IfOk};
 
-use crate::{RuleAttributes, Sequence};
+use crate::{RuleAttributes, Sequence, TextDict};
 use plain::{Shared, Text};
 use std::alloc::AllocError;
 use values::{AttributeKind, FunctionRef, Key, Names, Provider};
@@ -12,6 +12,7 @@ pub enum AttributeValue {
     /// A string, a whole number or a bool.
     Key(Key),
     Strings(Shared<Names>),
+    StringDict(Shared<TextDict>),
     Label(Option<Shared<Label>>),
     Labels(Shared<Sequence<Shared<Label>>>),
 }
@@ -61,6 +62,7 @@ impl AttributeValue {
         match self {
             AttributeValue::Key(key) => Ok(AttributeValue::Key(key.share()?)),
             AttributeValue::Strings(texts) => Ok(AttributeValue::Strings(texts.share()?)),
+            AttributeValue::StringDict(dict) => Ok(AttributeValue::StringDict(dict.share()?)),
             AttributeValue::Label(None) => Ok(AttributeValue::Label(None)),
             AttributeValue::Label(Some(label)) => Ok(AttributeValue::Label(Some(label.share()?))),
             AttributeValue::Labels(labels) => Ok(AttributeValue::Labels(labels.share()?)),
@@ -73,6 +75,7 @@ impl Drop for AttributeValue {
         match self {
             AttributeValue::Key(_) => {}
             AttributeValue::Strings(_) => {}
+            AttributeValue::StringDict(_) => {}
             AttributeValue::Label(_) => {}
             AttributeValue::Labels(_) => {}
         }

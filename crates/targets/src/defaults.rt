@@ -2,7 +2,7 @@
 ghost use Rattle.std.specs.Prelude.{◌≡◌, [], IfOk};
 ghost use Rattle.targets.specs.Attributes.{default_of, default_of_kind};
 
-use crate::{Attribute, AttributeValue, Sequence};
+use crate::{Attribute, AttributeValue, Sequence, TextDict};
 use plain::{Shared, Text};
 use std::alloc::{AllocError, Global};
 use values::{AttributeKind, Key, Names};
@@ -26,6 +26,7 @@ fn default_of_kind(alloc: Global, kind: AttributeKind) -> Result<AttributeValue,
         AttributeKind::Int => Ok(AttributeValue::Key(Key::Number(0))),
         AttributeKind::Bool => Ok(AttributeValue::Key(Key::Truth(false))),
         AttributeKind::StringList => no_strings(alloc),
+        AttributeKind::StringDict => no_entries(alloc),
         AttributeKind::Label => Ok(AttributeValue::Label(None)),
         AttributeKind::LabelList => no_labels(alloc),
     }
@@ -44,6 +45,14 @@ fn no_strings(alloc: Global) -> Result<AttributeValue, AllocError>
 {
     let strings = Shared::new(alloc, Names::new(alloc))?;
     Ok(AttributeValue::Strings(strings))
+}
+
+/// No entries.
+fn no_entries(alloc: Global) -> Result<AttributeValue, AllocError>
+    ensures { IfOk result (λ v. v ≡ AttributeValue.StringDict []) }
+{
+    let dict = Shared::new(alloc, TextDict::new(alloc))?;
+    Ok(AttributeValue::StringDict(dict))
 }
 
 /// No labels.

@@ -1,12 +1,17 @@
 -- The keys of entries are distinct, so a set of them has them all, in order.
-use Rattle.std.proofs.Common.{◌≡◌, ℕ, zero, suc, ◌+◌, false, ◌||◌, List, [], ◌∷◌, ◌++◌, length, take, slice_get, Some, if◌then◌else◌, refl, sym, subst, ap, ◌∙◌, arith, add-one}
+use Rattle.std.proofs.Common.{◌≡◌, ℕ, zero, suc, ◌+◌, Bool, false, ◌||◌, List, [], ◌∷◌, ◌++◌, length, take, slice_get, Some, if◌then◌else◌, refl, sym, subst, ap, ◌∙◌, arith, add-one}
 use Rattle.std.specs.List.{list_any, IsDistinct, AllByRecursion}
 use Rattle.indexmap.specs.IndexSet.{insert_key}
+use Rattle.values.specs.Keyed.{AreDistinct}
+use Rattle.values.specs.Leaves.{same_key}
+use Rattle.values.specs.Shape.{zip}
+use Rattle.values.specs.View.{FrozenTree}
 use Rattle.values.specs.Visits.{keys_of}
 use Rattle.values.specs.declared.key.Key.{Key}
 use Rattle.values.specs.declared.value.Value.{Value}
 use Rattle.values.specs.contracts.key.KeyPartialEq.TheImpl.{eq-value}
 use Rattle.values.specs.contracts.key.KeyEq.TheImpl.Laws.{laws-law}
+use Rattle.values.proofs.SeeLemmas.{agree}
 
 all_at : (P : Key → Type 0) (ks : List Key) (i : ℕ) (k : Key) → AllByRecursion P ks → slice_get ks i ≡ Some k → P k
 all_at P [] i k a p = absurd (cc)
@@ -38,3 +43,24 @@ key_at-entry (e ∷ es) (suc i) k v p = key_at-entry es i k v p
 pub length-keys_of : (es : List (Key × Value)) → length (keys_of es) ≡ length es
 length-keys_of [] = refl
 length-keys_of (e ∷ es) = omega (arith, length-keys_of es)
+
+-- ---- distinct by the derived test, and by that of the definitions
+
+pub distinct-derived : (ks : List Key) → IsDistinct eq-value.it ks → AreDistinct ks
+distinct-derived ks d = subst (λ (f : Key → Key → Bool). IsDistinct f ks) (λ i x k. agree x k i) d
+
+pub derived-distinct : (ks : List Key) → AreDistinct ks → IsDistinct eq-value.it ks
+derived-distinct ks d = subst (λ (f : Key → Key → Bool). IsDistinct f ks) (sym (λ i x k. agree x k i)) d
+
+-- the keys that have a value
+
+all-zip : (P : Key → Type 0) (ks : List Key) (ts : List FrozenTree) → AllByRecursion P ks → AllByRecursion P (keys_of (zip ks ts))
+all-zip P [] ts a = tt
+all-zip P (k ∷ ks) [] a = tt
+all-zip P (k ∷ ks) (t ∷ ts) a = (a.0, all-zip P ks ts a.1)
+
+pub distinct-zip : (ks : List Key) (ts : List FrozenTree) → AreDistinct ks → AreDistinct (keys_of (zip ks ts))
+unfolding IsDistinct
+distinct-zip [] ts d = tt
+distinct-zip (k ∷ ks) [] d = tt
+distinct-zip (k ∷ ks) (t ∷ ts) d = (all-zip (λ y. same_key k y ≡ false) ks ts d.0, distinct-zip ks ts d.1)

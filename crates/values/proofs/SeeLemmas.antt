@@ -56,7 +56,7 @@ zip-place (x ∷ ks) (u ∷ ts) zero k v p q = let a : x ≡ k = cc in let b : v
 zip-place (x ∷ ks) (u ∷ ts) (suc i) k v p q = zip-place ks ts i k v p q
 
 -- the derived test of keys is theirs
-agree : (x k : Key) → eq-value.it x k ≡ same_key x k
+pub agree : (x k : Key) → eq-value.it x k ≡ same_key x k
 agree (key.Text s) (key.Text t) = refl
 agree (key.Text s) (key.Number n) = refl
 agree (key.Text s) (key.Truth b) = refl

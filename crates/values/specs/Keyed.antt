@@ -1,5 +1,6 @@
--- Whether entries have a key.
+-- Whether entries have a key, and that keys are distinct.
 use Rattle.std.specs.Prelude.{Bool, List, is_some}
+use Rattle.std.specs.List.{IsDistinct}
 use Rattle.std.specs.Map.{lookup}
 use Rattle.values.specs.Leaves.{same_key}
 use Rattle.values.specs.declared.key.Key.{Key}
@@ -7,3 +8,7 @@ use Rattle.values.specs.declared.value.Value.{Value}
 
 abbrev pub has_key : List (Key × Value) → Key → Bool
 has_key es k = is_some (lookup (same_key k) es)
+
+-- no two keys are the same
+abbrev pub AreDistinct : List Key → Type 0
+AreDistinct ks = IsDistinct same_key ks

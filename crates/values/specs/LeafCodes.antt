@@ -95,36 +95,39 @@ abbrev pub rule_code : Coded RuleRef
 rule_code = code_by (MadeId × Exported) (coded× made_code exported_code) (λ r. (r.id, r.name)) (λ p. record { id = p.0; name = p.1 }) (λ _. refl)
 
 abbrev pub KindSum : Type 0
-KindSum = (Unit {0}) ⊎ ((Unit {0}) ⊎ ((Unit {0}) ⊎ ((Unit {0}) ⊎ ((Unit {0}) ⊎ (Unit {0})))))
+KindSum = (Unit {0}) ⊎ ((Unit {0}) ⊎ ((Unit {0}) ⊎ ((Unit {0}) ⊎ ((Unit {0}) ⊎ ((Unit {0}) ⊎ (Unit {0}))))))
 
 abbrev pub split_kind : AttributeKind → KindSum
 split_kind attribute.String = inl tt
 split_kind attribute.Int = inr (inl tt)
 split_kind attribute.Bool = inr (inr (inl tt))
 split_kind attribute.StringList = inr (inr (inr (inl tt)))
-split_kind attribute.Label = inr (inr (inr (inr (inl tt))))
-split_kind attribute.LabelList = inr (inr (inr (inr (inr tt))))
+split_kind attribute.StringDict = inr (inr (inr (inr (inl tt))))
+split_kind attribute.Label = inr (inr (inr (inr (inr (inl tt)))))
+split_kind attribute.LabelList = inr (inr (inr (inr (inr (inr tt)))))
 
 abbrev pub join_kind : KindSum → AttributeKind
 join_kind (inl u) = attribute.String
 join_kind (inr (inl u)) = attribute.Int
 join_kind (inr (inr (inl u))) = attribute.Bool
 join_kind (inr (inr (inr (inl u)))) = attribute.StringList
-join_kind (inr (inr (inr (inr (inl u))))) = attribute.Label
-join_kind (inr (inr (inr (inr (inr u))))) = attribute.LabelList
+join_kind (inr (inr (inr (inr (inl u))))) = attribute.StringDict
+join_kind (inr (inr (inr (inr (inr (inl u)))))) = attribute.Label
+join_kind (inr (inr (inr (inr (inr (inr u)))))) = attribute.LabelList
 
 pub join_kind-split_kind : (x : AttributeKind) → join_kind (split_kind x) ≡ x
 join_kind-split_kind attribute.String = refl
 join_kind-split_kind attribute.Int = refl
 join_kind-split_kind attribute.Bool = refl
 join_kind-split_kind attribute.StringList = refl
+join_kind-split_kind attribute.StringDict = refl
 join_kind-split_kind attribute.Label = refl
 join_kind-split_kind attribute.LabelList = refl
 
 abbrev pub kind_code : Coded AttributeKind
 kind_code =
     code_by KindSum
-    (coded⊎ coded_unit (coded⊎ coded_unit (coded⊎ coded_unit (coded⊎ coded_unit (coded⊎ coded_unit coded_unit)))))
+    (coded⊎ coded_unit (coded⊎ coded_unit (coded⊎ coded_unit (coded⊎ coded_unit (coded⊎ coded_unit (coded⊎ coded_unit coded_unit))))))
     split_kind join_kind join_kind-split_kind
 
 abbrev pub attribute_code : Coded AttributeRef

@@ -2,7 +2,7 @@
 ghost use Rattle.indexmap.specs.IndexMap.{insert_entry};
 ghost use Rattle.std.specs.Map.{lookup};
 ghost use Rattle.values.specs.Leaves.{same_key};
-ghost use Rattle.values.specs.Keyed.{has_key};
+ghost use Rattle.values.specs.Keyed.{has_key, AreDistinct};
 ghost use Rattle.values.specs.Visits.{keys_of};
 ghost use Rattle.std.specs.Prelude.{◌≡◌, ◌++◌, ◌∷◌, [], ◌<◌, IfOk, OnOk, OnErr, length, slice_get, slice_set, option_copied, MatchOption, ◌≤◌, Some};
 
@@ -220,6 +220,14 @@ impl Entries {
     /// How many there are.
     pub fn len(&self) -> usize
         ensures { result ≡ length self.now }
+    {
+        self.map.len()
+    }
+
+    /// How many there are. No two have one key.
+    pub fn distinct_len(&self) -> usize
+        ensures len { result ≡ length self.now }
+        ensures distinct { AreDistinct (keys_of self.now) }
     {
         self.map.len()
     }

@@ -96,6 +96,7 @@ pub enum AttributeKind {
     Int,
     Bool,
     StringList,
+    StringDict,
     Label,
     LabelList,
 }

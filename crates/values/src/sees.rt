@@ -3,9 +3,11 @@
 //! Nothing is shared or copied to look: a view borrows the heap and the value.
 ghost use Rattle.std.specs.Prelude.{◌≡◌, ◌<◌, ◌≤◌, IfOk, length, slice_get, Some, MatchOption, map};
 ghost use Rattle.std.specs.Map.{lookup};
+ghost use Rattle.values.specs.Keyed.{AreDistinct};
 ghost use Rattle.values.specs.Leaves.{same_key};
 ghost use Rattle.values.specs.Shape.{shape, cell_shape, value_of, slot_of, zip};
 ghost use Rattle.values.specs.Seeing.{item_value, option_value, group_items, table_entries, slot_values, seen};
+ghost use Rattle.values.specs.Visits.{keys_of};
 
 use crate::{Cell, Entries, Frozen, Heap, Key, Leaf, Provider, Value};
 use indexmap::IndexSet;
@@ -170,6 +172,17 @@ impl<'a> Table<'a> {
         }
     }
 
+    /// How many entries there are. No two have one key.
+    pub fn distinct_len(&self) -> usize
+        ensures len { result ≡ length (table_entries self.now) }
+        ensures distinct { AreDistinct (keys_of (table_entries self.now)) }
+    {
+        match self {
+            Table::Values(entries) => entries.distinct_len(),
+            Table::Trees(keys, values) => distinct_pairs(keys, values),
+        }
+    }
+
     /// The key and the value at a place.
     #[inline(always)]
     pub fn at(&self, place: usize) -> Option<(&'a Key, Item<'a>)>
@@ -191,6 +204,14 @@ impl<'a> Table<'a> {
             Table::Trees(keys, values) => tree_of_key(keys, values, key),
         }
     }
+}
+
+/// How many keys have a value. They are distinct, as all the keys are.
+fn distinct_pairs(keys: &IndexSet<Key>, values: &[Frozen]) -> usize
+    ensures len { result ≡ length (zip keys.now.keys values.now) }
+    ensures distinct { AreDistinct (keys_of (zip keys.now.keys values.now)) }
+{
+    keys.len().min(values.len())
 }
 
 fn entry_at<'a>(entries: &'a Entries, place: usize) -> Option<(&'a Key, Item<'a>)>

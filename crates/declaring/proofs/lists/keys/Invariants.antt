@@ -3,7 +3,7 @@ use Rattle.values.specs.Seeing.{group_items}
 use Rattle.values.specs.Shape.{shape}
 use Rattle.targets.specs.RuleCalls.{each_of}
 use Rattle.declarations.specs.AttributeCalls.{key_of_kind}
-use Rattle.declaring.proofs.Reading.{behind}
+use Rattle.targets.proofs.Reading.{behind}
 use Rattle.declaring.proofs.lists.keys.Given as goal
 
 abbrev pub invariant-loop-place : goal.invariant-loop-place

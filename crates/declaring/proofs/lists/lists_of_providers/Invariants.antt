@@ -5,7 +5,7 @@ use Rattle.std.specs.Prelude.{option_and_then}
 use Rattle.operations.specs.Reading.{sequence_in}
 use Rattle.targets.specs.RuleCalls.{each_of}
 use Rattle.declarations.specs.AttributeCalls.{all_providers}
-use Rattle.declaring.proofs.Reading.{behind}
+use Rattle.targets.proofs.Reading.{behind}
 use Rattle.declaring.proofs.lists.lists_of_providers.Given as goal
 
 abbrev pub invariant-loop-place : goal.invariant-loop-place

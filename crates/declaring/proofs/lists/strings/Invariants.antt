@@ -3,7 +3,7 @@ use Rattle.values.specs.Seeing.{group_items}
 use Rattle.values.specs.Shape.{shape}
 use Rattle.operations.specs.Reading.{string_in}
 use Rattle.targets.specs.RuleCalls.{each_of}
-use Rattle.declaring.proofs.Reading.{behind}
+use Rattle.targets.proofs.Reading.{behind}
 use Rattle.declaring.proofs.lists.strings.Given as goal
 
 abbrev pub invariant-loop-place : goal.invariant-loop-place

@@ -28,6 +28,12 @@ returns-in-StringList c =
     typed-seen h p kind.StringList c.args.attribute.now.kind ks c.args.attribute.now.values (seen c.args.value.now) (seen c.args.value.now) c.strings_value.result
     (sym c.in-StringList.is) c.as_slice-allowed.ensures refl (c.strings_value.ensures p ks)
 
+pub returns-in-StringDict : goal.returns-in-StringDict
+returns-in-StringDict c =
+    let h = c.args.heap.now in let p = c.args.«package».now in let ks = c.as_slice-allowed.result.now in
+    typed-seen h p kind.StringDict c.args.attribute.now.kind ks c.args.attribute.now.values (seen c.args.value.now) (seen c.args.value.now) c.dict_value.result
+    (sym c.in-StringDict.is) c.as_slice-allowed.ensures refl (c.dict_value.ensures p ks)
+
 pub returns-in-Label : goal.returns-in-Label
 returns-in-Label c =
     let h = c.args.heap.now in let p = c.args.«package».now in let ks = c.as_slice-allowed.result.now in

@@ -9,7 +9,7 @@ use Rattle.depsets.specs.Listed.{visited, same_id}
 use Rattle.depsets.specs.declared.depset.Id.{Id}
 use Rattle.depsets.specs.declared.element.Element.{Element}
 use Rattle.depsets.proofs.Skip.{steps-visit}
-use Rattle.depsets.proofs.Same.{id_own, id_same, element_own}
+use Rattle.depsets.specs.Alike.{id_own, id_same, element_own}
 use Rattle.depsets.proofs.Walked.{walked-flat}
 use Rattle.depsets.proofs.depset.Depset.list_whole.Goals as goal
 
@@ -24,7 +24,7 @@ returns-clause-walk c =
     let d = c.args.self.now in
     let e = ends d c.is_preorder.result c.new.result c.new-2.result (walk_of c.visit.new.self) c.new.ensures c.new-2.ensures
     (c.is_preorder.ensures ∙ ap is_preorder c.order.ensures) c.in_ok-visit.ensures in
-    ap (λ w. w.items) e
+    c.of.ensures ∙ ap (λ w. w.items) e
 
 pub returns-clause-items : goal.returns-clause-items
 returns-clause-items c coherent = returns-clause-walk c ∙ walked-flat c.args.self.now coherent

@@ -21,8 +21,8 @@ visit-returns t c =
     let d = c.args.d.now in
     let put = λ (r : Walk Id Element). let w : Walk Id Element = record { seen = keep same_id r.seen (label d).id; items = r.items; steps = r.steps } in w in
     let m = walk_of c.visit_inside.new.self in
-    let seen = c.in_ok-put.ensures ∙ ap (keep same_id m.seen) c.id-2.ensures in
-    let unseen : has same_id s.seen (label d).id ≡ false = ap (has same_id s.seen) (sym c.id.ensures) ∙ sym c.contains.ensures ∙ c.if-contains.false in
+    let seen = c.in_ok-put.ensures ∙ ap (keep same_id m.seen) c.digested_id-2.ensures in
+    let unseen : has same_id s.seen (label d).id ≡ false = ap (has same_id s.seen) (sym c.digested_id.ensures) ∙ sym c.contains.ensures ∙ c.if-contains.false in
     (λ j. record { seen = seen j; items = m.items; steps = m.steps })
     ∙ ap put c.in_ok-visit_inside.ensures
     ∙ sym (visited_is c.args.preorder d s ∙ ap (λ b. cond b s (put (inside c.args.preorder d s))) unseen)
