@@ -70,7 +70,7 @@ module _ (ls : List ℕ) (l : ℕ) where
       nothing (p ∷ ps) zero = refl
       nothing (p ∷ ps) (suc i) = nothing ps i
 
-  long_empty : (os : List Owned) → length (map no_members os) ≡ length os
+  pub long_empty : (os : List Owned) → length (map no_members os) ≡ length os
   long_empty [] = refl
   long_empty (o ∷ os) = ap suc (long_empty os)
 
@@ -123,7 +123,7 @@ module _ (listing : Rose Own → List Element) (os : List Owned) (d : Owned) (i 
   abbrev bucket : List Member
   bucket = get_or (put_all (leaders listing os) (map no_members os) 0 os) mine []
 
-  leader_low : mine < length os
+  pub leader_low : mine < length os
   leader_low = (hit equal os i d low (parts_itself (parts listing os d i))).0
 
   pub bucket_labels : map label_of bucket ≡ map (λ p. p.label) (filter equal os)
@@ -140,13 +140,13 @@ set_tells ms (Some s) label h =
     ap (λ l. if is_first label l then Owners l else Elsewhere) (owners_in_order ms s h.1)
     ∙ sym (ap (λ b. if b then (if is_first label (in_text_order (map label_of ms)) then Owners (in_text_order (map label_of ms)) else Elsewhere) else Alone) h.0)
 
-zip_at : (xs : List (List Member)) (ys : List (Option Shared)) (i : ℕ) → AllZip IsSetOf xs ys → i < length xs → IsSetOf (get_or xs i []) (get_or ys i None)
+pub zip_at : (xs : List (List Member)) (ys : List (Option Shared)) (i : ℕ) → AllZip IsSetOf xs ys → i < length xs → IsSetOf (get_or xs i []) (get_or ys i None)
 zip_at [] ys i h low = absurd (omega (arith, low))
 zip_at (x ∷ xs) [] i h low = absurd h
 zip_at (x ∷ xs) (y ∷ ys) zero h low = h.0
 zip_at (x ∷ xs) (y ∷ ys) (suc i) h low = zip_at xs ys i h.1 (omega (arith, low))
 
-long_all : (ls : List ℕ) (bs : List (List Member)) (n : ℕ) (os : List Owned) → length (put_all ls bs n os) ≡ length bs
+pub long_all : (ls : List ℕ) (bs : List (List Member)) (n : ℕ) (os : List Owned) → length (put_all ls bs n os) ≡ length bs
 long_all ls bs n [] = refl
 long_all ls bs n (o ∷ os) =
     let k = slice_index_or ls n n in

@@ -6,7 +6,7 @@ ghost use Rattle.claims.specs.Same.{compared, element_paths, input_paths, path_o
 ghost use Rattle.claims.specs.Seen.{parts_of};
 
 use actions::{Action, Inputs};
-use depsets::{Distinct, Element, FileRef};
+use depsets::{Element, Elements, FileRef};
 use plain::{Shared, Text};
 use std::alloc::{AllocError, Global};
 
@@ -63,7 +63,7 @@ fn file_paths(alloc: Global, files: &[Shared<FileRef>]) -> Result<Vec<Text>, All
 }
 
 /// The paths of the Files among elements.
-fn element_paths(alloc: Global, elements: &Distinct<'_, Element>) -> Result<Vec<Text>, AllocError>
+fn element_paths(alloc: Global, elements: &Elements<'_>) -> Result<Vec<Text>, AllocError>
     ensures { IfOk result (λ v. v.items ≡ flat_map element_paths elements.now) }
 {
     let mut paths = Vec::new(alloc);

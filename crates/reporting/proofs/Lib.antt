@@ -1,5 +1,5 @@
 pub mod Crossing
 pub mod Fields
 pub mod Parts
-pub mod Taken
+pub mod BlockLemmas
 pub mod ElementPaths
