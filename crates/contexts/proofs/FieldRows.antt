@@ -1,7 +1,7 @@
 -- Worked fields of targets, of `ctx` and of its parts, and worked items of targets, by computation.
 use Rattle.std.specs.Prelude.{◌≡◌, ℕ, true, false, List, [], ◌∷◌, Result, Ok, Err, refl, codes}
 use Rattle.depsets.specs.declared.element.Element.TheVariants as element
-use Rattle.values.specs.Tree.{key, leaf}
+use Rattle.values.specs.Tree.{key, leaf, dict, pairs}
 use Rattle.values.specs.View.{FrozenTree}
 use Rattle.values.specs.Shape.{value_of}
 use Rattle.values.specs.declared.key.Key.TheVariants as index
@@ -76,6 +76,11 @@ attr_text = refl
 attr_words : of_object object.ContextAttr (codes "words") ≡ Ok (frozen_list (key (index.Text (codes "b")) ∷ key (index.Text (codes "c")) ∷ []))
 attr_words = refl
 
+-- the entries in their order
+attr_env : of_object object.ContextAttr (codes "env")
+    ≡ Ok (value.Frozen (dict (pairs (index.Text (codes "B") ∷ index.Text (codes "A") ∷ []) (key (index.Text (codes "2")) ∷ key (index.Text (codes "\n")) ∷ []))))
+attr_env = refl
+
 attr_one : of_object object.ContextAttr (codes "one") ≡ Ok (value.Leaf (plain.Target 1))
 attr_one = refl
 
@@ -96,6 +101,10 @@ file path owner = leaf (plain.File (file_of path owner))
 
 files_one : of_object object.ContextFiles (codes "one") ≡ Ok (frozen_list (file (codes "a/s.txt") (codes "//a:s.txt") ∷ []))
 files_one = refl
+
+-- it is no attribute of labels
+files_env : of_object object.ContextFiles (codes "env") ≡ Err fault.Name
+files_env = refl
 
 files_none : of_object object.ContextFiles (codes "none") ≡ Ok (frozen_list [])
 files_none = refl

@@ -18,6 +18,7 @@ use Rattle.values.specs.declared.leaf.Provider.{Provider}
 use Rattle.values.specs.declared.leaf.ProviderRef.TheVariants as provider
 use Rattle.workspace.specs.Labels.{LabelParts}
 use Rattle.targets.specs.Checks.{Dependency}
+use Rattle.targets.specs.TextDicts.{entry_of}
 use Rattle.targets.specs.declared.attributes.AllowFiles.TheVariants as allowed
 use Rattle.targets.specs.declared.attributes.AttributeValue.TheVariants as has
 use Rattle.targets.specs.declared.attributes.NamedAttribute.{NamedAttribute}
@@ -83,16 +84,16 @@ attribute n k =
 abbrev function : FunctionRef
 function = record { id = record { «module» = 0; number = 0 }; path = codes "a/r.bzl"; name = codes "_r" }
 
--- //a:x, with a string, a list of strings, a label, none, and a list of labels in which one stands twice
+-- //a:x, with a string, a list of strings, a dict of strings, a label, none, and a list of labels in which one stands twice
 abbrev pub target : Target
 target =
     record {
       label = x;
       rule = record {
         implementation = function;
-        attributes = attribute (codes "text") kind.String ∷ attribute (codes "words") kind.StringList
+        attributes = attribute (codes "text") kind.String ∷ attribute (codes "words") kind.StringList ∷ attribute (codes "env") kind.StringDict
             ∷ attribute (codes "one") kind.Label ∷ attribute (codes "none") kind.Label ∷ attribute (codes "deps") kind.LabelList ∷ [];
       };
-      values = has.Key (index.Text (codes "hi")) ∷ has.Strings (codes "b" ∷ codes "c" ∷ []) ∷ has.Label (Some s)
-          ∷ has.Label None ∷ has.Labels (s ∷ d ∷ s ∷ []) ∷ [];
+      values = has.Key (index.Text (codes "hi")) ∷ has.Strings (codes "b" ∷ codes "c" ∷ [])
+          ∷ has.StringDict (entry_of (codes "B") (codes "2") ∷ entry_of (codes "A") (codes "\n") ∷ []) ∷ has.Label (Some s) ∷ has.Label None ∷ has.Labels (s ∷ d ∷ s ∷ []) ∷ [];
     }

@@ -24,6 +24,7 @@ use Rattle.operations.specs.Making.{none, text}
 use Rattle.workspace.specs.Labels.{LabelParts, label_text}
 use Rattle.targets.specs.Checks.{Dependency}
 use Rattle.targets.specs.RuleCalls.{same_label}
+use Rattle.targets.specs.TextDicts.{dict_of_texts}
 use Rattle.targets.specs.declared.attributes.AttributeValue.{AttributeValue}
 use Rattle.targets.specs.declared.attributes.AttributeValue.TheVariants as has
 use Rattle.targets.specs.declared.attributes.NamedAttribute.{NamedAttribute}
@@ -105,6 +106,7 @@ unless_large es = if nat_lt LARGEST (length es) then Err fault.Large else Ok (fr
 abbrev pub attribute_labels : AttributeValue → Option (List LabelParts)
 attribute_labels (has.Key k) = None
 attribute_labels (has.Strings ts) = None
+attribute_labels (has.StringDict es) = None
 attribute_labels (has.Label None) = Some []
 attribute_labels (has.Label (Some l)) = Some (l ∷ [])
 attribute_labels (has.Labels ls) = Some ls
@@ -117,6 +119,7 @@ module _ (ds : List Dependency) where
   abbrev pub attribute_value : AttributeValue → Value
   attribute_value (has.Key k) = value.Key k
   attribute_value (has.Strings ts) = frozen_list (map text_tree ts)
+  attribute_value (has.StringDict es) = value.Frozen (dict_of_texts es)
   attribute_value (has.Label None) = none
   attribute_value (has.Label (Some l)) = value_of (target_tree l)
   attribute_value (has.Labels ls) = frozen_list (map target_tree ls)

@@ -37,7 +37,8 @@ refused _ = fault.Wrong
 
 abbrev pub is_attr_method : List ℕ → Bool
 is_attr_method x =
-    list_any (bytes_eq x) (codes "string" ∷ codes "int" ∷ codes "bool" ∷ codes "string_list" ∷ codes "label" ∷ codes "label_list" ∷ [])
+    list_any (bytes_eq x)
+    (codes "string" ∷ codes "int" ∷ codes "bool" ∷ codes "string_list" ∷ codes "string_dict" ∷ codes "label" ∷ codes "label_list" ∷ [])
 
 abbrev pub object_has_method : Object → List ℕ → Bool
 object_has_method object.Attr x = is_attr_method x

@@ -27,6 +27,7 @@ fn is_attr_method(name: &str) -> bool
         "int" => true,
         "bool" => true,
         "string_list" => true,
+        "string_dict" => true,
         "label" => true,
         "label_list" => true,
         _ => false,

@@ -2,12 +2,13 @@
 ghost use Rattle.std.specs.Prelude.{◌≡◌, ◌++◌, ◌∷◌, [], IfOk, OnOk, map, option_copied};
 ghost use Rattle.values.specs.Tree.{leaf};
 ghost use Rattle.operations.specs.Items.{at_place};
+ghost use Rattle.targets.specs.TextDicts.{dict_of_texts};
 ghost use Rattle.contexts.specs.Fields.{value_for, attribute_value, text_tree, target_tree, frozen_list};
 
 use crate::dependencies::Dependencies;
 use plain::{Shared, Text};
 use std::alloc::{AllocError, Global};
-use targets::{AttributeValue, Target};
+use targets::{AttributeValue, Target, TextDict};
 use values::{Branch, Frozen, Key, Leaf, Value};
 use workspace::Label;
 
@@ -45,6 +46,7 @@ pub(crate) fn attribute_value<'a>(
             alloc,
             text_trees(alloc, texts.get().as_slice())?,
         ),
+        AttributeValue::StringDict(dict) => frozen_dict(alloc, dict.get()),
         AttributeValue::Label(None) => Ok(Value::Leaf(Leaf::None)),
         AttributeValue::Label(Some(label)) => {
             Ok(Value::Leaf(Leaf::Target(dependencies.place(label.get()))))
@@ -64,6 +66,14 @@ pub(crate) fn frozen_list(alloc: Global, items: Vec<Frozen>) -> Result<Value, Al
 {
     let list = Branch::list(alloc, items)?;
     Ok(Value::Frozen(list))
+}
+
+/// A dict of strings as a frozen dict.
+fn frozen_dict(alloc: Global, dict: &TextDict) -> Result<Value, AllocError>
+    ensures { IfOk result (λ v. v ≡ Value.Frozen (dict_of_texts dict.now)) }
+{
+    let dict = dict.to_frozen(alloc)?;
+    Ok(Value::Frozen(dict))
 }
 
 /// Strings as frozen values.

@@ -31,6 +31,7 @@ pub(crate) fn files<'a>(
     match value {
         AttributeValue::Key(_) => Err(Broken::Kind(Kind::Name)),
         AttributeValue::Strings(_) => Err(Broken::Kind(Kind::Name)),
+        AttributeValue::StringDict(_) => Err(Broken::Kind(Kind::Name)),
         AttributeValue::Label(None) => files_of_labels(alloc, dependencies, &[]),
         AttributeValue::Label(Some(label)) => {
             files_of_labels(alloc, dependencies, std::slice::from_ref(label))
