@@ -14,3 +14,5 @@ pub mod ConflictLemmas
 pub mod InOrder
 pub mod SetLemmas
 pub mod TellingLemmas
+pub mod SharingLemmas
+pub mod ClashUnique

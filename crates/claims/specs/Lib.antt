@@ -14,3 +14,4 @@ pub mod Buckets
 pub mod Sets
 pub mod Telling
 pub mod Tellings
+pub mod Sharing

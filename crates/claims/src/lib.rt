@@ -6,6 +6,7 @@ mod claiming;
 mod clashes;
 mod commons;
 mod comparable;
+mod laws;
 mod leaders;
 mod marks;
 mod members;
@@ -15,8 +16,12 @@ mod telling;
 mod told;
 
 pub use clashes::Conflict;
+pub use laws::{
+    actions_have_one_list_of_conflicts, actions_have_one_list_of_sets,
+    owners_of_a_path_are_its_labels,
+};
 pub use members::Places;
 pub use owned::Owned;
 pub use sets::Shared;
 pub use telling::Telling;
-pub use told::{Told, conflicts, tell};
+pub use told::{Told, conflicts, shared, tell};

@@ -7,6 +7,7 @@ ghost use Rattle.claims.specs.Commons.{commons_of};
 ghost use Rattle.claims.specs.Conflicts.{conflicts_of};
 ghost use Rattle.claims.specs.Labels.{AreLabels};
 ghost use Rattle.claims.specs.Leaders.{leaders};
+ghost use Rattle.claims.specs.Sharing.{AreShared};
 ghost use Rattle.claims.specs.Telling.{telling};
 
 use crate::buckets::buckets;
@@ -116,4 +117,28 @@ fn tellings_by(
     let sets = sets(alloc, &buckets)?;
     let found = tellings(alloc, owned, led, &sets)?;
     Ok(found)
+}
+
+/// The shared actions: each set of at least two equal actions, no two of which have one owner, whole and by the labels of the
+/// owners; the sets by the least of their places in the list.
+///
+/// # Errors
+///
+/// `AllocError` where memory was refused.
+pub fn shared(alloc: Global, owned: &[Owned<'_>]) -> Result<Vec<Shared>, AllocError>
+    ensures law { IfOk result (λ v. AreShared walked owned.now v.items) }
+{
+    let commons = commons(alloc, owned)?;
+    let leaders = leaders_among(alloc, owned, &commons)?;
+    sets_by(alloc, owned, &leaders)
+}
+
+/// The shared actions, where these are the leaders of all.
+fn sets_by(alloc: Global, owned: &[Owned<'_>], led: &[usize]) -> Result<Vec<Shared>, AllocError>
+    requires led { led.now ≡ leaders walked owned.now }
+    ensures { IfOk result (λ v. AreShared walked owned.now v.items) }
+{
+    let buckets = buckets(alloc, owned, led)?;
+    let sets = found(alloc, &buckets)?;
+    Ok(sets)
 }

@@ -28,7 +28,13 @@ fn put_node(alloc: Global, out: &mut String, block: &Block<'_>) -> Result<(), Al
     ensures { OnOk result (string_bytes out.new
         ≡ string_bytes out.old ++ block_text walked (block_seen block.now)) }
 {
-    put_outcome(alloc, out, block.node.label, block.node.outcome, block.tellings)
+    put_outcome(
+        alloc,
+        out,
+        block.node.label,
+        block.node.outcome,
+        block.tellings,
+    )
 }
 
 /// Appends the lines of nodes.
