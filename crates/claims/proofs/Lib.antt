@@ -16,3 +16,5 @@ pub mod SetLemmas
 pub mod TellingLemmas
 pub mod SharingLemmas
 pub mod ClashUnique
+pub mod AloneLemmas
+pub mod ShareRows

@@ -1,5 +1,5 @@
 -- The place in a list of the first action that is equal to one of it.
-use Rattle.std.specs.Prelude.{ℕ, ◌+◌, Bool, true, if◌then◌else◌, List, [], ◌∷◌, ◌++◌, map, Option, None, Some, is_some, unwrap_or, slice_index_or}
+use Rattle.std.specs.Prelude.{ℕ, ◌+◌, Bool, true, ◌&&◌, nat_eq, if◌then◌else◌, List, [], ◌∷◌, ◌++◌, map, Option, None, Some, is_some, unwrap_or, slice_index_or}
 use Rattle.std.specs.List.{position_or_len}
 use Rattle.depsets.specs.Own.{Own}
 use Rattle.depsets.specs.Rose.{Rose}
@@ -13,6 +13,11 @@ module _ (listing : Rose Own → List Element) where
 
   abbrev pub leaders : List Owned → List ℕ
   leaders os = map (leader os) os
+
+-- whether each is at its own place, the first of which is this one
+abbrev pub all_lead : ℕ → List ℕ → Bool
+all_lead n [] = true
+all_lead n (l ∷ ls) = nat_eq l n && all_lead (n + 1) ls
 
 -- ---- as they are found: what was compared so far, each once, with the place where it stood first
 

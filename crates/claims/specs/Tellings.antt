@@ -17,3 +17,6 @@ telling_by (Some s) label = if is_first label s.owners then Owners s.owners else
 abbrev pub tellings_from : List ℕ → List (Option Shared) → ℕ → List Owned → List Telling
 tellings_from ls ss n [] = []
 tellings_from ls ss n (o ∷ os) = telling_by (slice_index_or ss (slice_index_or ls n n) None) o.label ∷ tellings_from ls ss (n + 1) os
+
+abbrev pub alone : Owned → Telling
+alone o = Alone

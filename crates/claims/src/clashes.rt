@@ -1,6 +1,7 @@
 //! Paths whose actions have one owner or aren't equal.
 ghost use Rattle.std.specs.Prelude.{◌≡◌, ◌++◌, None, IfOk, OnOk, option_copied, slice_index_or};
 ghost use Rattle.std.specs.List.{flat_map};
+ghost use Rattle.claims.specs.Leaders.{all_lead};
 ghost use Rattle.claims.specs.Members.{clash_by, clashes_after, some_clash};
 ghost use Rattle.claims.specs.Conflicts.{conflict_by};
 
@@ -26,6 +27,18 @@ pub(crate) fn leader_at(leaders: &[usize], place: usize) -> usize
         Some(leader) => *leader,
         None => place,
     }
+}
+
+/// Whether each action is the first that is equal to it.
+pub(crate) fn all_lead(leaders: &[usize]) -> bool
+    ensures { result ≡ all_lead 0 leaders.now }
+{
+    for i in 0..leaders.len() {
+        if leaders[i] != i {
+            return false;
+        }
+    }
+    true
 }
 
 /// Whether two actions have one owner or aren't equal.

@@ -1,6 +1,6 @@
 //! How the actions of a list are told: each alone, or equal ones together.
-ghost use Rattle.std.specs.Prelude.{◌≡◌, None, IfOk, option_copied, slice_index_or};
-ghost use Rattle.claims.specs.Tellings.{is_first, telling_by, tellings_from};
+ghost use Rattle.std.specs.Prelude.{◌≡◌, None, IfOk, map, option_copied, slice_index_or};
+ghost use Rattle.claims.specs.Tellings.{alone, is_first, telling_by, tellings_from};
 
 use crate::clashes::leader_at;
 use crate::owned::Owned;
@@ -63,6 +63,17 @@ fn telling_by(alloc: Global, label: &Text, set: Option<&Shared>) -> Result<Telli
         return Ok(Telling::Elsewhere);
     }
     Ok(Telling::Owners(shares(alloc, owners)?))
+}
+
+/// Each action is told alone.
+pub(crate) fn all_alone(alloc: Global, owned: &[Owned<'_>]) -> Result<Vec<Telling>, AllocError>
+    ensures { IfOk result (λ v. v.items ≡ map alone owned.now) }
+{
+    let mut tellings = Vec::with_capacity(alloc, owned.len())?;
+    for _one in owned {
+        tellings.push(Telling::Alone)?;
+    }
+    Ok(tellings)
 }
 
 /// How each action is told.

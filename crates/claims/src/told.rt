@@ -11,13 +11,13 @@ ghost use Rattle.claims.specs.Sharing.{AreShared};
 ghost use Rattle.claims.specs.Telling.{telling};
 
 use crate::buckets::buckets;
-use crate::clashes::{Conflict, conflicts_among};
+use crate::clashes::{Conflict, all_lead, conflicts_among};
 use crate::commons::{Common, commons};
 use crate::leaders::leaders;
 use crate::marks::marks;
 use crate::owned::Owned;
 use crate::sets::{Shared, found, sets};
-use crate::telling::{Telling, tellings};
+use crate::telling::{Telling, all_alone, tellings};
 use std::alloc::{AllocError, Global};
 
 /// What a report tells of the actions of a list: its conflicts, and how each action is told.
@@ -113,6 +113,21 @@ fn tellings_by(
     requires led { led.now ≡ leaders walked owned.now }
     ensures { IfOk result (λ v. v.items ≡ map (telling walked owned.now) owned.now) }
 {
+    if all_lead(led) {
+        return all_alone(alloc, owned);
+    }
+    told_by_sets(alloc, owned, led)
+}
+
+/// How these actions are told, by the sets of their leaders.
+fn told_by_sets(
+    alloc: Global,
+    owned: &[Owned<'_>],
+    led: &[usize],
+) -> Result<Vec<Telling>, AllocError>
+    requires led { led.now ≡ leaders walked owned.now }
+    ensures { IfOk result (λ v. v.items ≡ map (telling walked owned.now) owned.now) }
+{
     let buckets = buckets(alloc, owned, led)?;
     let sets = sets(alloc, &buckets)?;
     let found = tellings(alloc, owned, led, &sets)?;
@@ -135,6 +150,17 @@ pub fn shared(alloc: Global, owned: &[Owned<'_>]) -> Result<Vec<Shared>, AllocEr
 
 /// The shared actions, where these are the leaders of all.
 fn sets_by(alloc: Global, owned: &[Owned<'_>], led: &[usize]) -> Result<Vec<Shared>, AllocError>
+    requires led { led.now ≡ leaders walked owned.now }
+    ensures { IfOk result (λ v. AreShared walked owned.now v.items) }
+{
+    if all_lead(led) {
+        return Ok(Vec::new(alloc));
+    }
+    found_sets(alloc, owned, led)
+}
+
+/// The shared actions, by the buckets of these leaders.
+fn found_sets(alloc: Global, owned: &[Owned<'_>], led: &[usize]) -> Result<Vec<Shared>, AllocError>
     requires led { led.now ≡ leaders walked owned.now }
     ensures { IfOk result (λ v. AreShared walked owned.now v.items) }
 {

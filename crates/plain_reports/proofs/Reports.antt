@@ -27,7 +27,7 @@ use Rattle.plain_reports.proofs.Lines.{front, behind, compared_same, outcome_sam
 
 -- ---- what is compared of the actions of nodes
 
-owned_agree : (text : List ℕ) (as : List Action) → Each (λ a. compared walked a ≡ compared flat a) as → Each (Agree walked flat) (map (owned_by text) as)
+owned_agree : (text : List ℕ) (acts : List Action) → Each (λ a. compared walked a ≡ compared flat a) acts → Each (Agree walked flat) (map (owned_by text) acts)
 owned_agree text [] h = tt
 owned_agree text (a ∷ rest) h = (h.0, owned_agree text rest h.1)
 

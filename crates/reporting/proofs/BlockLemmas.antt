@@ -31,17 +31,17 @@ lines_at listing [] (suc i) a rest = refl
 lines_at listing (t ∷ ts) zero a rest = refl
 lines_at listing (t ∷ ts) (suc i) a rest = lines_at listing ts i a rest
 
-pub lines_next : (ts : List Telling) (as : List Action) (i : ℕ) (a d : Action) (old new : List ℕ) → i < length as → a ≡ get_or as i d
+pub lines_next : (ts : List Telling) (acts : List Action) (i : ℕ) (a d : Action) (old new : List ℕ) → i < length acts → a ≡ get_or acts i d
     → new ≡ old ++ action_line walked (telling_at ts i) a
-    → new ++ action_lines walked (drop (i + 1) ts) (drop (i + 1) as) ≡ old ++ action_lines walked (drop i ts) (drop i as)
-lines_next ts as i a d old new low p e =
-    let rest = action_lines walked (drop (i + 1) ts) (drop (i + 1) as) in
+    → new ++ action_lines walked (drop (i + 1) ts) (drop (i + 1) acts) ≡ old ++ action_lines walked (drop i ts) (drop i acts)
+lines_next ts acts i a d old new low p e =
+    let rest = action_lines walked (drop (i + 1) ts) (drop (i + 1) acts) in
     ap (λ l. l ++ rest) e ∙ append_assoc old (action_line walked (telling_at ts i) a) rest
     ∙ ap (λ l. old ++ l)
-    (ap (λ n. action_line walked (telling_at ts i) a ++ action_lines walked (drop n ts) (drop (i + 1) as)) (add-one i)
-    ∙ sym (lines_at walked ts i a (drop (i + 1) as))
-    ∙ ap (λ b. action_lines walked (drop i ts) (b ∷ drop (i + 1) as)) p
-    ∙ sym (at_drop_more (action_lines walked (drop i ts)) as i d low))
+    (ap (λ n. action_line walked (telling_at ts i) a ++ action_lines walked (drop n ts) (drop (i + 1) acts)) (add-one i)
+    ∙ sym (lines_at walked ts i a (drop (i + 1) acts))
+    ∙ ap (λ b. action_lines walked (drop i ts) (b ∷ drop (i + 1) acts)) p
+    ∙ sym (at_drop_more (action_lines walked (drop i ts)) acts i d low))
 
 -- ---- the actions of nodes
 

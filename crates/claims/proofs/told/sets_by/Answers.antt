@@ -1,13 +1,12 @@
-use Rattle.std.proofs.Common.{◌∙◌, map, subst}
+use Rattle.std.proofs.Common.{◌∙◌, ap, sym, subst}
 use Rattle.depsets.specs.Listed.{walked}
-use Rattle.claims.specs.Buckets.{no_members, put_all}
-use Rattle.claims.specs.Sets.{AreSetsOf}
-use Rattle.claims.proofs.SharingLemmas.{shared_law}
+use Rattle.claims.specs.Leaders.{all_lead}
+use Rattle.claims.specs.Sharing.{AreShared}
+use Rattle.claims.proofs.AloneLemmas.{none_shared}
 use Rattle.claims.proofs.told.sets_by.Goals as goal
 
-pub returns : goal.returns
-returns c =
+pub returns-then-all_lead : goal.returns-then-all_lead
+returns-then-all_lead c =
     let os = c.args.owned.now in
-    shared_law walked os c.in_ok-sets.sets.items
-    (subst (λ ls. AreSetsOf (put_all ls (map no_members os) 0 os) c.in_ok-sets.sets.items) c.requires.led
-    (subst (λ bs. AreSetsOf bs c.in_ok-sets.sets.items) (c.deref.ensures.value ∙ c.in_ok-buckets.ensures) c.in_ok-sets.ensures))
+    subst (AreShared walked os) (sym c.new.ensures.items)
+    (none_shared walked os (ap (all_lead 0) (sym c.requires.led) ∙ sym c.all_lead.ensures ∙ c.if-all_lead.true))
