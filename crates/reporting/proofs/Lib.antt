@@ -3,3 +3,4 @@ pub mod Fields
 pub mod Parts
 pub mod BlockLemmas
 pub mod ElementPaths
+pub mod Rows
