@@ -1,7 +1,6 @@
 -- What a report tells, it tells by plain listings: in what becomes of labels of a workspace an id has one tree.
 use Rattle.std.proofs.Common.{◌≡◌, ℕ, true, List, All, subst}
 use Rattle.depsets.specs.Flat.{Among}
-use Rattle.depsets.specs.Listed.{walked, flat}
 use Rattle.lexer.specs.declared.fault.FaultKind.{FaultKind}
 use Rattle.values.specs.declared.ticks.Kind.{Kind}
 use Rattle.coherence.specs.Together.{AllCoherent}
@@ -11,7 +10,8 @@ use Rattle.modules.specs.declared.sorting.FileFault.{FileFault}
 use Rattle.outcomes.specs.Found.{id_of, owner_of, has_depset}
 use Rattle.outcomes.specs.Workspaces.{outcome_of, graph}
 use Rattle.outcomes.proofs.Together.{outcomes_together}
-use Rattle.reporting.specs.Answers.{Node, report_text}
+use Rattle.reporting.specs.Answers.{Node}
+use Rattle.plain_reports.specs.Laws.{IsToldPlainly}
 use Rattle.plain_reports.proofs.Reports.{workspaces_are_told_plainly}
 use Rattle.loader.specs.Loaded.{AreFilesOf}
 use Rattle.coherent_modules.specs.Found.{in_modules}
@@ -24,7 +24,7 @@ use Rattle.answers.specs.Laws.{WorkspacesAreCoherent}
 module _ (workspace files : List Pair) (limit : ℕ) (legal : IsWorkspace workspace) (are : AreFilesOf workspace files) where
   pub told_plainly : (faults : List (FileFault FaultKind Kind)) (nodes : List Node)
       → All (λ n. n.outcome ≡ outcome_of (evaluated files limit) n.label) nodes
-      → report_text walked faults nodes ≡ report_text flat faults nodes
+      → IsToldPlainly faults nodes
   told_plainly faults nodes is =
       workspaces_are_told_plainly (evaluated files limit) faults nodes (is_sound files limit workspace legal are) (implements_well files limit) is
 

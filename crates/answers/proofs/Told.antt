@@ -67,15 +67,17 @@ module _ (files : List Pair) (limit : ℕ) (asked : List LabelParts) (g : GraphV
     }
 
     pub reports : {E : Type 0} (fs : List (FileFault FaultKind Kind)) (ns : List Node) (result : Result Report E) → fs ≡ faults files limit → ns ≡ nodes_of r es
-        → IfOk result (λ m. report_bytes m ≡ report_text walked fs ns) → IfOk result (λ m. m.loud ≡ is_loud fs ns) → IfOk result (Reports workspace asked limit)
+        → IfOk result (λ m. report_bytes m ≡ report_text walked fs ns) → IfOk result (λ m. m.loud ≡ is_loud walked fs ns) → IfOk result (Reports workspace asked limit)
     reports fs ns (Err e) ef en t l = t
     reports fs ns (Ok m) ef en t l = record {
       answer = answer;
       answers = record { files = files; are_files = are; answers = answers };
       told =
           t ∙ ap (λ f. report_text walked f ns) ef ∙ ap (report_text walked (faults files limit)) en
-          ∙ told_plainly workspace files limit legal are (faults files limit) (nodes_of r es) outcomes_are;
-      loud = l ∙ ap (λ f. is_loud f ns) ef ∙ ap (is_loud (faults files limit)) en;
+          ∙ (told_plainly workspace files limit legal are (faults files limit) (nodes_of r es) outcomes_are).text;
+      loud =
+          l ∙ ap (λ f. is_loud walked f ns) ef ∙ ap (is_loud walked (faults files limit)) en
+          ∙ (told_plainly workspace files limit legal are (faults files limit) (nodes_of r es) outcomes_are).loud;
     }
 
 -- too many labels are reached by plain listings, where they are as the code lists

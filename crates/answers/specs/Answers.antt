@@ -21,7 +21,7 @@ pub record Answer : Type 0 where
 
 -- whether it has a file that failed, a target that failed or a conflict
 abbrev pub is_loud_answer : Answer → Bool
-is_loud_answer a = is_loud a.faults a.nodes
+is_loud_answer a = is_loud flat a.faults a.nodes
 
 -- The bytes of its report: the files that failed, the labels, and the conflicts of their actions. A depset is told by its listing:
 -- of the walk of its whole tree, the first occurrences.

@@ -3,8 +3,7 @@ use Rattle.std.proofs.Common.{◌≡◌, ℕ, ◌+◌, List, [], ◌∷◌, ◌+
 use Rattle.depsets.proofs.Turns.{drop_at}
 use Rattle.depsets.specs.declared.element.FileRef.{FileRef}
 use Rattle.claims.specs.Claims.{claim_on, claims_of, claims_from, put_in_order, all_in_order, in_order}
-use Rattle.claims.specs.Taken.{Taken, with_action}
-use Rattle.claims.specs.declared.claiming.Owned.{Owned}
+use Rattle.claims.specs.Owned.{Owned}
 use Rattle.claims.specs.declared.claiming.Claim.{Claim}
 
 pub outputs-next : (n : ℕ) (label : List ℕ) (fs : List FileRef) (i : ℕ) (f : FileRef) (cs ds : List Claim) → slice_get fs i ≡ Some f → ds ≡ cs ++ claim_on n label f ∷ []
@@ -23,11 +22,3 @@ actions-next os i o cs ds p e =
 pub all_in_order-append : (cs ds es : List Claim) → all_in_order cs (ds ++ es) ≡ all_in_order (all_in_order cs ds) es
 all_in_order-append cs [] es = refl
 all_in_order-append cs (d ∷ ds) es = all_in_order-append (put_in_order cs d) ds es
-
--- an action more, whose claims stand last
-pub taken-more : (t : Taken) (k n : ℕ) (cs ds : List Claim) (o : Owned) → record { actions = k; claims = in_order cs } ≡ t → n ≡ k + 1 → ds ≡ cs ++ claims_of k o
-    → record { actions = n; claims = in_order ds } ≡ with_action t o
-taken-more t k n cs ds o v e d =
-    let last : in_order ds ≡ all_in_order (in_order cs) (claims_of k o) = ap in_order d ∙ all_in_order-append [] cs (claims_of k o) in
-    let here : record { actions = n; claims = in_order ds } ≡ with_action (record { actions = k; claims = in_order cs }) o = λ i. record { actions = e i; claims = last i } in
-    here ∙ ap (λ u. with_action u o) v

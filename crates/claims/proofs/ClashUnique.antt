@@ -1,13 +1,16 @@
 -- At most one list of conflicts meets the law.
-use Rattle.std.proofs.Common.{◌≡◌, inl, inr, ℕ, List, [], ◌∷◌, map, length, ◌≤◌, refl, sym, ◌∙◌, subst}
+use Rattle.std.proofs.Common.{◌≡◌, inl, inr, ℕ, true, List, [], ◌∷◌, map, length, ◌≤◌, refl, sym, ◌∙◌, subst}
 use Rattle.std.proofs.lemmas.Cmp.{tied_itself, nat_list_cmp_total}
 use Rattle.std.specs.declared.cmp.Ordering.TheVariants.{Less}
 use Rattle.std.specs.Ordering.{nat_cmp}
 use Rattle.std.specs.Cmp.Lexicographic.{slice_cmp}
+use Rattle.depsets.specs.Own.{Own}
+use Rattle.depsets.specs.Rose.{Rose}
+use Rattle.depsets.specs.declared.element.Element.{Element}
 use Rattle.actions.specs.Ascending.{Each, AreAscending}
-use Rattle.claims.specs.Clashes.{IsAmong, owners, AreConflicts}
-use Rattle.claims.specs.declared.claiming.Owned.{Owned}
-use Rattle.claims.specs.declared.gather.Conflict.{Conflict}
+use Rattle.claims.specs.Clashes.{IsAmong, clashes, owners, AreConflicts}
+use Rattle.claims.specs.Owned.{Owned}
+use Rattle.claims.specs.declared.clashes.Conflict.{Conflict}
 
 abbrev Path : Type 0
 Path = List ℕ
@@ -54,11 +57,12 @@ same-lists (c ∷ cs) (d ∷ ds) g h a b =
     let rest = same-lists cs ds g.1 h.1 (all-later c d ds e cs g.0 a.1) (all-later d c cs (sym e) ds h.0 b.1) in
     λ j. e j ∷ rest j
 
-each-among : (os : List Owned) (cs ds : List Conflict) → AreConflicts os ds → Each (λ c. (2 ≤ length (owners c.path os)) × (c.labels ≡ owners c.path os)) cs
-    → Each (λ c. IsAmong c ds) cs
-each-among os [] ds h k = tt
-each-among os (c ∷ cs) ds h k =
-    (subst (λ ls. IsAmong (record { path = c.path; labels = ls }) ds) (sym k.0.1) (h.all c.path k.0.0), each-among os cs ds h k.1)
+module _ (listing : Rose Own → List Element) where
+  each-among : (os : List Owned) (cs ds : List Conflict) → AreConflicts listing os ds → Each (λ c. (clashes listing c.path os ≡ true) × (c.labels ≡ owners c.path os)) cs
+      → Each (λ c. IsAmong c ds) cs
+  each-among os [] ds h k = tt
+  each-among os (c ∷ cs) ds h k =
+      (subst (λ ls. IsAmong (record { path = c.path; labels = ls }) ds) (sym k.0.1) (h.all c.path k.0.0), each-among os cs ds h k.1)
 
-pub law-unique : (os : List Owned) (cs ds : List Conflict) → AreConflicts os cs → AreConflicts os ds → cs ≡ ds
-law-unique os cs ds g h = same-lists cs ds g.ordered h.ordered (each-among os cs ds h g.only) (each-among os ds cs g h.only)
+  pub law-unique : (os : List Owned) (cs ds : List Conflict) → AreConflicts listing os cs → AreConflicts listing os ds → cs ≡ ds
+  law-unique os cs ds g h = same-lists cs ds g.ordered h.ordered (each-among os cs ds h g.only) (each-among os ds cs g h.only)

@@ -12,17 +12,14 @@ use Rattle.std.specs.Cmp.{IsTotalOrder, nat_cmp_is}
 use Rattle.std.specs.Cmp.Lexicographic.{slice_cmp}
 use Rattle.std.specs.Str.{bytes_eq}
 use Rattle.depsets.specs.declared.element.FileRef.{FileRef}
-use Rattle.claims.specs.Claims.{claim_cmp, claim_on, claims_of, claims_from, put_in_order, all_in_order, in_order}
+use Rattle.claims.specs.Claims.{claim_cmp, claim_on, claims_of, claims_from, put_in_order, all_in_order, in_order, is_on}
 use Rattle.actions.specs.Ascending.{Each}
-use Rattle.claims.specs.Clashes.{is_on, labels_on, owners}
-use Rattle.claims.specs.Labels.{AreInOrder, times, declares, declaring, AreLabels}
-use Rattle.claims.specs.declared.claiming.Owned.{Owned}
+use Rattle.claims.specs.Clashes.{labels_on, owners, declares}
+use Rattle.claims.specs.Labels.{AreInOrder, times, declaring, AreLabels}
+use Rattle.claims.specs.Owned.{Owned}
 use Rattle.claims.specs.declared.claiming.Claim.{Claim}
-use Rattle.claims.specs.Conflicts.{conflicts_of}
-use Rattle.claims.specs.declared.gather.Conflict.{Conflict}
 use Rattle.actions.proofs.Ascending.{Climbs}
 use Rattle.claims.proofs.ClaimLemmas.{all_in_order-append}
-use Rattle.claims.proofs.ClashLemmas.{conflicts_of-law}
 
 pub claims_total : IsTotalOrder claim_cmp
 claims_total =
@@ -297,11 +294,3 @@ owners-are-labels os p = record {
   ordered = labels-ordered p (in_order (claims_from 0 os)) (up-all [] (claims_from 0 os) tt);
   counted = λ l. times-filter l (λ c. c.label) (is_on p) (in_order (claims_from 0 os)) ∙ claims-declaring p l os;
 }
-
-each-labels : (os : List Owned) (cs : List Conflict) → Each (λ c. (2 ≤ length (owners c.path os)) × (c.labels ≡ owners c.path os)) cs → Each (λ c. AreLabels os c.path c.labels) cs
-each-labels os [] h = tt
-each-labels os (c ∷ cs) h = (subst (AreLabels os c.path) (sym h.0.1) (owners-are-labels os c.path), each-labels os cs h.1)
-
--- so are those of the conflicts of actions
-pub conflicts_of-labels : (os : List Owned) → Each (λ c. AreLabels os c.path c.labels) (conflicts_of os)
-conflicts_of-labels os = each-labels os (conflicts_of os) (conflicts_of-law os).only

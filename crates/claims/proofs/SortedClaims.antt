@@ -34,7 +34,7 @@ module _ {A : Type 0} where
   to_recursion P (x ∷ xs) h = (h.0, to_recursion P xs h.1)
 
   -- what holds of each holds of one that is there
-  at_one : (P : A → Type 0) (xs : List A) → Each P xs → (z : A) → Contains xs z → P z
+  pub at_one : (P : A → Type 0) (xs : List A) → Each P xs → (z : A) → Contains xs z → P z
   at_one P xs h z c = All-contains P xs z (All-from_recursion P xs (to_recursion P xs h)) c
 
   each_itself : (xs : List A) → Each (Contains xs) xs
@@ -69,10 +69,10 @@ all_had : (ks ds : List Claim) → Each (λ d. Has d (all_in_order ks ds)) ds
 all_had ks [] = tt
 all_had ks (d ∷ ds) = (stays d (put_in_order ks d) ds (has-put ks d), all_had (put_in_order ks d) ds)
 
-in_order_keeps : (xs : List Claim) (z : Claim) → Contains xs z → Contains (in_order xs) z
+pub in_order_keeps : (xs : List Claim) (z : Claim) → Contains xs z → Contains (in_order xs) z
 in_order_keeps xs z c = had_is_there z (in_order xs) (at_one (λ d. Has d (in_order xs)) xs (all_had [] xs) z c)
 
-in_order_from : (xs : List Claim) (z : Claim) → Contains (in_order xs) z → Contains xs z
+pub in_order_from : (xs : List Claim) (z : Claim) → Contains (in_order xs) z → Contains xs z
 in_order_from xs z c = at_one (Contains xs) (in_order xs) (each-all (Contains xs) [] xs tt (each_itself xs)) z c
 
 -- ---- a test that is true at ties alone

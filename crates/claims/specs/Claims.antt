@@ -1,11 +1,12 @@
 -- What actions declare, in order.
-use Rattle.std.specs.Prelude.{ℕ, ◌+◌, List, [], ◌∷◌, ◌++◌, map}
+use Rattle.std.specs.Prelude.{ℕ, ◌+◌, Bool, List, [], ◌∷◌, ◌++◌, map}
 use Rattle.std.specs.declared.cmp.Ordering.{Ordering}
 use Rattle.std.specs.Ordering.{nat_cmp, then_cmp, on}
 use Rattle.std.specs.Cmp.Lexicographic.{slice_cmp}
+use Rattle.std.specs.Str.{bytes_eq}
 use Rattle.std.specs.BTreeSet.{insert_key}
 use Rattle.depsets.specs.declared.element.FileRef.{FileRef}
-use Rattle.claims.specs.declared.claiming.Owned.{Owned}
+use Rattle.claims.specs.Owned.{Owned}
 use Rattle.claims.specs.declared.claiming.Claim.{Claim}
 
 -- by bytes of the path, then by bytes of the label, then by the place of the action in the list
@@ -34,3 +35,7 @@ all_in_order cs (d ∷ ds) = all_in_order (put_in_order cs d) ds
 
 abbrev pub in_order : List Claim → List Claim
 in_order ds = all_in_order [] ds
+
+-- whether a claim is on a path
+abbrev pub is_on : List ℕ → Claim → Bool
+is_on p c = bytes_eq p c.path

@@ -1,21 +1,27 @@
--- The conflicts of a list of actions: the paths that at least two of them declare, by bytes of the path, each with
--- the labels of its actions, by label and then by place in the list. (This project's own rule.)
-use Rattle.std.specs.Prelude.{ℕ, List, [], ◌∷◌, ◌++◌, length, if◌then◌else◌, nat_lt}
-use Rattle.std.specs.Str.{bytes_eq}
-use Rattle.claims.specs.Claims.{claims_from, in_order}
-use Rattle.claims.specs.declared.claiming.Owned.{Owned}
-use Rattle.claims.specs.declared.claiming.Claim.{Claim}
-use Rattle.claims.specs.declared.gather.Conflict.{Conflict}
+-- The conflicts of a list of actions: the paths that clash, by bytes of the path, each with the labels of the actions that declare
+-- it, by label and then by place in the list. (This project's own rule.)
+use Rattle.std.specs.Prelude.{ℕ, None, List, [], ◌∷◌, map, if◌then◌else◌}
+use Rattle.std.specs.List.{flat_map}
+use Rattle.depsets.specs.Own.{Own}
+use Rattle.depsets.specs.Rose.{Rose}
+use Rattle.depsets.specs.declared.element.Element.{Element}
+use Rattle.claims.specs.Clashes.{clashes}
+use Rattle.claims.specs.Commons.{commons_of}
+use Rattle.claims.specs.Members.{label_of, some_clash}
+use Rattle.claims.specs.Owned.{Owned}
+use Rattle.claims.specs.declared.clashes.Conflict.{Conflict}
+use Rattle.claims.specs.declared.commons.Common.{Common}
 
--- a path with the labels of its actions is a conflict where there are at least two
-abbrev pub conflict_of : List ℕ → List (List ℕ) → List Conflict
-conflict_of p ls = if nat_lt 1 (length ls) then record { path = p; labels = ls } ∷ [] else []
+abbrev pub told : Common → Conflict
+told c = record { path = c.path; labels = map label_of c.members }
 
--- the conflicts of claims in order, where these labels of the path came before them
-abbrev pub gathered : List ℕ → List (List ℕ) → List Claim → List Conflict
-gathered p ls [] = conflict_of p ls
-gathered p ls (c ∷ cs) =
-    if bytes_eq p c.path then gathered p (ls ++ c.label ∷ []) cs else conflict_of p ls ++ gathered c.path (c.label ∷ []) cs
+module _ (listing : Rose Own → List Element) (os : List Owned) where
+  abbrev pub conflict_of : Common → List Conflict
+  conflict_of c = if clashes listing c.path os then told c ∷ [] else []
 
-abbrev pub conflicts_of : List Owned → List Conflict
-conflicts_of os = gathered [] [] (in_order (claims_from 0 os))
+  abbrev pub conflicts_of : List Conflict
+  conflicts_of = flat_map conflict_of (commons_of os)
+
+-- a common path conflicts where, by the leaders of actions, one clashes with the next
+abbrev pub conflict_by : List ℕ → Common → List Conflict
+conflict_by ls c = if some_clash ls None c.members then told c ∷ [] else []

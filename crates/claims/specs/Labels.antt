@@ -6,7 +6,8 @@ use Rattle.std.specs.Cmp.Lexicographic.{slice_cmp}
 use Rattle.std.specs.Ordering.{nat_cmp, is_gt}
 use Rattle.std.specs.Str.{bytes_eq}
 use Rattle.actions.specs.Ascending.{Each}
-use Rattle.claims.specs.declared.claiming.Owned.{Owned}
+use Rattle.claims.specs.Clashes.{declares}
+use Rattle.claims.specs.Owned.{Owned}
 
 -- texts in the order of their bytes; some may be the same
 abbrev pub AreInOrder : List (List ℕ) → Type 0
@@ -16,10 +17,6 @@ AreInOrder (x ∷ xs) = Each (λ y. is_gt (slice_cmp nat_cmp x y) ≡ false) xs 
 -- how often a label stands there
 abbrev pub times : List ℕ → List (List ℕ) → ℕ
 times l ls = length (filter (bytes_eq l) ls)
-
--- whether one of its outputs is the path
-abbrev pub declares : List ℕ → Owned → Bool
-declares p o = list_any (λ f. bytes_eq p f.path) o.action.outputs
 
 -- how many actions of the label declare the path
 abbrev pub declaring : List ℕ → List ℕ → List Owned → ℕ

@@ -1,22 +1,12 @@
 //! What actions declare: as it comes, and then in order, by path, then by label, then by place in the list.
 ghost use Rattle.std.specs.Prelude.{◌≡◌, ◌+◌, ◌++◌, ◌∷◌, ◌<◌, [], Some, IfOk, OnOk, length, slice_get};
 ghost use Rattle.claims.specs.Claims.{claim_on, claims_of, claims_from, in_order};
-ghost use Rattle.claims.specs.Conflicts.{gathered};
-ghost use Rattle.claims.specs.Taken.{nothing, with_action};
 
-use crate::gather::{Conflict, gather_claims};
+use crate::owned::Owned;
 use actions::Action;
 use depsets::FileRef;
 use plain::{Shared, Text};
 use std::alloc::{AllocError, Global};
-use std::marker::Model;
-
-/// An action and the label of the target that registered it.
-#[derive(Drop)]
-pub struct Owned {
-    pub label: Text,
-    pub action: Action,
-}
 
 /// An action declares a path: the path, the label of the action's owner, and the action's place in the list.
 #[derive(PartialEq, Eq, PartialOrd, Ord, Drop)]
@@ -26,66 +16,8 @@ pub(crate) struct Claim {
     pub place: usize,
 }
 
-/// What actions declare, taken one action after the other where they lie: the conflicts of a long list are found without a
-/// copy of it. The claims are kept as they come, and sorted once, when the conflicts are asked for.
-#[derive(Drop)]
-pub struct Claims {
-    actions: usize,
-    claims: Vec<Claim>,
-}
-
-impl Model for Claims {
-    ghost use Rattle.claims.specs.Claims.{in_order};
-    ghost use Rattle.claims.specs.Taken.{Taken};
-
-    ghost Value = { Taken };
-
-    ghost view = { λ c. record { actions = c.actions; claims = in_order c.claims.items } };
-}
-
-impl Claims {
-    /// No action.
-    pub fn new(alloc: Global) -> Claims
-        ensures { result ≡ nothing }
-    {
-        Claims {
-            actions: 0,
-            claims: Vec::new(alloc),
-        }
-    }
-
-    /// An action more, which the target of this label registered.
-    ///
-    /// # Errors
-    ///
-    /// `AllocError` where memory was refused. Some of its claims may have been taken then.
-    pub fn add(&mut self, label: &Text, action: &Action) -> Result<(), AllocError>
-        ensures { OnOk result
-            (self.new ≡ with_action self.old (record { label = label.now; action = action.now })) }
-    {
-        let Some(actions) = self.actions.checked_add(1) else {
-            return Err(AllocError);
-        };
-        claim_outputs(&mut self.claims, self.actions, label, action)?;
-        self.actions = actions;
-        Ok(())
-    }
-
-    /// The conflicts of the actions that were taken.
-    ///
-    /// # Errors
-    ///
-    /// `AllocError` where memory was refused.
-    pub fn conflicts(self, alloc: Global) -> Result<Vec<Conflict>, AllocError>
-        ensures { IfOk result (λ v. v.items ≡ gathered [] [] self.claims) }
-    {
-        let Claims { actions: _, claims } = self;
-        gather_claims(alloc, claims)
-    }
-}
-
 /// All claims of these actions, as they come.
-pub(crate) fn all_claims(alloc: Global, owned: &[Owned]) -> Result<Vec<Claim>, AllocError>
+pub(crate) fn all_claims(alloc: Global, owned: &[Owned<'_>]) -> Result<Vec<Claim>, AllocError>
     ensures { IfOk result (λ v. v.items ≡ claims_from 0 owned.now) }
 {
     let mut claims = Vec::new(alloc);
@@ -105,10 +37,10 @@ pub(crate) fn sort_claims(claims: &mut Vec<Claim>) -> Result<(), AllocError>
 }
 
 /// Adds the claims of one action.
-fn claim_all(claims: &mut Vec<Claim>, place: usize, owned: &Owned) -> Result<(), AllocError>
+fn claim_all(claims: &mut Vec<Claim>, place: usize, owned: &Owned<'_>) -> Result<(), AllocError>
     ensures { OnOk result (claims.new.items ≡ claims.old.items ++ claims_of place owned.now) }
 {
-    claim_outputs(claims, place, &owned.label, &owned.action)
+    claim_outputs(claims, place, owned.label(), owned.action())
 }
 
 /// Adds the claims of an action, which the target of this label registered.

@@ -1,15 +1,27 @@
-//! What actions declare, and the paths that more than one of them declares.
-//!
-//! Two actions that declare one path conflict, also within one target; `conflicts` finds all such paths by one sort of what the
-//! actions declare, and [`Claims`] those of actions that lie elsewhere.
-//!
-//! `specs/Conflicts` says what the conflicts of a list of actions are.
+//! What actions declare, the paths that conflict, and the actions that targets share.
 #![tactic(auto)]
 
+mod buckets;
 mod claiming;
-mod gather;
+mod clashes;
+mod commons;
+mod comparable;
 mod laws;
+mod leaders;
+mod marks;
+mod members;
+mod owned;
+mod sets;
+mod telling;
+mod told;
 
-pub use claiming::{Claims, Owned};
-pub use gather::{Conflict, conflicts};
-pub use laws::{actions_have_one_list_of_conflicts, owners_of_a_path_are_its_labels};
+pub use clashes::Conflict;
+pub use laws::{
+    actions_have_one_list_of_conflicts, actions_have_one_list_of_sets,
+    owners_of_a_path_are_its_labels,
+};
+pub use members::Places;
+pub use owned::Owned;
+pub use sets::Shared;
+pub use telling::Telling;
+pub use told::{Told, conflicts, shared, tell};

@@ -1,3 +1,4 @@
+pub mod Agreed
 pub mod Lines
 pub mod Reports
 pub mod Rows

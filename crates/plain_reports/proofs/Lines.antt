@@ -1,5 +1,5 @@
 -- The lines of what becomes of a label, by the listing that skips ids and by the plain one.
-use Rattle.std.proofs.Common.{◌≡◌, List, [], ◌∷◌, ◌++◌, ℕ, refl, ap}
+use Rattle.std.proofs.Common.{◌≡◌, List, [], ◌∷◌, ◌++◌, ℕ, map, refl, ap}
 use Rattle.std.specs.Prelude.{codes}
 use Rattle.std.specs.List.{flat_map}
 use Rattle.depsets.proofs.Walked.{walked-flat}
@@ -14,6 +14,10 @@ use Rattle.printing.proofs.TreeTextLemmas.{text-coherent}
 use Rattle.actions.specs.declared.action.Action.{Action}
 use Rattle.actions.specs.declared.action.Inputs.{Inputs}
 use Rattle.actions.specs.declared.action.Inputs.TheVariants as inputs
+use Rattle.actions.specs.Ascending.{Each}
+use Rattle.claims.specs.Same.{compared, element_paths, input_paths, path_of}
+use Rattle.claims.specs.declared.telling.Telling.{Telling}
+use Rattle.claims.specs.declared.telling.Telling.TheVariants.{Alone, Owners, Elsewhere}
 use Rattle.one_tree.specs.Found.{Set, in_tree, in_outcome}
 use Rattle.one_tree.specs.Sets.{IsOneTree}
 use Rattle.one_tree.proofs.Amidst.{among_left, among_right}
@@ -22,7 +26,7 @@ use Rattle.workspace.specs.Labels.{LabelParts, label_text}
 use Rattle.targets.specs.declared.outcome.Outcome.{Outcome}
 use Rattle.targets.specs.declared.outcome.Outcome.TheVariants.{Source, Done, Failed}
 use Rattle.outcomes.specs.Found.{in_inputs, in_actions, in_target}
-use Rattle.reporting.specs.Lines.{line, element_paths, strings_text, outputs_text, given_words, fields_text, instance_line, provider_line, input_paths, action_line, outcome_text}
+use Rattle.reporting.specs.Lines.{line, strings_text, outputs_text, given_words, fields_text, instance_line, provider_line, owners_text, action_text, action_line, action_lines, outcome_text}
 
 -- ---- parts of what has one tree for an id
 
@@ -64,19 +68,41 @@ paths_same : (i : Inputs) → IsOneTree (in_inputs i) → input_paths walked i �
 paths_same (inputs.Files fs) k = refl
 paths_same (inputs.Depset d) k = ap (flat_map element_paths) (walked-flat d k)
 
-action_same : (a : Action) → IsOneTree (in_inputs a.inputs) → action_line walked a ≡ action_line flat a
-action_same a k = ap (λ paths. line (outputs_text a ++ (codes " inputs " ++ (strings_text paths ++ given_words a)))) (paths_same a.inputs k)
+text_same : (a : Action) → IsOneTree (in_inputs a.inputs) → action_text walked a ≡ action_text flat a
+text_same a k = ap (λ paths. outputs_text a ++ (codes " inputs " ++ (strings_text paths ++ given_words a))) (paths_same a.inputs k)
 
-actions_same : (rest : List Action) → IsOneTree (in_actions rest) → flat_map (action_line walked) rest ≡ flat_map (action_line flat) rest
-actions_same [] k = refl
-actions_same (a ∷ rest) k =
-    λ i. action_same a (front (in_inputs a.inputs) (in_actions rest) k) i ++ actions_same rest (behind (in_inputs a.inputs) (in_actions rest) k) i
+action_same : (t : Telling) (a : Action) → IsOneTree (in_inputs a.inputs) → action_line walked t a ≡ action_line flat t a
+action_same Alone a k = ap line (text_same a k)
+action_same (Owners labels) a k = ap (λ text. line (text ++ owners_text labels)) (text_same a k)
+action_same Elsewhere a k = refl
+
+actions_same : (ts : List Telling) (rest : List Action) → IsOneTree (in_actions rest) → action_lines walked ts rest ≡ action_lines flat ts rest
+actions_same ts [] k = refl
+actions_same [] (a ∷ rest) k =
+    λ i. action_same Alone a (front (in_inputs a.inputs) (in_actions rest) k) i ++ actions_same [] rest (behind (in_inputs a.inputs) (in_actions rest) k) i
+actions_same (t ∷ ts) (a ∷ rest) k =
+    λ i. action_same t a (front (in_inputs a.inputs) (in_actions rest) k) i ++ actions_same ts rest (behind (in_inputs a.inputs) (in_actions rest) k) i
+
+-- what is compared of actions is the same
+pub compared_same : (rest : List Action) → IsOneTree (in_actions rest) → Each (λ a. compared walked a ≡ compared flat a) rest
+compared_same [] k = tt
+compared_same (a ∷ rest) k =
+    let paths = paths_same a.inputs (front (in_inputs a.inputs) (in_actions rest) k) in (
+      λ i. record {
+        mnemonic = a.mnemonic;
+        outputs = map path_of a.outputs;
+        inputs = paths i;
+        words = a.words;
+        content = a.content;
+      },
+      compared_same rest (behind (in_inputs a.inputs) (in_actions rest) k),
+    )
 
 -- ---- outcomes
 
-pub outcome_same : (l : LabelParts) (o : Outcome) → IsOneTree (in_target o) → outcome_text walked l o ≡ outcome_text flat l o
-outcome_same l (Source f) k = refl
-outcome_same l (Failed f) k = refl
-outcome_same l (Done ts rest) k =
+pub outcome_same : (ts : List Telling) (l : LabelParts) (o : Outcome) → IsOneTree (in_target o) → outcome_text walked ts l o ≡ outcome_text flat ts l o
+outcome_same ts l (Source f) k = refl
+outcome_same ts l (Failed f) k = refl
+outcome_same ts l (Done ps rest) k =
     λ i. line (codes "target " ++ (label_text l ++ codes " ok"))
-    ++ (providers_same ts (front (in_outcome ts) (in_actions rest) k) i ++ actions_same rest (behind (in_outcome ts) (in_actions rest) k) i)
+    ++ (providers_same ps (front (in_outcome ps) (in_actions rest) k) i ++ actions_same ts rest (behind (in_outcome ps) (in_actions rest) k) i)

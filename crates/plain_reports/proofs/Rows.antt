@@ -6,7 +6,7 @@ use Rattle.depsets.specs.declared.element.Element.TheVariants as element
 use Rattle.actions.specs.declared.action.Inputs.TheVariants as inputs
 use Rattle.one_tree.specs.Found.{Set}
 use Rattle.one_tree.specs.Sets.{next}
-use Rattle.reporting.specs.Lines.{input_paths}
+use Rattle.claims.specs.Same.{input_paths}
 
 -- depset([a]), with the first serial of a target
 abbrev of_file : List ℕ → Set

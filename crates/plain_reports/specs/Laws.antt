@@ -10,17 +10,18 @@ use Rattle.one_tree.specs.Found.{Set}
 use Rattle.one_tree.specs.Sets.{IsOneTree}
 use Rattle.outcomes.specs.Found.{in_target}
 use Rattle.outcomes.specs.Workspaces.{Workspace, outcome_of, ImplementsWell, IsSound}
-use Rattle.reporting.specs.Answers.{Node, report_text}
+use Rattle.reporting.specs.Answers.{Node, is_loud, report_text}
 
 -- the depsets that stand in what becomes of labels, each with all below it
 abbrev pub in_nodes : List Node → List Set
 in_nodes nodes = flat_map (λ n. in_target n.outcome) nodes
 
--- the text by the listing that skips ids is that by the plain one
-abbrev pub IsToldPlainly : List (FileFault FaultKind Kind) → List Node → Type 0
-IsToldPlainly faults nodes = report_text walked faults nodes ≡ report_text flat faults nodes
+-- The text by the listing that skips ids is that by the plain one, its conflicts and shared actions too; and so is whether it is loud.
+pub record IsToldPlainly (faults : List (FileFault FaultKind Kind)) (nodes : List Node) : Type 0 where
+  pub text : report_text walked faults nodes ≡ report_text flat faults nodes
+  pub loud : is_loud walked faults nodes ≡ is_loud flat faults nodes
 
--- It is wherever any two depsets with one id are the same, of all that stand in providers and in inputs of actions.
+-- They are wherever any two depsets with one id are the same, of all that stand in providers and in inputs of actions.
 abbrev pub TextsArePlain : Type 0
 TextsArePlain = (faults : List (FileFault FaultKind Kind)) (nodes : List Node) → IsOneTree (in_nodes nodes) → IsToldPlainly faults nodes
 

@@ -6,6 +6,7 @@ use Rattle.values.proofs.Crossing.{frozen_send, frozen_sync}
 use Rattle.values.proofs.leaf.Provider.TheSendSync as provider
 use Rattle.workspace.proofs.labels.Label.TheSendSync as label
 use Rattle.actions.proofs.Crossing.{action_send, action_sync}
+use Rattle.claims.proofs.telling.Telling.TheSendSync as telling
 use Rattle.targets.proofs.outcome.TargetFault.TheSendSync as fault
 use Rattle.targets.specs.contracts.outcome.Actions as Actions
 use Rattle.targets.specs.contracts.outcome.Providers as Providers
@@ -29,4 +30,4 @@ outcome_send = search (file.the_send, file.the_sync, providers_send, actions_sen
 pub outcome_sync : IsSync Outcome.the_row
 outcome_sync = search (file.the_send, file.the_sync, providers_sync, actions_sync, fault.the_field_sync, std.crosses, sendable) depth 60 fits 20000
 
-pub ruleset crosses = (outcome_send, outcome_sync, label.the_send, label.the_sync, provider.the_send, provider.the_sync, std.crosses, sendable)
+pub ruleset crosses = (outcome_send, outcome_sync, label.the_send, label.the_sync, telling.the_send, telling.the_sync, provider.the_send, provider.the_sync, std.crosses, sendable)

@@ -6,7 +6,7 @@ use Rattle.depsets.specs.declared.element.Element.TheVariants.{Text, Number, Tru
 use Rattle.depsets.specs.declared.element.FileRef.{FileRef}
 use Rattle.printing.specs.Texts.{joined_from, quoted, separator}
 use Rattle.printing.proofs.TextLemmas.{parts-next}
-use Rattle.reporting.specs.Lines.{element_paths}
+use Rattle.claims.specs.Same.{element_paths}
 
 module _ (es : List Element) (i : ℕ) (e : Element) (h : slice_get es i ≡ Some e) where
   abbrev texts_from : ℕ → List (List ℕ)

@@ -1,5 +1,6 @@
 pub mod Crossing
 pub mod Fields
 pub mod Parts
-pub mod Taken
+pub mod BlockLemmas
 pub mod ElementPaths
+pub mod Rows

@@ -9,7 +9,9 @@ use Rattle.depsets.specs.declared.element.Element.{Element}
 use Rattle.values.specs.declared.ticks.Kind.{Kind}
 use Rattle.claims.specs.Conflicts.{conflicts_of}
 use Rattle.actions.specs.declared.action.Action.{Action}
-use Rattle.claims.specs.declared.claiming.Owned.{Owned}
+use Rattle.claims.specs.Owned.{Owned}
+use Rattle.claims.specs.Telling.{telling}
+use Rattle.claims.specs.declared.telling.Telling.{Telling}
 use Rattle.workspace.specs.Labels.{LabelParts, label_text}
 use Rattle.modules.specs.declared.sorting.FileFault.{FileFault}
 use Rattle.targets.specs.Steps.{is_failed}
@@ -41,19 +43,25 @@ owned_actions nodes = flat_map node_actions nodes
 abbrev pub file_line : FileFault FaultKind Kind → List ℕ
 file_line f = load_fault_line f.path f.fault
 
-module _ (listing : Rose Own → List Element) where
-  abbrev pub node_text : Node → List ℕ
-  node_text n = outcome_text listing n.label n.outcome
-
-  -- The bytes: of the files that failed, of each label, and of the conflicts of the actions of these labels.
-  abbrev pub report_text : List (FileFault FaultKind Kind) → List Node → List ℕ
-  report_text faults nodes =
-      flat_map file_line faults ++ (flat_map node_text nodes ++ flat_map conflict_line (conflicts_of (owned_actions nodes)))
-
 abbrev pub has_some : {A : Type 0} → List A → Bool
 has_some [] = false
 has_some (x ∷ xs) = true
 
--- whether it tells of a file that failed, a target that failed or a conflict
-abbrev pub is_loud : List (FileFault FaultKind Kind) → List Node → Bool
-is_loud faults nodes = has_some faults || (list_any (λ n. is_failed n.outcome) nodes || has_some (conflicts_of (owned_actions nodes)))
+module _ (listing : Rose Own → List Element) where
+  -- how the actions of a node are told, among those of all nodes
+  abbrev pub node_tellings : List Owned → Node → List Telling
+  node_tellings all n = map (telling listing all) (node_actions n)
+
+  abbrev pub node_text : List Owned → Node → List ℕ
+  node_text all n = outcome_text listing (node_tellings all n) n.label n.outcome
+
+  -- The bytes: of the files that failed, of each label, and of the conflicts of the actions of these labels.
+  abbrev pub report_text : List (FileFault FaultKind Kind) → List Node → List ℕ
+  report_text faults nodes =
+      let all = owned_actions nodes in
+      flat_map file_line faults ++ (flat_map (node_text all) nodes ++ flat_map conflict_line (conflicts_of listing all))
+
+  -- whether it tells of a file that failed, a target that failed or a conflict
+  abbrev pub is_loud : List (FileFault FaultKind Kind) → List Node → Bool
+  is_loud faults nodes =
+      has_some faults || (list_any (λ n. is_failed n.outcome) nodes || has_some (conflicts_of listing (owned_actions nodes)))

@@ -1,14 +1,12 @@
 -- The lines of a report (docs/REPORT.md, "The report"; all texts are this project's own choice). Each line ends with a
 -- newline. The texts of values are those of `printing`, with the listings of their depsets.
-use Rattle.std.specs.Prelude.{ℕ, List, [], ◌∷◌, ◌++◌, map, Option, Some, None, codes, decimal}
+use Rattle.std.specs.Prelude.{ℕ, List, [], ◌∷◌, ◌++◌, map, Option, Some, None, codes, decimal, slice_index_or}
 use Rattle.std.specs.List.{flat_map}
 use Rattle.lexer.specs.declared.fault.FaultKind.{FaultKind}
 use Rattle.lexer.specs.FaultText as syntax
 use Rattle.depsets.specs.Own.{Own}
 use Rattle.depsets.specs.Rose.{Rose}
 use Rattle.depsets.specs.declared.element.Element.{Element}
-use Rattle.depsets.specs.declared.element.Element.TheVariants as element
-use Rattle.depsets.specs.declared.element.FileRef.{FileRef}
 use Rattle.values.specs.KindText.{kind_text}
 use Rattle.values.specs.Tree.{Slots, branch, instance, end, missing, given}
 use Rattle.values.specs.View.{FrozenTree, FrozenBranch}
@@ -19,9 +17,10 @@ use Rattle.values.specs.declared.ticks.Kind.{Kind}
 use Rattle.values.specs.declared.ticks.Kind.TheVariants as kind
 use Rattle.printing.specs.Texts.{field_head, joined, provider_text, quoted, text_by}
 use Rattle.actions.specs.declared.action.Action.{Action}
-use Rattle.actions.specs.declared.action.Inputs.{Inputs}
-use Rattle.actions.specs.declared.action.Inputs.TheVariants as inputs
-use Rattle.claims.specs.declared.gather.Conflict.{Conflict}
+use Rattle.claims.specs.Same.{input_paths, path_of}
+use Rattle.claims.specs.declared.clashes.Conflict.{Conflict}
+use Rattle.claims.specs.declared.telling.Telling.{Telling}
+use Rattle.claims.specs.declared.telling.Telling.TheVariants.{Alone, Owners, Elsewhere}
 use Rattle.workspace.specs.Labels.{LabelParts, label_text}
 use Rattle.loading.specs.Loads.{Path, LoadFault}
 use Rattle.loading.specs.declared.faults.LoadFaultKind.{LoadFaultKind}
@@ -90,14 +89,6 @@ target_fault_text (fault.NoAction path) = codes "no action " ++ path
 abbrev pub strings_text : List (List ℕ) → List ℕ
 strings_text texts = codes "[" ++ (joined (map quoted texts) ++ codes "]")
 
-abbrev pub path_of : FileRef → List ℕ
-path_of f = f.path
-
--- Files by their paths; what is no File is none of an action's inputs
-abbrev pub element_paths : Element → List (List ℕ)
-element_paths (element.File f) = path_of f ∷ []
-element_paths _ = []
-
 abbrev pub content_text : Option (List ℕ) → List ℕ
 content_text None = []
 content_text (Some text) = codes " content " ++ quoted text
@@ -108,6 +99,17 @@ outputs_text a = codes "  action " ++ (a.mnemonic ++ (codes " outputs " ++ strin
 
 abbrev pub given_words : Action → List ℕ
 given_words a = codes " words " ++ (strings_text a.words ++ content_text a.content)
+
+abbrev pub spaced : List ℕ → List ℕ
+spaced text = codes " " ++ text
+
+-- how the action at a place is told: alone where nothing is said of it
+abbrev pub telling_at : List Telling → ℕ → Telling
+telling_at ts n = slice_index_or ts n Alone
+
+-- what stands behind an action that is told for all its owners
+abbrev pub owners_text : List (List ℕ) → List ℕ
+owners_text labels = codes " owners" ++ flat_map spaced labels
 
 module _ (listing : Rose Own → List Element) where
   -- a field that was given, with a space before it
@@ -135,26 +137,32 @@ module _ (listing : Rose Own → List Element) where
   provider_line (branch b) = instance_line b
   provider_line _ = []
 
-  -- the paths of an action's inputs: a depset gives those of its listing
-  abbrev pub input_paths : Inputs → List (List ℕ)
-  input_paths (inputs.Files files) = map path_of files
-  input_paths (inputs.Depset d) = flat_map element_paths (listing d)
+  abbrev pub action_text : Action → List ℕ
+  action_text a = outputs_text a ++ (codes " inputs " ++ (strings_text (input_paths listing a.inputs) ++ given_words a))
 
-  abbrev pub action_line : Action → List ℕ
-  action_line a = line (outputs_text a ++ (codes " inputs " ++ (strings_text (input_paths a.inputs) ++ given_words a)))
+  -- the line of an action, by how it is told: one that is told elsewhere has none, and one that is told for all its owners ends
+  -- with their labels
+  abbrev pub action_line : Telling → Action → List ℕ
+  action_line Alone a = line (action_text a)
+  action_line (Owners labels) a = line (action_text a ++ owners_text labels)
+  action_line Elsewhere a = []
+
+  -- the lines of actions, by how each is told
+  abbrev pub action_lines : List Telling → List Action → List ℕ
+  action_lines ts [] = []
+  action_lines [] (a ∷ rest) = action_line Alone a ++ action_lines [] rest
+  action_lines (t ∷ ts) (a ∷ rest) = action_line t a ++ action_lines ts rest
 
   -- ---- what becomes of a label
 
-  abbrev pub outcome_text : LabelParts → Outcome → List ℕ
-  outcome_text l (Source f) = line (codes "source " ++ (label_text l ++ (codes " " ++ path_of f)))
-  outcome_text l (Done providers actions) =
-      line (codes "target " ++ (label_text l ++ codes " ok")) ++ (flat_map provider_line providers ++ flat_map action_line actions)
-  outcome_text l (Failed f) = line (codes "target " ++ (label_text l ++ (codes " failed " ++ target_fault_text f)))
+  -- where its actions are told so
+  abbrev pub outcome_text : List Telling → LabelParts → Outcome → List ℕ
+  outcome_text ts l (Source f) = line (codes "source " ++ (label_text l ++ (codes " " ++ path_of f)))
+  outcome_text ts l (Done providers actions) =
+      line (codes "target " ++ (label_text l ++ codes " ok")) ++ (flat_map provider_line providers ++ action_lines ts actions)
+  outcome_text ts l (Failed f) = line (codes "target " ++ (label_text l ++ (codes " failed " ++ target_fault_text f)))
 
 -- ---- conflicts
-
-abbrev pub spaced : List ℕ → List ℕ
-spaced text = codes " " ++ text
 
 -- a path, and the label of each action that declares it
 abbrev pub conflict_line : Conflict → List ℕ

@@ -1,9 +1,15 @@
 -- Nodes where they lie, as the definitions of a report see them.
-use Rattle.std.specs.Prelude.{◌≡◌, ℕ, ◌+◌, ◌/◌, ◌%◌, ◌<◌, min, List, length, map, slice_index_or, string_bytes, String}
+use Rattle.std.specs.Prelude.{◌≡◌, ℕ, ◌+◌, ◌/◌, ◌%◌, ◌<◌, min, List, [], ◌∷◌, length, map, take, drop, slice_index_or, string_bytes, String}
 use Rattle.std.specs.Fork.{slice_chunk}
 use Rattle.std.specs.List.{flat_map}
 use Rattle.depsets.specs.Listed.{walked}
-use Rattle.reporting.specs.Answers.{Node as Told, node_text}
+use Rattle.depsets.specs.Own.{Own}
+use Rattle.depsets.specs.Rose.{Rose}
+use Rattle.depsets.specs.declared.element.Element.{Element}
+use Rattle.claims.specs.declared.telling.Telling.{Telling}
+use Rattle.reporting.specs.Answers.{Node as Told, actions_of}
+use Rattle.reporting.specs.Lines.{outcome_text}
+use Rattle.reporting.specs.declared.blocks.Block.{Block}
 use Rattle.reporting.specs.declared.node_lines.Node.{Node}
 
 abbrev pub node_seen : Node → Told
@@ -12,15 +18,27 @@ node_seen n = record { label = n.label.now; outcome = n.outcome.now }
 abbrev pub nodes_seen : List Node → List Told
 nodes_seen ns = map node_seen ns
 
+-- how the actions of a node are told, and the node
+abbrev pub block_seen : Block → List Telling × Told
+block_seen b = (b.tellings.now, node_seen b.node)
+
+-- nodes, each with how its actions are told, where the actions of all are told so
+abbrev pub blocks_of : List Telling → List Told → List (List Telling × Told)
+blocks_of ts [] = []
+blocks_of ts (n ∷ ns) = let count = length (actions_of n.outcome) in (take count ts, n) ∷ blocks_of (drop count ts) ns
+
+abbrev pub block_text : (Rose Own → List Element) → List Telling × Told → List ℕ
+block_text listing b = outcome_text listing b.0 b.1.label b.1.outcome
+
 -- the lines of nodes, where depsets are listed by the walk that passes over ids it has seen
-abbrev pub lines_of : List Node → List ℕ
-lines_of ns = flat_map (node_text walked) (nodes_seen ns)
+abbrev pub lines_of : List Block → List ℕ
+lines_of bs = flat_map (block_text walked) (map block_seen bs)
 
 -- the bytes of texts, one after the other
 abbrev pub text_of : {A : Type 0} → List (String A) → List ℕ
 text_of ts = flat_map string_bytes ts
 
 -- these are the texts of all parts of nodes, of so many nodes each
-pub record AreParts {A : Type 0} (ns : List Node) (size : ℕ) (texts : List (String A)) : Type 0 where
+pub record AreParts {A : Type 0} (ns : List Block) (size : ℕ) (texts : List (String A)) : Type 0 where
   pub len : length texts ≡ length ns / size + min 1 (length ns % size)
   pub each : (i : ℕ) (d : String A) → i < length texts → string_bytes (slice_index_or texts i d) ≡ lines_of (slice_chunk ns size i)

@@ -1,11 +1,13 @@
 //! The lines of actions.
 ghost use Rattle.std.specs.Prelude.{◌≡◌, ◌++◌, codes, string_bytes, OnOk, option_copied};
-ghost use Rattle.std.specs.List.{flat_map};
 ghost use Rattle.depsets.specs.Listed.{walked};
-ghost use Rattle.reporting.specs.Lines.{action_line, content_text, given_words, input_paths, outputs_text, strings_text};
+ghost use Rattle.claims.specs.Same.{input_paths};
+ghost use Rattle.reporting.specs.Lines.{action_line, action_lines, action_text, content_text, given_words, line, outputs_text, owners_text, strings_text, telling_at};
 
+use crate::conflict_lines::put_spaced;
 use crate::strings_in::{put_element_list, put_file_list, put_text_list};
-use actions::{Action, Inputs};
+use actions::{Action, Inputs, Words};
+use claims::Telling;
 use plain::Text;
 use printing::put_quoted;
 use std::alloc::{AllocError, Global};
@@ -56,30 +58,99 @@ fn put_words(out: &mut String, action: &Action) -> Result<(), AllocError>
     Ok(())
 }
 
-/// Appends the line of an action.
-pub(crate) fn put_action(alloc: Global, out: &mut String, action: &Action) -> Result<(), AllocError>
+/// Appends the text of an action.
+fn put_action(alloc: Global, out: &mut String, action: &Action) -> Result<(), AllocError>
     ensures { OnOk result (string_bytes out.new
-        ≡ string_bytes out.old ++ action_line walked action.now) }
+        ≡ string_bytes out.old ++ action_text walked action.now) }
 {
     put_outputs(out, action)?;
     out.push_str(" inputs ")?;
     put_inputs(alloc, out, &action.inputs)?;
     put_words(out, action)?;
+    Ok(())
+}
+
+/// Appends the line of an action that isn't shared.
+fn put_alone(alloc: Global, out: &mut String, action: &Action) -> Result<(), AllocError>
+    ensures { OnOk result (string_bytes out.new
+        ≡ string_bytes out.old ++ line (action_text walked action.now)) }
+{
+    put_action(alloc, out, action)?;
     out.push_str("\n")?;
     Ok(())
 }
 
-/// Appends the lines of actions, in order.
+/// Appends the labels of an action's owners.
+fn put_owners(out: &mut String, owners: &Words) -> Result<(), AllocError>
+    ensures { OnOk result (string_bytes out.new ≡ string_bytes out.old ++ owners_text owners.now) }
+{
+    out.push_str(" owners")?;
+    put_spaced(out, owners.as_slice())?;
+    Ok(())
+}
+
+/// Appends the line of an action that is told for all its owners.
+fn put_shared(
+    alloc: Global,
+    out: &mut String,
+    action: &Action,
+    owners: &Words,
+) -> Result<(), AllocError>
+    ensures { OnOk result (string_bytes out.new ≡ string_bytes out.old
+        ++ line (action_text walked action.now ++ owners_text owners.now)) }
+{
+    put_action(alloc, out, action)?;
+    put_owners(out, owners)?;
+    out.push_str("\n")?;
+    Ok(())
+}
+
+/// Appends the line of an action that is told so, if it has one.
+fn put_told(
+    alloc: Global,
+    out: &mut String,
+    action: &Action,
+    telling: &Telling,
+) -> Result<(), AllocError>
+    ensures { OnOk result (string_bytes out.new
+        ≡ string_bytes out.old ++ action_line walked telling.now action.now) }
+{
+    match telling {
+        Telling::Alone => put_alone(alloc, out, action),
+        Telling::Owners(owners) => put_shared(alloc, out, action, owners),
+        Telling::Elsewhere => Ok(()),
+    }
+}
+
+/// Appends the line of the action at a place, if it has one.
+fn put_at_place(
+    alloc: Global,
+    out: &mut String,
+    action: &Action,
+    tellings: &[Telling],
+    place: usize,
+) -> Result<(), AllocError>
+    ensures { OnOk result (string_bytes out.new
+        ≡ string_bytes out.old ++ action_line walked (telling_at tellings.now place) action.now) }
+{
+    match tellings.get(place) {
+        Some(telling) => put_told(alloc, out, action, telling),
+        None => put_alone(alloc, out, action),
+    }
+}
+
+/// Appends the lines of actions, in order, by how they are told.
 pub(crate) fn put_actions(
     alloc: Global,
     out: &mut String,
     actions: &[Action],
+    tellings: &[Telling],
 ) -> Result<(), AllocError>
     ensures { OnOk result (string_bytes out.new
-        ≡ string_bytes out.old ++ flat_map (action_line walked) actions.now) }
+        ≡ string_bytes out.old ++ action_lines walked tellings.now actions.now) }
 {
-    for action in actions {
-        put_action(alloc, out, action)?;
+    for i in 0..actions.len() {
+        put_at_place(alloc, out, &actions[i], tellings, i)?;
     }
     Ok(())
 }

@@ -8,7 +8,7 @@ use plain::Text;
 use std::alloc::AllocError;
 
 /// Appends texts, each after a space.
-fn put_spaced(out: &mut String, texts: &[Text]) -> Result<(), AllocError>
+pub(crate) fn put_spaced(out: &mut String, texts: &[Text]) -> Result<(), AllocError>
     ensures { OnOk result (string_bytes out.new
         ≡ string_bytes out.old ++ flat_map spaced texts.now) }
 {

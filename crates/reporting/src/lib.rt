@@ -5,6 +5,7 @@
 #![tactic(auto)]
 
 mod action_lines;
+mod blocks;
 mod conflict_lines;
 mod fault_texts;
 mod load_lines;

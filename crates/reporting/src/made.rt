@@ -2,23 +2,19 @@
 ghost use Rattle.std.specs.Prelude.{◌≡◌, ◌++◌, ◌||◌, map, string_bytes, IfOk, OnOk};
 ghost use Rattle.std.specs.List.{flat_map, list_any};
 ghost use Rattle.depsets.specs.Listed.{walked};
-ghost use Rattle.claims.specs.Conflicts.{conflicts_of, gathered};
-ghost use Rattle.claims.specs.Taken.{nothing, with_actions};
-ghost use Rattle.workspace.specs.Labels.{label_text};
 ghost use Rattle.targets.specs.Steps.{is_failed};
 ghost use Rattle.reporting.specs.Lines.{conflict_line};
-ghost use Rattle.reporting.specs.Answers.{actions_of, file_line, has_some, is_loud, node_actions, node_text, owned_actions, owned_by, report_text};
-ghost use Rattle.reporting.specs.Seen.{node_seen, nodes_seen, text_of};
+ghost use Rattle.reporting.specs.Answers.{file_line, has_some, is_loud, report_text};
+ghost use Rattle.reporting.specs.Seen.{block_text, blocks_of, lines_of, node_seen, nodes_seen, text_of};
 ghost use Rattle.reporting.specs.Reported.{report_bytes};
 
+use crate::blocks::{Block, blocks, tell_nodes};
 use crate::conflict_lines::put_conflict;
 use crate::load_lines::put_load_fault;
 use crate::node_lines::{Node, node_parts};
-use actions::Action;
-use claims::{Claims, Conflict};
+use claims::{Conflict, Told};
 use lexer::FaultKind;
 use modules::FileFault;
-use plain::Text;
 use std::alloc::{AllocError, Global};
 use std::thread::Threads;
 use targets::Outcome;
@@ -78,63 +74,6 @@ fn put_conflicts(out: &mut String, conflicts: &[Conflict]) -> Result<(), AllocEr
     Ok(())
 }
 
-/// The actions that an outcome has.
-fn actions_of(outcome: &Outcome) -> &[Action]
-    ensures { result.now ≡ actions_of outcome.now }
-{
-    match outcome {
-        Outcome::Source(_) => &[],
-        Outcome::Done(_, actions) => actions.as_slice(),
-        Outcome::Failed(_) => &[],
-    }
-}
-
-/// Takes the actions of a label, whose text this is.
-fn claim_actions(claims: &mut Claims, text: &Text, actions: &[Action]) -> Result<(), AllocError>
-    ensures { OnOk result
-        (claims.new ≡ with_actions claims.old (map (owned_by text.now) actions.now)) }
-{
-    for action in actions {
-        claims.add(text, action)?;
-    }
-    Ok(())
-}
-
-/// Takes the actions of a node.
-fn claim_node(alloc: Global, claims: &mut Claims, node: &Node<'_>) -> Result<(), AllocError>
-    ensures { OnOk result
-        (claims.new ≡ with_actions claims.old (node_actions (node_seen node.now))) }
-{
-    let actions = actions_of(node.outcome);
-    if actions.is_empty() {
-        return Ok(());
-    }
-    let text = Text::new(alloc, node.label.text())?;
-    claim_actions(claims, &text, actions)
-}
-
-/// What the actions of nodes claim.
-fn claim_all(alloc: Global, nodes: &[Node<'_>]) -> Result<Claims, AllocError>
-    ensures { IfOk result
-        (λ c. c ≡ with_actions nothing (owned_actions (nodes_seen nodes.now))) }
-{
-    let mut claims = Claims::new(alloc);
-    for node in nodes {
-        claim_node(alloc, &mut claims, node)?;
-    }
-    Ok(claims)
-}
-
-/// The conflicts of the actions of nodes.
-fn conflicts_of(alloc: Global, nodes: &[Node<'_>]) -> Result<Vec<Conflict>, AllocError>
-    ensures { IfOk result
-        (λ v. v.items ≡ conflicts_of (owned_actions (nodes_seen nodes.now))) }
-{
-    let claims = claim_all(alloc, nodes)?;
-    let found = claims.conflicts(alloc)?;
-    Ok(found)
-}
-
 /// Whether an outcome is a failure.
 fn is_failure(outcome: &Outcome) -> bool
     ensures { result ≡ is_failed outcome.now }
@@ -170,7 +109,7 @@ fn has_failed(nodes: &[Node<'_>]) -> bool
 /// The report of files that failed and of nodes, both in the order in which they are to stand.
 ///
 /// It takes time linear in its length, and n log n comparisons of paths for n outputs of actions; no action and no value is
-/// copied. The lines of many nodes are written by so many threads at most, which have ended when this returns; what they are
+/// copied. An action that declares a path that another declares too has its inputs listed once more. The lines of many nodes are written by so many threads at most, which have ended when this returns; what they are
 /// depends on none of them.
 ///
 /// # Errors
@@ -185,11 +124,11 @@ pub fn make_report<R: Threads + Sync>(
 ) -> Result<Report, AllocError>
     ensures text { IfOk result
         (λ r. report_bytes r ≡ report_text walked faults.now (nodes_seen nodes.now)) }
-    ensures loud { IfOk result (λ r. r.loud ≡ is_loud faults.now (nodes_seen nodes.now)) }
+    ensures loud { IfOk result (λ r. r.loud ≡ is_loud walked faults.now (nodes_seen nodes.now)) }
 {
-    let conflicts = conflicts_of(alloc, nodes)?;
-    let parts = lines(rt, alloc, faults, nodes, &conflicts, threads)?;
-    let loud = is_loud(faults, nodes, &conflicts);
+    let told = tell_nodes(alloc, nodes)?;
+    let parts = told_lines(rt, alloc, faults, nodes, &told, threads)?;
+    let loud = is_loud(faults, nodes, &told.conflicts);
     Ok(Report { parts, loud })
 }
 
@@ -223,22 +162,39 @@ fn conflict_lines(alloc: Global, conflicts: &[Conflict]) -> Result<String, Alloc
     Ok(out)
 }
 
+/// All lines, in parts, where the actions of the nodes are told so.
+fn told_lines<R: Threads + Sync>(
+    rt: &R,
+    alloc: Global,
+    faults: &[FileFault<FaultKind, Kind>],
+    nodes: &[Node<'_>],
+    told: &Told,
+    threads: usize,
+) -> Result<Vec<String>, AllocError>
+    ensures { IfOk result (λ parts. text_of parts.items ≡ flat_map file_line faults.now
+        ++ (flat_map (block_text walked) (blocks_of told.now.tellings.items (nodes_seen nodes.now))
+        ++ flat_map conflict_line told.now.conflicts.items)) }
+{
+    let blocks = blocks(alloc, nodes, &told.tellings)?;
+    let parts = lines(rt, alloc, faults, &blocks, &told.conflicts, threads)?;
+    Ok(parts)
+}
+
 /// All lines, in parts.
 fn lines<R: Threads + Sync>(
     rt: &R,
     alloc: Global,
     faults: &[FileFault<FaultKind, Kind>],
-    nodes: &[Node<'_>],
+    blocks: &[Block<'_>],
     conflicts: &[Conflict],
     threads: usize,
 ) -> Result<Vec<String>, AllocError>
     ensures { IfOk result (λ parts. text_of parts.items ≡ flat_map file_line faults.now
-        ++ (flat_map (node_text walked) (nodes_seen nodes.now)
-        ++ flat_map conflict_line conflicts.now)) }
+        ++ (lines_of blocks.now ++ flat_map conflict_line conflicts.now)) }
 {
     let mut parts = Vec::new(alloc);
     parts.push(fault_lines(alloc, faults)?)?;
-    let mut nodes = node_parts(rt, alloc, nodes, threads)?;
+    let mut nodes = node_parts(rt, alloc, blocks, threads)?;
     parts.append(&mut nodes)?;
     parts.push(conflict_lines(alloc, conflicts)?)?;
     Ok(parts)

@@ -2,9 +2,9 @@
 ghost use Rattle.std.specs.Prelude.{◌≡◌, ◌++◌, ◌<◌, drop, length, string_bytes, IfOk, OnOk};
 ghost use Rattle.std.specs.Fork.{slice_chunk};
 ghost use Rattle.depsets.specs.Listed.{walked};
-ghost use Rattle.reporting.specs.Answers.{node_text};
-ghost use Rattle.reporting.specs.Seen.{AreParts, lines_of, node_seen, text_of};
+ghost use Rattle.reporting.specs.Seen.{AreParts, block_seen, block_text, lines_of, text_of};
 
+use crate::blocks::Block;
 use crate::outcome_lines::put_outcome;
 use parallel::map_places;
 use std::alloc::{AllocError, Global};
@@ -24,81 +24,87 @@ pub struct Node<'a> {
 }
 
 /// Appends the lines of a node.
-fn put_node(alloc: Global, out: &mut String, node: &Node<'_>) -> Result<(), AllocError>
+fn put_node(alloc: Global, out: &mut String, block: &Block<'_>) -> Result<(), AllocError>
     ensures { OnOk result (string_bytes out.new
-        ≡ string_bytes out.old ++ node_text walked (node_seen node.now)) }
+        ≡ string_bytes out.old ++ block_text walked (block_seen block.now)) }
 {
-    put_outcome(alloc, out, node.label, node.outcome)
+    put_outcome(
+        alloc,
+        out,
+        block.node.label,
+        block.node.outcome,
+        block.tellings,
+    )
 }
 
 /// Appends the lines of nodes.
-fn put_nodes(alloc: Global, out: &mut String, nodes: &[Node<'_>]) -> Result<(), AllocError>
+fn put_nodes(alloc: Global, out: &mut String, blocks: &[Block<'_>]) -> Result<(), AllocError>
     ensures { OnOk result (string_bytes out.new
-        ≡ string_bytes out.old ++ lines_of nodes.now) }
+        ≡ string_bytes out.old ++ lines_of blocks.now) }
 {
-    for node in nodes {
-        put_node(alloc, out, node)?;
+    for block in blocks {
+        put_node(alloc, out, block)?;
     }
     Ok(())
 }
 
 /// The lines of nodes, in no more memory than they take.
-fn lines(alloc: Global, nodes: &[Node<'_>]) -> Result<String, AllocError>
-    ensures { IfOk result (λ t. string_bytes t ≡ lines_of nodes.now) }
+fn lines(alloc: Global, blocks: &[Block<'_>]) -> Result<String, AllocError>
+    ensures { IfOk result (λ t. string_bytes t ≡ lines_of blocks.now) }
 {
     let mut out = String::new(alloc);
-    put_nodes(alloc, &mut out, nodes)?;
+    put_nodes(alloc, &mut out, blocks)?;
     out.shrink_to_fit();
     Ok(out)
 }
 
 /// The nodes from a place on.
-fn nodes_from<'n, 'a>(nodes: &'n [Node<'a>], start: usize) -> &'n [Node<'a>]
-    ensures { result.now ≡ drop start nodes.now }
+fn blocks_from<'n, 'a>(blocks: &'n [Block<'a>], start: usize) -> &'n [Block<'a>]
+    ensures { result.now ≡ drop start blocks.now }
 {
-    &nodes[start.min(nodes.len())..]
+    &blocks[start.min(blocks.len())..]
 }
 
 /// The nodes of a part, where each part has so many.
-fn part_at<'n, 'a>(nodes: &'n [Node<'a>], size: usize, place: usize) -> &'n [Node<'a>]
-    ensures { result.now ≡ slice_chunk nodes.now size place }
+fn part_at<'n, 'a>(blocks: &'n [Block<'a>], size: usize, place: usize) -> &'n [Block<'a>]
+    ensures { result.now ≡ slice_chunk blocks.now size place }
 {
-    let rest = nodes_from(nodes, place.saturating_mul(size));
+    let rest = blocks_from(blocks, place.saturating_mul(size));
     &rest[..size.min(rest.len())]
 }
 
 /// The lines of a part, where each part has so many nodes.
 fn lines_of_part(
     alloc: Global,
-    nodes: &[Node<'_>],
+    blocks: &[Block<'_>],
     size: usize,
     place: usize,
 ) -> Result<String, AllocError>
-    ensures { IfOk result (λ t. string_bytes t ≡ lines_of (slice_chunk nodes.now size place)) }
+    ensures { IfOk result (λ t. string_bytes t ≡ lines_of (slice_chunk blocks.now size place)) }
 {
-    lines(alloc, part_at(nodes, size, place))
+    lines(alloc, part_at(blocks, size, place))
 }
 
 /// The lines of each part, where each part has so many nodes, written by so many threads.
 fn lines_of_parts<R: Threads + Sync>(
     rt: &R,
     alloc: Global,
-    nodes: &[Node<'_>],
+    blocks: &[Block<'_>],
     size: usize,
     threads: usize,
 ) -> Result<Vec<String>, AllocError>
     requires { 0 < size }
-    ensures { IfOk result (λ texts. AreParts nodes.now size texts.items) }
+    ensures { IfOk result (λ texts. AreParts blocks.now size texts.items) }
 {
     map_places(
         rt,
         alloc,
-        nodes.len().div_ceil(size),
+        blocks.len().div_ceil(size),
         threads,
         &|place: usize| -> Result<String, AllocError>
             ensures { IfOk result
-                (λ t. string_bytes t ≡ lines_of (slice_chunk nodes.entry.now size place)) }
-        { lines_of_part(alloc, nodes, size, place) },
+                (λ t. string_bytes t ≡ lines_of (slice_chunk blocks.entry.now size place)) }
+        { lines_of_part(alloc, blocks, size, place) },
     )
 }
 
@@ -109,10 +115,10 @@ fn lines_of_parts<R: Threads + Sync>(
 pub(crate) fn node_parts<R: Threads + Sync>(
     rt: &R,
     alloc: Global,
-    nodes: &[Node<'_>],
+    blocks: &[Block<'_>],
     threads: usize,
 ) -> Result<Vec<String>, AllocError>
-    ensures { IfOk result (λ texts. text_of texts.items ≡ lines_of nodes.now) }
+    ensures { IfOk result (λ texts. text_of texts.items ≡ lines_of blocks.now) }
 {
-    lines_of_parts(rt, alloc, nodes, PART, threads)
+    lines_of_parts(rt, alloc, blocks, PART, threads)
 }

@@ -9,6 +9,7 @@ use crate::action_lines::put_actions;
 use crate::fault_texts::put_kind_behind;
 use crate::load_lines::put_at;
 use crate::provider_lines::put_providers;
+use claims::Telling;
 use plain::{Shared, Text};
 use std::alloc::{AllocError, Global};
 use targets::{Outcome, TargetFault};
@@ -145,7 +146,7 @@ fn put_done(out: &mut String, label: &Label) -> Result<(), AllocError>
     Ok(())
 }
 
-/// Appends the lines of what becomes of a label.
+/// Appends the lines of what becomes of a label, whose actions are told so.
 ///
 /// # Errors
 ///
@@ -155,9 +156,10 @@ pub fn put_outcome(
     out: &mut String,
     label: &Label,
     outcome: &Outcome,
+    tellings: &[Telling],
 ) -> Result<(), AllocError>
     ensures { OnOk result (string_bytes out.new
-        ≡ string_bytes out.old ++ outcome_text walked label.now outcome.now) }
+        ≡ string_bytes out.old ++ outcome_text walked tellings.now label.now outcome.now) }
 {
     match outcome {
         Outcome::Source(file) => put_source(out, label, &file.get().path),
@@ -165,7 +167,7 @@ pub fn put_outcome(
         Outcome::Done(providers, actions) => {
             put_done(out, label)?;
             put_providers(alloc, out, providers.as_slice())?;
-            put_actions(alloc, out, actions.as_slice())
+            put_actions(alloc, out, actions.as_slice(), tellings)
         }
     }
 }

@@ -2,7 +2,8 @@
 ghost use Rattle.std.specs.Prelude.{◌≡◌, ◌++◌, map, string_bytes, OnOk};
 ghost use Rattle.std.specs.List.{flat_map};
 ghost use Rattle.printing.specs.Texts.{joined, quoted, separator};
-ghost use Rattle.reporting.specs.Lines.{element_paths, path_of, strings_text};
+ghost use Rattle.claims.specs.Same.{element_paths, path_of};
+ghost use Rattle.reporting.specs.Lines.{strings_text};
 
 use depsets::{Element, Elements, FileRef};
 use plain::{Shared, Text};

@@ -1,7 +1,8 @@
-use Rattle.std.proofs.Common.{◌≡◌, ◌++◌, take, flat_map, string_bytes}
+use Rattle.std.proofs.Common.{◌≡◌, ◌++◌, drop, string_bytes}
 use Rattle.depsets.specs.Listed.{walked}
-use Rattle.reporting.specs.Lines.{action_line}
+use Rattle.reporting.specs.Lines.{action_lines}
 use Rattle.reporting.proofs.action_lines.put_actions.Given as goal
 
-abbrev pub invariant-loop-action : goal.invariant-loop-action
-invariant-loop-action l = string_bytes l.out ≡ string_bytes l.fn.out ++ flat_map (action_line walked) (take l.action-index l.actions)
+abbrev pub invariant-loop-i : goal.invariant-loop-i
+invariant-loop-i l =
+    string_bytes l.out ++ action_lines walked (drop l.i l.tellings) (drop l.i l.actions) ≡ string_bytes l.fn.out ++ action_lines walked l.tellings l.actions

@@ -1,7 +1,7 @@
 use Rattle.std.proofs.Common.{◌∙◌}
 use Rattle.targets.specs.Steps.{is_failed}
 use Rattle.reporting.specs.Seen.{node_seen}
-use Rattle.reporting.proofs.Taken.{any_seen}
+use Rattle.reporting.proofs.BlockLemmas.{any_seen}
 use Rattle.reporting.proofs.made.has_failed.Goals as goal
 
 pub returns : goal.returns

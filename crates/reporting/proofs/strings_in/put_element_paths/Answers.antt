@@ -1,6 +1,6 @@
 use Rattle.std.proofs.Common.{◌++◌, ◌∙◌, ap, map, flat_map, drop, string_bytes, ◌+◌, arith}
 use Rattle.printing.specs.Texts.{joined_from, quoted, separator}
-use Rattle.reporting.specs.Lines.{element_paths}
+use Rattle.claims.specs.Same.{element_paths}
 use Rattle.reporting.proofs.ElementPaths.{file-next, other-next, no_paths}
 use Rattle.reporting.proofs.strings_in.put_element_paths.Goals as goal
 use Rattle.reporting.proofs.strings_in.put_element_paths.Goals.{in-File+in_ok-put_string_at, in_default}

@@ -1,6 +1,6 @@
 use Rattle.std.proofs.Common.{◌≡◌, ◌≤◌, ◌++◌, drop, flat_map, map, string_bytes}
 use Rattle.printing.specs.Texts.{joined_from, joined, quoted}
-use Rattle.reporting.specs.Lines.{element_paths}
+use Rattle.claims.specs.Same.{element_paths}
 use Rattle.reporting.proofs.strings_in.put_element_paths.Given as goal
 
 abbrev pub invariant-loop-i : goal.invariant-loop-i

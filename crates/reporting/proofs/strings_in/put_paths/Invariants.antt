@@ -1,6 +1,6 @@
 use Rattle.std.proofs.Common.{◌≡◌, ◌++◌, drop, map, string_bytes}
 use Rattle.printing.specs.Texts.{joined_from, joined, quoted}
-use Rattle.reporting.specs.Lines.{path_of}
+use Rattle.claims.specs.Same.{path_of}
 use Rattle.reporting.proofs.strings_in.put_paths.Given as goal
 
 abbrev pub invariant-loop-i : goal.invariant-loop-i

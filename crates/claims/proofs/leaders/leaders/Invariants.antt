@@ -1,0 +1,7 @@
+use Rattle.std.proofs.Common.{◌≡◌, ◌++◌, [], drop}
+use Rattle.depsets.specs.Listed.{walked}
+use Rattle.claims.specs.Leaders.{leaders_from}
+use Rattle.claims.proofs.leaders.leaders.Given as goal
+
+abbrev pub invariant-loop-i : goal.invariant-loop-i
+invariant-loop-i l = l.leaders.items ++ leaders_from walked l.marks l.firsts l.i (drop l.i l.owned) ≡ leaders_from walked l.marks [] 0 l.owned

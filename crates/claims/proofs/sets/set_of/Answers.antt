@@ -1,0 +1,9 @@
+use Rattle.std.proofs.Common.{◌∙◌, ap, sym, subst, arith}
+use Rattle.claims.specs.Sets.{IsSetOf, set_from}
+use Rattle.claims.proofs.SetLemmas.{set_is}
+use Rattle.claims.proofs.sets.set_of.Goals as goal
+
+pub returns : goal.returns
+returns c =
+    subst (IsSetOf c.args.members.now) (sym (c.in_ok-found.ensures ∙ ap set_from c.as_slice.ensures))
+    (set_is c.args.members.now _ (omega (arith, c.if-members-lt2.false)) c.in_ok-sorted.ensures)

@@ -1,0 +1,7 @@
+-- An action, and the label of the target that registered it.
+use Rattle.std.specs.Prelude.{ℕ, List}
+use Rattle.actions.specs.declared.action.Action.{Action}
+
+pub record Owned : Type 0 where
+  pub label : List ℕ
+  pub action : Action

@@ -1,0 +1,17 @@
+-- What a contract sees of what is compared.
+use Rattle.std.specs.Prelude.{ℕ, List, map}
+use Rattle.claims.specs.Same.{Compared}
+use Rattle.claims.specs.Leaders.{Firsts}
+use Rattle.claims.specs.declared.comparable.Comparable.{Comparable}
+
+abbrev pub parts_of : Comparable → Compared
+parts_of c = record {
+  mnemonic = c.mnemonic;
+  outputs = c.outputs.items;
+  inputs = c.inputs.items;
+  words = c.words.items;
+  content = c.content;
+}
+
+abbrev pub noted : List (Comparable × ℕ) → Firsts
+noted es = map (λ e. (parts_of e.0, e.1)) es
