@@ -109,8 +109,8 @@ fn has_failed(nodes: &[Node<'_>]) -> bool
 /// The report of files that failed and of nodes, both in the order in which they are to stand.
 ///
 /// It takes time linear in its length, and n log n comparisons of paths for n outputs of actions; no action and no value is
-/// copied. An action that declares a path that another declares too has its inputs listed once more. The lines of many nodes are written by so many threads at most, which have ended when this returns; what they are
-/// depends on none of them.
+/// copied. An action that declares a path that another declares too has its inputs listed once more. The lines of many nodes
+/// are written by so many threads at most, which have ended when this returns; what they are depends on none of them.
 ///
 /// # Errors
 ///
