@@ -12,7 +12,10 @@ use Rattle.claims.specs.Conflicts.{conflict_of, conflicts_of, told}
 use Rattle.claims.specs.Owned.{Owned}
 use Rattle.claims.specs.Same.{compared, same_action, same_parts}
 use Rattle.claims.specs.Telling.{equals, telling, telling_of}
-use Rattle.claims.specs.declared.commons.Common.{Common}
+
+flat_same : {A B : Type 0} (f g : A → List B) → ((x : A) → f x ≡ g x) → (xs : List A) → flat_map f xs ≡ flat_map g xs
+flat_same f g same [] = refl
+flat_same f g same (x ∷ xs) = λ i. same x i ++ flat_same f g same xs i
 
 module _ (one other : Rose Own → List Element) where
   abbrev pub Agree : Owned → Type 0
@@ -56,9 +59,6 @@ module _ (one other : Rose Own → List Element) where
   clashes_same : (os : List Owned) → Each Agree os → (p : List ℕ) → clashes one p os ≡ clashes other p os
   clashes_same os h p = pair_same (filter (declares p) os) (kept (declares p) os h)
 
-  all_same : (os : List Owned) → Each Agree os → (cs : List Common) → flat_map (conflict_of one os) cs ≡ flat_map (conflict_of other os) cs
-  all_same os h [] = refl
-  all_same os h (c ∷ cs) = λ i. (if clashes_same os h c.path i then told c ∷ [] else []) ++ all_same os h cs i
-
   pub conflicts_same : (os : List Owned) → Each Agree os → conflicts_of one os ≡ conflicts_of other os
-  conflicts_same os h = all_same os h (commons_of os)
+  conflicts_same os h =
+      flat_same (conflict_of one os) (conflict_of other os) (λ c. ap (λ b. if b then told c ∷ [] else []) (clashes_same os h c.path)) (commons_of os)
