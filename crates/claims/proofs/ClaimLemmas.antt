@@ -2,7 +2,7 @@
 use Rattle.std.proofs.Common.{◌≡◌, ℕ, ◌+◌, List, [], ◌∷◌, ◌++◌, append_assoc, drop, map, slice_get, Some, sym, ap, ◌∙◌, refl}
 use Rattle.depsets.proofs.Turns.{drop_at}
 use Rattle.depsets.specs.declared.element.FileRef.{FileRef}
-use Rattle.claims.specs.Claims.{claim_on, claims_of, claims_from, put_in_order, all_in_order, in_order}
+use Rattle.claims.specs.Claims.{claim_on, claims_of, claims_from, put_in_order, all_in_order}
 use Rattle.claims.specs.Owned.{Owned}
 use Rattle.claims.specs.declared.claiming.Claim.{Claim}
 

@@ -1,11 +1,11 @@
 -- By the leaders of actions the paths are found that clash.
-use Rattle.std.proofs.Common.{◌≡◌, ◌∙◌, ◌⊎◌, inl, inr, ◌<◌, ◌≤◌, ◌||◌, ◌+◌, ℕ, zero, suc, Bool, true, false, not, cond, List, [], ◌∷◌, ◌++◌, length, map, get_or, Contains, Option, Some, None, refl, sym, ap, subst, arith, if◌then◌else◌}
-use Rattle.std.specs.Prelude.{slice_index_or, nat_eq}
+use Rattle.std.proofs.Common.{◌≡◌, ◌∙◌, inl, inr, ◌<◌, ◌≤◌, ◌||◌, ◌+◌, ℕ, zero, suc, Bool, true, false, not, cond, List, [], ◌∷◌, ◌++◌, length, map, get_or, Contains, None, refl, sym, ap, subst, arith, if◌then◌else◌}
+use Rattle.std.specs.Prelude.{nat_eq}
 use Rattle.std.specs.List.{filter, flat_map, position_or_len}
 use Rattle.std.specs.Str.{bytes_eq}
 use Rattle.std.specs.Cmp.Lexicographic.{slice_cmp}
 use Rattle.std.specs.Ordering.{nat_cmp, is_eq}
-use Rattle.std.specs.declared.cmp.Ordering.TheVariants.{Less, Equal, Greater}
+use Rattle.std.specs.declared.cmp.Ordering.TheVariants.{Less}
 use Rattle.std.proofs.lemmas.Bool.{true≢false, cases_lt}
 use Rattle.std.proofs.lemmas.Bool.Decides.{Decides-eqb}
 use Rattle.std.specs.Cmp.{IsTotalOrder}
@@ -18,7 +18,7 @@ use Rattle.depsets.specs.Rose.{Rose}
 use Rattle.depsets.specs.declared.element.Element.{Element}
 use Rattle.actions.specs.Ascending.{Each, AreAscending}
 use Rattle.claims.specs.Claims.{claims_from, in_order, is_on}
-use Rattle.claims.specs.Clashes.{IsAmong, AreConflicts, clash, clashes, declares, labels_on, owners}
+use Rattle.claims.specs.Clashes.{IsAmong, AreConflicts, clash, clashes, declares, owners}
 use Rattle.claims.specs.Commons.{commons_of, member_of, members}
 use Rattle.claims.specs.Conflicts.{told, conflict_of, conflicts_of, conflict_by}
 use Rattle.claims.specs.Labels.{AreLabels}

@@ -1,5 +1,5 @@
 -- The leaders that are found are the places of the first equal actions.
-use Rattle.std.proofs.Common.{◌≡◌, ◌∙◌, inl, inr, ◌<◌, ◌≤◌, ◌+◌, ℕ, zero, suc, Bool, true, false, cond, List, [], ◌∷◌, ◌++◌, length, map, get_or, Option, Some, None, refl, sym, ap, subst, arith}
+use Rattle.std.proofs.Common.{◌≡◌, ◌∙◌, inl, inr, ◌<◌, ◌+◌, ℕ, suc, Bool, true, false, List, [], ◌∷◌, ◌++◌, length, map, get_or, Option, Some, None, refl, sym, ap, subst, arith}
 use Rattle.std.specs.Prelude.{is_some, unwrap_or, if◌then◌else◌}
 use Rattle.std.specs.List.{position_or_len}
 use Rattle.std.proofs.lemmas.Bool.{true≢false, cases_lt}
@@ -7,7 +7,7 @@ use Rattle.std.proofs.lemmas.List.Sums.{position_or_len_is}
 use Rattle.depsets.specs.Own.{Own}
 use Rattle.depsets.specs.Rose.{Rose}
 use Rattle.depsets.specs.declared.element.Element.{Element}
-use Rattle.claims.specs.Leaders.{Firsts, known_in, with_first, next_leader, next_firsts, leaders_from, leader, leaders}
+use Rattle.claims.specs.Leaders.{Firsts, known_in, next_leader, next_firsts, leaders_from, leader, leaders}
 use Rattle.claims.specs.Owned.{Owned}
 use Rattle.claims.specs.Same.{Compared, compared, same_parts}
 use Rattle.claims.proofs.SameLemmas.{parts_same, parts_itself, parts_turned}

@@ -18,3 +18,4 @@ pub mod SharingLemmas
 pub mod ClashUnique
 pub mod AloneLemmas
 pub mod ShareRows
+pub mod Agreed

@@ -1,5 +1,5 @@
 -- An action that isn't marked is equal to no other.
-use Rattle.std.proofs.Common.{◌≡◌, ◌∙◌, inl, inr, ◌<◌, ◌≤◌, ◌+◌, ◌||◌, ℕ, zero, suc, Bool, true, false, cond, List, [], ◌∷◌, length, map, get_or, set, Contains, refl, sym, ap, subst, arith}
+use Rattle.std.proofs.Common.{◌≡◌, ◌∙◌, inl, inr, ◌<◌, ◌≤◌, ◌||◌, ℕ, zero, suc, Bool, true, false, List, [], ◌∷◌, length, map, get_or, set, Contains, refl, sym, ap, subst, arith}
 use Rattle.std.specs.List.{list_any}
 use Rattle.std.specs.Str.{bytes_eq}
 use Rattle.std.proofs.lemmas.Bool.{true≢false}
@@ -14,7 +14,7 @@ use Rattle.claims.specs.Commons.{commons_of, members}
 use Rattle.claims.specs.Leaders.{leaders, leaders_from}
 use Rattle.claims.specs.Marks.{is_none, is_bare, marked_by, marked_all}
 use Rattle.claims.specs.Owned.{Owned}
-use Rattle.claims.specs.Same.{compared, same_parts, path_of}
+use Rattle.claims.specs.Same.{same_parts, path_of}
 use Rattle.claims.specs.declared.commons.Common.{Common}
 use Rattle.claims.specs.declared.members.Member.{Member}
 use Rattle.claims.proofs.CommonLemmas.{commons_law}

@@ -1,5 +1,5 @@
 -- Which actions declare a path, by the claims in order.
-use Rattle.std.proofs.Common.{◌≡◌, ◌∙◌, inl, inr, ◌<◌, ◌≤◌, ◌+◌, ◌||◌, ◌&&◌, ℕ, zero, suc, Bool, true, false, cond, List, [], ◌∷◌, ◌++◌, length, map, get_or, Contains, refl, sym, ap, subst, arith}
+use Rattle.std.proofs.Common.{◌≡◌, ◌∙◌, ◌<◌, ◌+◌, ◌||◌, ℕ, zero, suc, Bool, true, false, cond, List, [], ◌∷◌, ◌++◌, length, map, get_or, Contains, refl, sym, ap, subst, arith}
 use Rattle.std.specs.List.{filter, list_any}
 use Rattle.std.specs.Str.{bytes_eq}
 use Rattle.std.specs.Cmp.Lexicographic.{slice_cmp}
@@ -12,10 +12,10 @@ use Rattle.std.proofs.lemmas.List.Elements.{Contains-append_left, Contains-appen
 use Rattle.std.proofs.lemmas.Slice.Eq.{bytes_eq-Decides}
 use Rattle.depsets.specs.declared.element.FileRef.{FileRef}
 use Rattle.actions.specs.Ascending.{Each}
-use Rattle.actions.proofs.Ascending.{Climbs, head_in, tail_in}
+use Rattle.actions.proofs.Ascending.{Climbs, tail_in}
 use Rattle.claims.specs.Claims.{claim_cmp, claim_on, claims_of, claims_from, in_order, is_on}
 use Rattle.claims.specs.Clashes.{declares}
-use Rattle.claims.specs.Commons.{member_of, members, members_on}
+use Rattle.claims.specs.Commons.{member_of, members}
 use Rattle.claims.specs.Members.{member_cmp}
 use Rattle.claims.specs.Owned.{Owned}
 use Rattle.claims.specs.declared.claiming.Claim.{Claim}

@@ -1,5 +1,5 @@
 -- Of actions in order, one clashes with the next exactly where two of them clash.
-use Rattle.std.proofs.Common.{◌≡◌, ◌∙◌, ◌⊎◌, inl, inr, ◌<◌, ◌||◌, ◌+◌, ℕ, zero, suc, Bool, true, false, not, List, [], ◌∷◌, length, get_or, Contains, Option, Some, None, refl, sym, ap, subst, arith}
+use Rattle.std.proofs.Common.{◌≡◌, ◌∙◌, ◌⊎◌, inl, inr, ℕ, zero, suc, Bool, true, false, not, List, [], ◌∷◌, Contains, Some, None, refl, sym, ap, subst, arith}
 use Rattle.std.specs.Prelude.{slice_index_or, nat_eq}
 use Rattle.std.specs.Str.{bytes_eq}
 use Rattle.std.specs.Cmp.Lexicographic.{slice_cmp}
@@ -11,7 +11,7 @@ use Rattle.std.proofs.lemmas.Cmp.{nat_list_cmp_total}
 use Rattle.std.proofs.lemmas.Map.Text.{is_eq-slice_cmp}
 use Rattle.actions.specs.Ascending.{Each}
 use Rattle.actions.proofs.Ascending.{Climbs, head_in, tail_in}
-use Rattle.claims.specs.Members.{member_cmp, clash_by, clashes_after, some_clash}
+use Rattle.claims.specs.Members.{member_cmp, clash_by, some_clash}
 use Rattle.claims.specs.declared.members.Member.{Member}
 use Rattle.claims.proofs.Pairs.{either, neither}
 

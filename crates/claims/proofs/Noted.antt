@@ -1,5 +1,5 @@
 -- What is noted of parts that are compared.
-use Rattle.std.proofs.Common.{◌≡◌, ◌∙◌, ℕ, Bool, List, [], ◌∷◌, ◌++◌, Option, Some, None, cond, ap, refl}
+use Rattle.std.proofs.Common.{◌≡◌, ℕ, Bool, List, [], ◌∷◌, ◌++◌, Some, cond, ap, refl}
 use Rattle.std.specs.Map.{lookup}
 use Rattle.claims.specs.Leaders.{known_in}
 use Rattle.claims.specs.Same.{same_parts}

@@ -1,7 +1,6 @@
 -- Worked conflicts and shared actions, by computation.
-use Rattle.std.specs.Prelude.{◌≡◌, ℕ, List, [], ◌∷◌, map, None, Some, refl, codes}
+use Rattle.std.specs.Prelude.{◌≡◌, ℕ, List, [], ◌∷◌, map, Some, refl, codes}
 use Rattle.depsets.specs.Listed.{flat}
-use Rattle.depsets.specs.declared.element.FileRef.{FileRef}
 use Rattle.actions.specs.declared.action.Inputs.TheVariants as inputs
 use Rattle.claims.specs.Conflicts.{conflicts_of}
 use Rattle.claims.specs.Owned.{Owned}

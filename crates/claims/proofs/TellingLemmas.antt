@@ -1,8 +1,7 @@
 -- By leaders and their sets each action is told as it is to be.
-use Rattle.std.proofs.Common.{◌≡◌, ◌∙◌, ◌⊎◌, inl, inr, ◌<◌, ◌≤◌, ◌+◌, ℕ, zero, suc, Bool, true, false, cond, List, [], ◌∷◌, ◌++◌, length, map, get_or, set, Option, Some, None, refl, sym, ap, subst, arith, append_assoc, if◌then◌else◌}
+use Rattle.std.proofs.Common.{◌≡◌, ◌∙◌, ◌<◌, ◌+◌, ℕ, zero, suc, Bool, true, false, cond, List, [], ◌∷◌, ◌++◌, length, map, get_or, set, Option, Some, None, refl, sym, ap, arith, append_assoc, if◌then◌else◌}
 use Rattle.std.specs.Prelude.{slice_index_or, nat_eq}
-use Rattle.std.specs.List.{AllZip, filter, position_or_len}
-use Rattle.std.specs.Str.{bytes_eq}
+use Rattle.std.specs.List.{AllZip, filter}
 use Rattle.std.proofs.lemmas.Bool.{true≢false}
 use Rattle.std.proofs.lemmas.Bool.Decides.{Decides-eqb}
 use Rattle.std.proofs.lemmas.List.{append-nil, get_or-map, get_or-set_other}
@@ -15,11 +14,10 @@ use Rattle.claims.specs.Members.{label_of}
 use Rattle.claims.specs.Owned.{Owned}
 use Rattle.claims.specs.Same.{same_action}
 use Rattle.claims.specs.Sets.{IsSetOf}
-use Rattle.claims.specs.Telling.{in_text_order, is_shared, telling, telling_of}
+use Rattle.claims.specs.Telling.{in_text_order, telling, telling_of}
 use Rattle.claims.specs.Tellings.{is_first, telling_by, tellings_from}
 use Rattle.claims.specs.declared.members.Member.{Member}
 use Rattle.claims.specs.declared.sets.Shared.{Shared}
-use Rattle.claims.specs.declared.telling.Telling.{Telling}
 use Rattle.claims.specs.declared.telling.Telling.TheVariants.{Alone, Owners, Elsewhere}
 use Rattle.claims.proofs.ConflictLemmas.{hit, same_leader, alike_leader}
 use Rattle.claims.proofs.LeaderLemmas.{parts}

@@ -1,7 +1,7 @@
 -- The labels of a conflict, said without sorting: in the order of their bytes, and each as often as its actions
 -- declare the path. (This project's own rule.)
-use Rattle.std.specs.Prelude.{◌≡◌, ℕ, Bool, false, ◌&&◌, List, [], ◌∷◌, length}
-use Rattle.std.specs.List.{filter, list_any}
+use Rattle.std.specs.Prelude.{◌≡◌, ℕ, false, ◌&&◌, List, [], ◌∷◌, length}
+use Rattle.std.specs.List.{filter}
 use Rattle.std.specs.Cmp.Lexicographic.{slice_cmp}
 use Rattle.std.specs.Ordering.{nat_cmp, is_gt}
 use Rattle.std.specs.Str.{bytes_eq}

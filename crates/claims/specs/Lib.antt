@@ -15,3 +15,4 @@ pub mod Sets
 pub mod Telling
 pub mod Tellings
 pub mod Sharing
+pub mod Coherent

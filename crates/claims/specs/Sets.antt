@@ -1,5 +1,5 @@
 -- Sets of equal actions as they are found.
-use Rattle.std.specs.Prelude.{◌≡◌, ◌||◌, ℕ, Bool, true, false, if◌then◌else◌, List, [], ◌∷◌, ◌++◌, map, Option, None, Some}
+use Rattle.std.specs.Prelude.{◌≡◌, ◌||◌, Bool, true, false, if◌then◌else◌, List, [], ◌∷◌, ◌++◌, map, Option, None, Some}
 use Rattle.std.specs.List.{AllZip, flat_map}
 use Rattle.std.specs.List.Sorted.{IsPermutation, IsSorted}
 use Rattle.std.specs.Str.{bytes_eq}

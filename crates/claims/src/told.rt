@@ -1,8 +1,9 @@
 //! Conflicts and shared actions of a list.
 ghost use Rattle.std.specs.Prelude.{◌≡◌, IfOk, map};
-ghost use Rattle.depsets.specs.Listed.{walked};
+ghost use Rattle.depsets.specs.Listed.{flat, walked};
 ghost use Rattle.claims.specs.Clashes.{AreConflicts};
 ghost use Rattle.actions.specs.Ascending.{Each};
+ghost use Rattle.claims.specs.Coherent.{AreCoherent};
 ghost use Rattle.claims.specs.Commons.{commons_of};
 ghost use Rattle.claims.specs.Conflicts.{conflicts_of};
 ghost use Rattle.claims.specs.Labels.{AreLabels};
@@ -51,7 +52,7 @@ pub fn tell(alloc: Global, owned: &[Owned<'_>]) -> Result<Told, AllocError>
 /// stands there as often as its actions declare the path.
 ///
 /// It takes n log n comparisons of paths for n outputs, and lists the inputs once of each action that declares a path
-/// that another declares too.
+/// that another declares too, or none. Where inputs are coherent, they are compared as the plain listing has them.
 ///
 /// # Errors
 ///
@@ -60,6 +61,7 @@ pub fn conflicts(alloc: Global, owned: &[Owned<'_>]) -> Result<Vec<Conflict>, Al
     ensures law { IfOk result (λ v. AreConflicts walked owned.now v.items) }
     ensures labels { IfOk result (λ v. Each (λ c. AreLabels owned.now c.path c.labels) v.items) }
     ensures found { IfOk result (λ v. v.items ≡ conflicts_of walked owned.now) }
+    ensures plain { IfOk result (λ v. AreCoherent owned.now → AreConflicts flat owned.now v.items) }
 {
     let found = all_conflicts(alloc, owned)?;
     Ok(found)
@@ -135,13 +137,23 @@ fn told_by_sets(
 }
 
 /// The shared actions: each set of at least two equal actions, no two of which have one owner, whole and by the labels of the
-/// owners; the sets by the least of their places in the list.
+/// owners; the sets by the least of their places in the list. Where inputs are coherent, they are compared as the plain listing
+/// has them.
 ///
 /// # Errors
 ///
 /// `AllocError` where memory was refused.
 pub fn shared(alloc: Global, owned: &[Owned<'_>]) -> Result<Vec<Shared>, AllocError>
     ensures law { IfOk result (λ v. AreShared walked owned.now v.items) }
+    ensures plain { IfOk result (λ v. AreCoherent owned.now → AreShared flat owned.now v.items) }
+{
+    let found = all_shared(alloc, owned)?;
+    Ok(found)
+}
+
+/// The shared actions of these actions.
+fn all_shared(alloc: Global, owned: &[Owned<'_>]) -> Result<Vec<Shared>, AllocError>
+    ensures { IfOk result (λ v. AreShared walked owned.now v.items) }
 {
     let commons = commons(alloc, owned)?;
     let leaders = leaders_among(alloc, owned, &commons)?;

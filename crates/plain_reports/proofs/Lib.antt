@@ -1,4 +1,3 @@
-pub mod Agreed
 pub mod Lines
 pub mod Reports
 pub mod Rows

@@ -2,7 +2,6 @@
 use Rattle.std.proofs.Common.{◌≡◌, List, [], ◌∷◌, ◌++◌, ℕ, map, refl, ap}
 use Rattle.std.specs.Prelude.{codes}
 use Rattle.std.specs.List.{flat_map}
-use Rattle.depsets.proofs.Walked.{walked-flat}
 use Rattle.depsets.specs.Listed.{walked, flat}
 use Rattle.values.specs.Tree.{Slots, key as key_tree, leaf, branch, list, tuple, dict, instance, end, missing, given}
 use Rattle.values.specs.View.{FrozenTree, FrozenBranch}
@@ -15,7 +14,9 @@ use Rattle.actions.specs.declared.action.Action.{Action}
 use Rattle.actions.specs.declared.action.Inputs.{Inputs}
 use Rattle.actions.specs.declared.action.Inputs.TheVariants as inputs
 use Rattle.actions.specs.Ascending.{Each}
-use Rattle.claims.specs.Same.{compared, element_paths, input_paths, path_of}
+use Rattle.claims.proofs.Agreed.{compared_plain, paths_plain}
+use Rattle.claims.specs.Coherent.{AreCoherentInputs}
+use Rattle.claims.specs.Same.{compared}
 use Rattle.claims.specs.declared.telling.Telling.{Telling}
 use Rattle.claims.specs.declared.telling.Telling.TheVariants.{Alone, Owners, Elsewhere}
 use Rattle.one_tree.specs.Found.{Set, in_tree, in_outcome}
@@ -64,12 +65,12 @@ providers_same (t ∷ ts) k =
 
 -- ---- actions
 
-paths_same : (i : Inputs) → IsOneTree (in_inputs i) → input_paths walked i ≡ input_paths flat i
-paths_same (inputs.Files fs) k = refl
-paths_same (inputs.Depset d) k = ap (flat_map element_paths) (walked-flat d k)
+coherent_inputs : (i : Inputs) → IsOneTree (in_inputs i) → AreCoherentInputs i
+coherent_inputs (inputs.Files fs) k = tt
+coherent_inputs (inputs.Depset d) k = k
 
 text_same : (a : Action) → IsOneTree (in_inputs a.inputs) → action_text walked a ≡ action_text flat a
-text_same a k = ap (λ paths. outputs_text a ++ (codes " inputs " ++ (strings_text paths ++ given_words a))) (paths_same a.inputs k)
+text_same a k = ap (λ paths. outputs_text a ++ (codes " inputs " ++ (strings_text paths ++ given_words a))) (paths_plain a.inputs (coherent_inputs a.inputs k))
 
 action_same : (t : Telling) (a : Action) → IsOneTree (in_inputs a.inputs) → action_line walked t a ≡ action_line flat t a
 action_same Alone a k = ap line (text_same a k)
@@ -86,17 +87,10 @@ actions_same (t ∷ ts) (a ∷ rest) k =
 -- what is compared of actions is the same
 pub compared_same : (rest : List Action) → IsOneTree (in_actions rest) → Each (λ a. compared walked a ≡ compared flat a) rest
 compared_same [] k = tt
-compared_same (a ∷ rest) k =
-    let paths = paths_same a.inputs (front (in_inputs a.inputs) (in_actions rest) k) in (
-      λ i. record {
-        mnemonic = a.mnemonic;
-        outputs = map path_of a.outputs;
-        inputs = paths i;
-        words = a.words;
-        content = a.content;
-      },
-      compared_same rest (behind (in_inputs a.inputs) (in_actions rest) k),
-    )
+compared_same (a ∷ rest) k = (
+  compared_plain a (coherent_inputs a.inputs (front (in_inputs a.inputs) (in_actions rest) k)),
+  compared_same rest (behind (in_inputs a.inputs) (in_actions rest) k),
+)
 
 -- ---- outcomes
 

@@ -22,7 +22,7 @@ use Rattle.outcomes.proofs.Together.{outcomes_together}
 use Rattle.reporting.specs.Lines.{conflict_line, outcome_text}
 use Rattle.reporting.specs.Answers.{Node, actions_of, owned_by, node_actions, node_tellings, owned_actions, file_line, node_text, has_some}
 use Rattle.plain_reports.specs.Laws.{in_nodes, TextsArePlain, WorkspacesAreToldPlainly}
-use Rattle.plain_reports.proofs.Agreed.{Agree, conflicts_same, tellings_same}
+use Rattle.claims.proofs.Agreed.{Agree, conflicts_same, tellings_same}
 use Rattle.plain_reports.proofs.Lines.{front, behind, compared_same, outcome_same}
 
 -- ---- what is compared of the actions of nodes

@@ -1,5 +1,5 @@
 -- What a report says as a whole (docs/REPORT.md, "The report"; this project's own): the files that failed, what becomes of each
--- label, and the paths that several actions declare.
+-- label, an action that targets share being told once, and the paths that conflict.
 use Rattle.std.specs.Prelude.{ℕ, Bool, true, false, ◌||◌, List, [], ◌∷◌, ◌++◌, map}
 use Rattle.std.specs.List.{flat_map, list_any}
 use Rattle.lexer.specs.declared.fault.FaultKind.{FaultKind}

@@ -1,4 +1,4 @@
-use Rattle.std.proofs.Common.{◌++◌, ◌∷◌, [], sym, subst, take, ◌+◌}
+use Rattle.std.proofs.Common.{sym, subst, take, ◌+◌}
 use Rattle.std.specs.List.{AllZip}
 use Rattle.claims.specs.Sets.{IsSetOf}
 use Rattle.claims.proofs.Turns.{zipped_more}

@@ -1,4 +1,4 @@
-use Rattle.std.proofs.Common.{◌∙◌, sym, ap, refl}
+use Rattle.std.proofs.Common.{◌∙◌, ap, refl}
 use Rattle.claims.specs.Leaders.{known_in}
 use Rattle.claims.specs.Seen.{parts_of}
 use Rattle.claims.proofs.Noted.{known_is}

@@ -1,4 +1,4 @@
-use Rattle.std.proofs.Common.{◌≡◌, ◌∙◌, ◌++◌, ◌∷◌, [], None, sym, ap, refl, subst}
+use Rattle.std.proofs.Common.{◌∙◌, ◌++◌, ◌∷◌, [], ap, refl}
 use Rattle.indexmap.proofs.CallerLemmas.{insert_entry-new}
 use Rattle.claims.specs.Leaders.{known_in}
 use Rattle.claims.specs.Seen.{noted, parts_of}
