@@ -18,6 +18,8 @@ use values::{Item, MadeId, Value};
 pub struct Files<'a, K> {
     pub alloc: Global,
     pub paths: &'a [Text],
+    /// For each file, where its module is looked for first among the modules: how many of these stand before it.
+    pub module_numbers: &'a [usize],
     pub known: &'a K,
 }
 
@@ -38,7 +40,10 @@ impl<'a, K: KnownModules> Files<'a, K> {
             ≡ module_numbered self.now.paths.now (K.known self.now.known.now) file }
     {
         match self.paths.get(file) {
-            Some(path) => self.known.module(path),
+            Some(path) => {
+                let number = self.module_numbers.get(file).copied().unwrap_or(file);
+                self.known.module_near(number, path)
+            }
             None => None,
         }
     }

@@ -15,6 +15,10 @@ pub trait KnownModules {
     /// The module at a path, if it is known.
     fn module(&self, path: &Text) -> Option<&Module>
         ensures { option_copied result ≡ known self.now path.now };
+
+    /// The same, where the module is likely to have this number among all modules: that one is looked at first.
+    fn module_near(&self, number: usize, path: &Text) -> Option<&Module>
+        ensures { option_copied result ≡ known self.now path.now };
 }
 
 /// The modules before one that is evaluated while all are loaded.
@@ -31,6 +35,10 @@ impl<'a, 'k> KnownModules for Before<'a, 'k> {
     fn module(&self, path: &Text) -> Option<&Module> {
         self.modules.get(path)
     }
+
+    fn module_near(&self, number: usize, path: &Text) -> Option<&Module> {
+        self.modules.get_near(number, path)
+    }
 }
 
 /// All modules, once they are loaded.
@@ -46,5 +54,9 @@ impl<'a> KnownModules for Loaded<'a> {
 
     fn module(&self, path: &Text) -> Option<&Module> {
         self.modules.module(path)
+    }
+
+    fn module_near(&self, number: usize, path: &Text) -> Option<&Module> {
+        self.modules.module_near(number, path)
     }
 }

@@ -88,6 +88,19 @@ impl Paths {
         }
     }
 
+    /// The same as `find`, where the path is likely to have this number: that one is looked at first, and where it is the
+    /// path's, nothing is searched.
+    pub fn find_near(&self, number: usize, path: &Text) -> Option<NodeId>
+        ensures value { MatchOption result (listed self.now path.now ≡ false)
+            (IsAt self.now path.now) }
+        ensures paths { ArePaths self.now }
+    {
+        match self.paths.get(number) {
+            Some(near) if near == path => Some(NodeId::of(number)),
+            _ => self.find(path),
+        }
+    }
+
     /// The number of the module that a load statement names, if it names one.
     pub fn loaded(&self, load: &LoadStatement) -> Option<NodeId>
         ensures value { let target = module_path (listed self.now) load.now.target in

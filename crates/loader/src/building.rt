@@ -66,6 +66,7 @@ where
     let files = Files {
         alloc,
         paths,
+        module_numbers: evaluator.sources.module_numbers(),
         known: &known,
     };
     let made = KnownMade { files: &files };

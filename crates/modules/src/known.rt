@@ -31,12 +31,16 @@ impl<'a, M, S, K> Model for Known<'a, M, S, K> {
 }
 
 impl<'a, M, S, K> Known<'a, M, S, K> {
-    /// What the module at a path came to, if it stands lower.
-    pub(crate) fn module_at(&self, path: &Text) -> Option<&Result<M, Placed<LoadFaultKind<S, K>>>>
+    /// What the module at a path came to, if it stands lower. The module of this number is looked at first.
+    fn module_near(
+        &self,
+        number: usize,
+        path: &Text,
+    ) -> Option<&Result<M, Placed<LoadFaultKind<S, K>>>>
         ensures { MatchOption result (module_at self.now path.now ≡ None)
             (λ r. module_at self.now path.now ≡ Some r.now) }
     {
-        match self.paths.find(path) {
+        match self.paths.find_near(number, path) {
             Some(n) => {
                 let n = n.number();
                 if self.heights[n] < self.below {
@@ -49,14 +53,31 @@ impl<'a, M, S, K> Known<'a, M, S, K> {
         }
     }
 
+    /// What the module at a path came to, if it stands lower.
+    pub(crate) fn module_at(&self, path: &Text) -> Option<&Result<M, Placed<LoadFaultKind<S, K>>>>
+        ensures { MatchOption result (module_at self.now path.now ≡ None)
+            (λ r. module_at self.now path.now ≡ Some r.now) }
+    {
+        self.module_near(usize::MAX, path)
+    }
+
+    /// The module at a path, if it stands lower and has no fault. The module of this number is looked at first: where the path
+    /// is likely to be its own, nothing is searched.
+    pub fn get_near(&self, number: usize, path: &Text) -> Option<&M>
+        ensures { MatchOption result (known_at self.now path.now ≡ None)
+            (λ m. known_at self.now path.now ≡ Some m.now) }
+    {
+        match self.module_near(number, path) {
+            Some(Ok(value)) => Some(value),
+            Some(Err(_)) | None => None,
+        }
+    }
+
     /// The module at a path, if it stands lower and has no fault.
     pub fn get(&self, path: &Text) -> Option<&M>
         ensures { MatchOption result (known_at self.now path.now ≡ None)
             (λ m. known_at self.now path.now ≡ Some m.now) }
     {
-        match self.module_at(path) {
-            Some(Ok(value)) => Some(value),
-            Some(Err(_)) | None => None,
-        }
+        self.get_near(usize::MAX, path)
     }
 }

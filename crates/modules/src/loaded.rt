@@ -55,15 +55,24 @@ impl<M, S, K> Find<M, S, K> for Modules<M, S, K> {
 }
 
 impl<M, S, K> Modules<M, S, K> {
+    /// The module at a path: none where it has a fault, or no module is there. The module of this number is looked at first:
+    /// where the path is likely to be its own, nothing is searched.
+    pub fn module_near(&self, number: usize, path: &Text) -> Option<&M>
+        ensures { MatchOption result (module_in self.now path.now ≡ None)
+            (λ m. module_in self.now path.now ≡ Some m.now) }
+    {
+        match self.paths.find_near(number, path) {
+            Some(n) => self.values[n.number()].as_ref(),
+            None => None,
+        }
+    }
+
     /// The module at a path: none where it has a fault, or no module is there.
     pub fn module(&self, path: &Text) -> Option<&M>
         ensures { MatchOption result (module_in self.now path.now ≡ None)
             (λ m. module_in self.now path.now ≡ Some m.now) }
     {
-        match self.paths.find(path) {
-            Some(n) => self.values[n.number()].as_ref(),
-            None => None,
-        }
+        self.module_near(usize::MAX, path)
     }
 
     /// The fault of the first of these load statements that has one, in a file that no module loads.

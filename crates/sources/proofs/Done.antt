@@ -1,5 +1,5 @@
 -- What is kept of all files that were read, and their codes.
-use Rattle.std.proofs.Common.{◌≡◌, List, [], length, map, sym, ◌∙◌}
+use Rattle.std.proofs.Common.{◌≡◌, List, [], map, sym, ◌∙◌}
 use Rattle.std.proofs.lemmas.Simd.{map-map}
 use Rattle.parallel.proofs.Agreeing.{maps_agree}
 use Rattle.meaning.specs.StatementCode.{file_code, code_of}

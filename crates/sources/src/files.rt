@@ -8,7 +8,7 @@ ghost use Rattle.load_graph.specs.Paths.{ArePaths, listed};
 use plain::Text;
 use std::alloc::{AllocError, Global};
 use std::marker::Model;
-use workspace::{File, Workspace};
+use workspace::{File, Workspace, is_module};
 
 /// A file's path, and its text.
 pub type PathAndText = (Text, Text);
@@ -17,11 +17,16 @@ pub type PathAndText = (Text, Text);
 pub struct Files {
     files: Vec<PathAndText>,
     paths: Vec<Text>,
+    module_numbers: Vec<usize>,
 }
 
 impl Drop for Files {
     fn drop(self) {
-        let Files { files: _, paths: _ } = self;
+        let Files {
+            files: _,
+            paths: _,
+            module_numbers: _,
+        } = self;
     }
 }
 
@@ -58,6 +63,23 @@ fn paths_of(alloc: Global, files: &[PathAndText]) -> Result<Vec<Text>, AllocErro
     Ok(paths)
 }
 
+/// For each path, how many modules stand before it: of a module its number among them. Modules are looked for there first, and
+/// nothing is asked of these numbers.
+fn module_numbers(alloc: Global, paths: &[Text]) -> Result<Vec<usize>, AllocError> {
+    let mut numbers = Vec::with_capacity(alloc, paths.len())?;
+    let mut next: usize = 0;
+    for path in paths {
+        numbers.push(next)?;
+        if is_module(path.as_str()) {
+            let Some(more) = next.checked_add(1) else {
+                return Err(AllocError);
+            };
+            next = more;
+        }
+    }
+    Ok(numbers)
+}
+
 impl Files {
     /// The files of a workspace.
     pub fn of(alloc: Global, workspace: &Workspace) -> Result<Files, AllocError>
@@ -68,7 +90,12 @@ impl Files {
         add_files(&mut files, workspace.files())?;
         files.sort_unstable();
         let paths = paths_of(alloc, &files)?;
-        Ok(Files { files, paths })
+        let module_numbers = module_numbers(alloc, &paths)?;
+        Ok(Files {
+            files,
+            paths,
+            module_numbers,
+        })
     }
 
     /// All of them, in order.
@@ -84,6 +111,11 @@ impl Files {
         ensures ascending { ArePaths (paths_of self.now) }
     {
         &self.paths
+    }
+
+    /// For each of them, how many modules stand before it: where its module is looked for first.
+    pub fn module_numbers(&self) -> &[usize] {
+        &self.module_numbers
     }
 
     /// How many there are.

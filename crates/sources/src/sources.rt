@@ -105,6 +105,12 @@ impl Sources {
         self.files.paths()
     }
 
+    /// For each file, how many modules stand before it: where its module is looked for first. Nothing is promised of these
+    /// numbers, since whoever looks there compares the paths.
+    pub fn module_numbers(&self) -> &[usize] {
+        self.files.module_numbers()
+    }
+
     /// The number of the file at a path, if there is one.
     pub fn number(&self, path: &Text) -> Option<usize>
         ensures { result ≡ position (bytes_eq path.now) (paths_of self.now) }

@@ -1,5 +1,4 @@
 use Rattle.std.proofs.Common.{◌≡◌, ◌++◌, map}
-use Rattle.meaning.specs.Instructions.{FunctionCode}
 use Rattle.meaning.specs.StatementCode.{code_of}
 use Rattle.evaluation.specs.Workspaces.{linked_files}
 use Rattle.machine.specs.LinkedView.{codes_of}

@@ -1,6 +1,6 @@
 use Rattle.std.proofs.Common.{◌∙◌, sym}
 use Rattle.modules.proofs.Lookups.{found_lower, found_higher, found_none}
-use Rattle.modules.proofs.known.Known.module_at.Goals as goal
+use Rattle.modules.proofs.known.Known.module_near.Goals as goal
 
 pub returns-then-self-n : goal.returns-then-self-n
 returns-then-self-n g c =

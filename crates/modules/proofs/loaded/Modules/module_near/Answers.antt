@@ -1,5 +1,5 @@
 use Rattle.modules.proofs.Outcomes.{found_there, found_nowhere}
-use Rattle.modules.proofs.loaded.Modules.module.Goals as goal
+use Rattle.modules.proofs.loaded.Modules.module_near.Goals as goal
 
 pub returns-in-Some : goal.returns-in-Some
 returns-in-Some g c =
