@@ -7,6 +7,7 @@ ghost use Rattle.operations.specs.States.{Does, Stays, Gives};
 ghost use Rattle.operations.specs.Fields.{field, field_in, shape_field, leaf_field, label_field, file_field};
 
 use crate::parts::{basename, name, package};
+use field_names::{FieldName, KnownName};
 use operands::Operand;
 use operations::State;
 use plain::Text;
@@ -22,7 +23,7 @@ pub fn field<'a>(
     alloc: Global,
     state: &State<'_>,
     value: &Operand<'a>,
-    name: &Text,
+    name: &FieldName,
 ) -> Result<Operand<'a>, Broken>
     ensures { Does (field value.now name.now) state.now result state.now }
 {
@@ -38,7 +39,7 @@ pub(crate) fn field_of<'a>(
     alloc: Global,
     state: &State<'_>,
     value: &Operand<'a>,
-    name: &Text,
+    name: &FieldName,
 ) -> Result<Option<Operand<'a>>, Broken>
     ensures { Gives (Ok (shape_field (shape state.now.heap value.now) name.now)) result }
 {
@@ -56,7 +57,7 @@ pub(crate) fn field_of<'a>(
 fn seen_field<'a>(
     alloc: Global,
     value: &Seen<'a>,
-    name: &Text,
+    name: &FieldName,
 ) -> Result<Option<Operand<'a>>, Broken>
     ensures { Gives (Ok (shape_field (seen value.now) name.now)) result }
 {
@@ -68,17 +69,25 @@ fn seen_field<'a>(
 }
 
 /// The field of an instance, if it was given.
-fn instance_field<'a>(provider: &Provider, slots: Slots<'a>, name: &Text) -> Option<Operand<'a>>
+fn instance_field<'a>(
+    provider: &Provider,
+    slots: Slots<'a>,
+    name: &FieldName,
+) -> Option<Operand<'a>>
     ensures { result ≡ field_in name.now provider.now.fields (slot_values slots.entry) }
 {
-    match making::field(provider, slots, name) {
+    match making::field(provider, slots, name.text()) {
         Some(value) => Some(Operand::lent(value)),
         None => None,
     }
 }
 
 /// The field of a label or a File.
-fn leaf_field<'a>(alloc: Global, leaf: &'a Leaf, name: &Text) -> Result<Option<Operand<'a>>, Broken>
+fn leaf_field<'a>(
+    alloc: Global,
+    leaf: &'a Leaf,
+    name: &FieldName,
+) -> Result<Option<Operand<'a>>, Broken>
     ensures { Gives (Ok (leaf_field leaf.now name.now)) result }
 {
     match leaf {
@@ -89,16 +98,22 @@ fn leaf_field<'a>(alloc: Global, leaf: &'a Leaf, name: &Text) -> Result<Option<O
 }
 
 /// `package` and `name` of a label.
-fn label_field<'a>(alloc: Global, label: &Text, field: &Text) -> Result<Option<Operand<'a>>, Broken>
+fn label_field<'a>(
+    alloc: Global,
+    label: &Text,
+    field: &FieldName,
+) -> Result<Option<Operand<'a>>, Broken>
     ensures { Gives (Ok (label_field label.now field.now)) result }
 {
-    match field.as_str() {
-        "package" => match package(alloc, label) {
+    if field.is(KnownName::Package) {
+        match package(alloc, label) {
             Ok(package) => Ok(Some(string(package))),
             Err(broken) => Err(broken),
-        },
-        "name" => Ok(Some(string(name(alloc, label)?))),
-        _ => Ok(None),
+        }
+    } else if field.is(KnownName::Name) {
+        Ok(Some(string(name(alloc, label)?)))
+    } else {
+        Ok(None)
     }
 }
 
@@ -106,14 +121,16 @@ fn label_field<'a>(alloc: Global, label: &Text, field: &Text) -> Result<Option<O
 fn file_field<'a>(
     alloc: Global,
     file: &FileRef,
-    field: &Text,
+    field: &FieldName,
 ) -> Result<Option<Operand<'a>>, AllocError>
     ensures { IfOk result (λ r. r ≡ file_field file.now field.now) }
 {
-    match field.as_str() {
-        "path" => Ok(Some(string(file.path.share()?))),
-        "basename" => Ok(Some(string(basename(alloc, &file.path)?))),
-        _ => Ok(None),
+    if field.is(KnownName::Path) {
+        Ok(Some(string(file.path.share()?)))
+    } else if field.is(KnownName::Basename) {
+        Ok(Some(string(basename(alloc, &file.path)?)))
+    } else {
+        Ok(None)
     }
 }
 

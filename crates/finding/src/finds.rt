@@ -6,9 +6,9 @@ ghost use Rattle.finding.specs.Founds.{finding};
 
 use crate::fields::field_of;
 use crate::methods::method_named;
+use field_names::FieldName;
 use operands::Operand;
 use operations::{Method, State};
-use plain::Text;
 use std::alloc::Global;
 use values::{Broken, Kind};
 
@@ -28,14 +28,14 @@ pub fn find<'a>(
     alloc: Global,
     state: &State<'_>,
     value: &Operand<'a>,
-    name: &Text,
+    name: &FieldName,
 ) -> Result<Found<'a>, Broken>
     ensures { MatchResult result (λ f. find value.now name.now state.now
         ≡ Ok (finding f, state.now)) (λ e. FaultOr (find value.now name.now state.now) e) }
 {
     match field_of(alloc, state, value, name) {
         Ok(Some(value)) => Ok(Found::Value(value)),
-        Ok(None) => match method_named(&state.heap.see_item(value.item()), name.as_str()) {
+        Ok(None) => match method_named(&state.heap.see_item(value.item()), name) {
             Some(method) => Ok(Found::Method(method)),
             None => Err(Broken::Kind(Kind::Name)),
         },

@@ -3,11 +3,12 @@ ghost use Rattle.std.specs.Prelude.{◌≡◌, Some, None};
 ghost use Rattle.values.specs.Seeing.{seen};
 ghost use Rattle.operations.specs.Fields.{shape_method, list_method, dict_method, string_method, depset_method};
 
+use field_names::{FieldName, KnownName};
 use operations::Method;
 use values::{Key, Leaf, Seen};
 
 /// The method of this name that a value has.
-pub fn method_named(value: &Seen<'_>, name: &str) -> Option<Method>
+pub fn method_named(value: &Seen<'_>, name: &FieldName) -> Option<Method>
     ensures { result ≡ shape_method (seen value.now) name.now }
 {
     match value {
@@ -19,45 +20,56 @@ pub fn method_named(value: &Seen<'_>, name: &str) -> Option<Method>
     }
 }
 
-fn list_method(name: &str) -> Option<Method>
+fn list_method(name: &FieldName) -> Option<Method>
     ensures { result ≡ list_method name.now }
 {
-    match name {
-        "append" => Some(Method::Append),
-        "extend" => Some(Method::Extend),
-        _ => None,
+    if name.is(KnownName::Append) {
+        Some(Method::Append)
+    } else if name.is(KnownName::Extend) {
+        Some(Method::Extend)
+    } else {
+        None
     }
 }
 
-fn dict_method(name: &str) -> Option<Method>
+fn dict_method(name: &FieldName) -> Option<Method>
     ensures { result ≡ dict_method name.now }
 {
-    match name {
-        "get" => Some(Method::Get),
-        "keys" => Some(Method::Keys),
-        "values" => Some(Method::Values),
-        "items" => Some(Method::Items),
-        _ => None,
+    if name.is(KnownName::Get) {
+        Some(Method::Get)
+    } else if name.is(KnownName::Keys) {
+        Some(Method::Keys)
+    } else if name.is(KnownName::Values) {
+        Some(Method::Values)
+    } else if name.is(KnownName::Items) {
+        Some(Method::Items)
+    } else {
+        None
     }
 }
 
-fn string_method(name: &str) -> Option<Method>
+fn string_method(name: &FieldName) -> Option<Method>
     ensures { result ≡ string_method name.now }
 {
-    match name {
-        "join" => Some(Method::Join),
-        "split" => Some(Method::Split),
-        "startswith" => Some(Method::StartsWith),
-        "endswith" => Some(Method::EndsWith),
-        _ => None,
+    if name.is(KnownName::Join) {
+        Some(Method::Join)
+    } else if name.is(KnownName::Split) {
+        Some(Method::Split)
+    } else if name.is(KnownName::StartsWith) {
+        Some(Method::StartsWith)
+    } else if name.is(KnownName::EndsWith) {
+        Some(Method::EndsWith)
+    } else {
+        None
     }
 }
 
-fn depset_method(name: &str) -> Option<Method>
+fn depset_method(name: &FieldName) -> Option<Method>
     ensures { result ≡ depset_method name.now }
 {
-    match name {
-        "to_list" => Some(Method::ToList),
-        _ => None,
+    if name.is(KnownName::ToList) {
+        Some(Method::ToList)
+    } else {
+        None
     }
 }

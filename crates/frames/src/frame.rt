@@ -8,8 +8,8 @@ ghost use Rattle.frames.specs.Seen.{seen};
 
 use crate::slots::Slots;
 use crate::stack::Stack;
+use field_names::FieldName;
 use operands::Operand;
-use plain::Text;
 use std::alloc::Global;
 
 /// A function written in Starlark: the number of its file among those that are linked, and its own number there.
@@ -23,7 +23,7 @@ pub struct FunctionId {
 #[derive(Drop)]
 pub enum Callee<'a> {
     Plain(Operand<'a>),
-    Method(Operand<'a>, &'a Text),
+    Method(Operand<'a>, &'a FieldName),
 }
 
 /// A walk that is open: what is walked, the items that are left, where its next turn begins, and where it goes on at its end.

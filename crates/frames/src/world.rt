@@ -12,6 +12,7 @@ ghost use Rattle.frames.specs.Kept.{defaults_seen};
 use crate::defaults::Defaults;
 use crate::frame::{Callee, FunctionId};
 use crate::stack::Stack;
+use field_names::FieldName;
 use grammar::{Operator, Sign};
 use operands::{Constant, Operand};
 use plain::Text;
@@ -106,7 +107,7 @@ pub trait Operate<'a> {
         &self,
         state: &mut Self::State,
         value: &Operand<'a>,
-        name: &Text,
+        name: &FieldName,
     ) -> Result<Operand<'a>, Broken>
         ensures { Says ((operations self.now).field value.now name.now state.old) result
             state.new };
@@ -267,7 +268,7 @@ pub trait Operate<'a> {
         &self,
         state: &mut Self::State,
         owner: Operand<'a>,
-        name: &'a Text,
+        name: &'a FieldName,
     ) -> Result<Callee<'a>, Broken>
         ensures { SaysAs callee_seen ((operations self.now).find owner.entry name.now state.old)
             result state.new };

@@ -54,7 +54,7 @@ fn step(instruction: &Instruction) -> Option<(&'static str, usize, usize)> {
         Instruction::MakeList(items) => Some(("list", *items, 0)),
         Instruction::Collect => Some(("collect", 0, 0)),
         Instruction::TakeCallee => Some(("callee", 0, 0)),
-        Instruction::Find(name) => Some(("find", name.len(), 0)),
+        Instruction::Find(name) => Some(("find", name.text().len(), 0)),
         Instruction::Call(items) => Some(("call", *items, 0)),
         Instruction::CallNamed(call) => Some(("call named", call.items, call.names.len())),
         Instruction::BeginWalk(passed) => Some(("walk", *passed, 0)),
