@@ -12,6 +12,7 @@ ghost use Rattle.values.specs.Shape.{shape};
 ghost use Rattle.frames.specs.Answers.{Says, callee_seen, given as machine_given};
 
 use crate::world::World;
+use field_names::FieldName;
 use finding::method_named;
 use frames::{Callee, Stack};
 use language::Whole;
@@ -24,7 +25,7 @@ use values::{Broken, BuiltIn, Item, Kind, Leaf, Value};
 
 /// A call of what isn't written in Starlark: its values by position, of which the first is at the top, and those by name
 /// with their names.
-pub(crate) fn call<'a, L: Link<'a>, P: Place>(
+pub(crate) fn call<'a, L: Link<'a>, P: Place<'a>>(
     world: &World<'_, L, P>,
     whole: &mut Whole<P::Work>,
     callee: &Callee<'a>,
@@ -68,7 +69,7 @@ fn arguments<'a, 'v>(
 }
 
 /// A call with arguments.
-fn call_with<'a, L: Link<'a>, P: Place>(
+fn call_with<'a, L: Link<'a>, P: Place<'a>>(
     world: &World<'_, L, P>,
     whole: &mut Whole<P::Work>,
     callee: &Callee<'a>,
@@ -84,7 +85,7 @@ fn call_with<'a, L: Link<'a>, P: Place>(
 }
 
 /// A call of a value.
-fn call_value<'a, L: Link<'a>, P: Place>(
+fn call_value<'a, L: Link<'a>, P: Place<'a>>(
     world: &World<'_, L, P>,
     whole: &mut Whole<P::Work>,
     value: Item<'_>,
@@ -100,7 +101,7 @@ fn call_value<'a, L: Link<'a>, P: Place>(
 }
 
 /// A call of a built-in function, a provider or a rule.
-fn call_leaf<'a, L: Link<'a>, P: Place>(
+fn call_leaf<'a, L: Link<'a>, P: Place<'a>>(
     world: &World<'_, L, P>,
     whole: &mut Whole<P::Work>,
     leaf: &Leaf,
@@ -120,7 +121,7 @@ fn call_leaf<'a, L: Link<'a>, P: Place>(
 }
 
 /// A call of a built-in function, which may be one of the place.
-fn call_built_in<'a, L: Link<'a>, P: Place>(
+fn call_built_in<'a, L: Link<'a>, P: Place<'a>>(
     world: &World<'_, L, P>,
     whole: &mut Whole<P::Work>,
     function: BuiltIn,
@@ -140,18 +141,18 @@ fn call_built_in<'a, L: Link<'a>, P: Place>(
 }
 
 /// A call of a method of a value.
-fn call_method<'a, L: Link<'a>, P: Place>(
+fn call_method<'a, L: Link<'a>, P: Place<'a>>(
     world: &World<'_, L, P>,
     whole: &mut Whole<P::Work>,
     value: &Operand<'a>,
-    name: &Text,
+    name: &FieldName,
     arguments: &Arguments<'_, 'a>,
 ) -> Result<Operand<'a>, Broken>
     ensures { Says (method_or_place (L.linked world.now.linked.now) (P.place world.now.place.now)
         (shape_method (shape whole.old.state.heap value.now) name.now) value.now name.now
         (given arguments.now) whole.old) result whole.new }
 {
-    match method_named(&whole.state.heap.see_item(value.item()), name.as_str()) {
+    match method_named(&whole.state.heap.see_item(value.item()), name) {
         Some(method) => {
             calls::call_method(world.alloc, &mut whole.state, method, value, arguments)
         }
@@ -160,11 +161,11 @@ fn call_method<'a, L: Link<'a>, P: Place>(
 }
 
 /// A call of a method of a target or an object.
-fn call_placed<'a, L: Link<'a>, P: Place>(
+fn call_placed<'a, L: Link<'a>, P: Place<'a>>(
     world: &World<'_, L, P>,
     whole: &mut Whole<P::Work>,
     value: Item<'_>,
-    name: &Text,
+    name: &FieldName,
     arguments: &Arguments<'_, '_>,
 ) -> Result<Value, Broken>
     ensures { Says (place_method (L.linked world.now.linked.now) (P.place world.now.place.now)

@@ -6,22 +6,22 @@ ghost use Rattle.frames.specs.Answers.{SaysAs, callee_seen};
 ghost use Rattle.evaluator.specs.Callees.{callee_found};
 
 use crate::world::World;
+use field_names::FieldName;
 use finding::Found;
 use frames::Callee;
 use language::Whole;
 use language_calls::of_place;
 use operands::Operand;
 use places::{Link, Place};
-use plain::Text;
 use values::{Broken, Leaf};
 
 /// What `owner.name` is where it is called: of a target or an object its place's. The owner of a method is moved, and its
 /// name lies in the code.
-pub(crate) fn find<'a, L: Link<'a>, P: Place>(
+pub(crate) fn find<'a, L: Link<'a>, P: Place<'a>>(
     world: &World<'_, L, P>,
     whole: &Whole<P::Work>,
     owner: Operand<'a>,
-    name: &'a Text,
+    name: &'a FieldName,
 ) -> Result<Callee<'a>, Broken>
     ensures { SaysAs callee_seen (find_of (L.linked world.now.linked.now)
         (P.place world.now.place.now) owner.entry name.now (of_place owner.entry) whole.now) result
@@ -35,11 +35,11 @@ pub(crate) fn find<'a, L: Link<'a>, P: Place>(
 }
 
 /// The field that is called, or None where it is a method.
-fn found<'a, L: Link<'a>, P: Place>(
+fn found<'a, L: Link<'a>, P: Place<'a>>(
     world: &World<'_, L, P>,
     whole: &Whole<P::Work>,
     owner: &Operand<'a>,
-    name: &Text,
+    name: &FieldName,
 ) -> Result<Option<Operand<'a>>, Broken>
     ensures { SaysAs (callee_found owner.now name.now)
         (find_of (L.linked world.now.linked.now) (P.place world.now.place.now)
@@ -52,12 +52,12 @@ fn found<'a, L: Link<'a>, P: Place>(
 }
 
 /// The same, of a target or an object.
-fn found_at_place<'a, L: Link<'a>, P: Place>(
+fn found_at_place<'a, L: Link<'a>, P: Place<'a>>(
     world: &World<'_, L, P>,
     whole: &Whole<P::Work>,
     _owner: &Operand<'a>,
     leaf: &Leaf,
-    name: &Text,
+    name: &FieldName,
 ) -> Result<Option<Operand<'a>>, Broken>
     ensures { SaysAs (callee_found _owner.now name.now)
         (find_of (L.linked world.now.linked.now) (P.place world.now.place.now)
@@ -67,17 +67,17 @@ fn found_at_place<'a, L: Link<'a>, P: Place>(
         return Ok(None);
     }
     match world.place.field(world.alloc, whole, leaf, name) {
-        Ok(value) => Ok(Some(Operand::own(value))),
+        Ok(value) => Ok(Some(value)),
         Err(broken) => Err(broken),
     }
 }
 
 /// The same, of another value.
-fn found_in_value<'a, L: Link<'a>, P: Place>(
+fn found_in_value<'a, L: Link<'a>, P: Place<'a>>(
     world: &World<'_, L, P>,
     whole: &Whole<P::Work>,
     owner: &Operand<'a>,
-    name: &Text,
+    name: &FieldName,
 ) -> Result<Option<Operand<'a>>, Broken>
     ensures { SaysAs (callee_found owner.now name.now)
         (find_of (L.linked world.now.linked.now) (P.place world.now.place.now)

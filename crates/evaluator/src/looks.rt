@@ -6,31 +6,31 @@ ghost use Rattle.language.specs.Language.{of_place, target_of, field_of, item_of
 ghost use Rattle.frames.specs.Answers.{Says};
 
 use crate::world::World;
+use field_names::FieldName;
 use language::Whole;
 use language_calls::{of_place, target_of};
-use operands::{Operand, owned};
+use operands::Operand;
 use places::{Link, Place};
-use plain::Text;
 use values::{Broken, Item};
 
 /// `value.name`: of a target or an object its place's.
-pub(crate) fn field<'a, L: Link<'a>, P: Place>(
+pub(crate) fn field<'a, L: Link<'a>, P: Place<'a>>(
     world: &World<'_, L, P>,
     whole: &Whole<P::Work>,
     value: &Operand<'a>,
-    name: &Text,
+    name: &FieldName,
 ) -> Result<Operand<'a>, Broken>
     ensures { Says (field_of (L.linked world.now.linked.now) (P.place world.now.place.now)
         value.now name.now (of_place value.now) whole.now) result whole.now }
 {
     match of_place(value.item()) {
-        Some(leaf) => owned(world.place.field(world.alloc, whole, leaf, name)),
+        Some(leaf) => world.place.field(world.alloc, whole, leaf, name),
         None => finding::field(world.alloc, &whole.state, value, name),
     }
 }
 
 /// `base[index]`: of a target its place's.
-pub(crate) fn item<'a, L: Link<'a>, P: Place>(
+pub(crate) fn item<'a, L: Link<'a>, P: Place<'a>>(
     world: &World<'_, L, P>,
     whole: &Whole<P::Work>,
     base: &Operand<'a>,
@@ -40,7 +40,7 @@ pub(crate) fn item<'a, L: Link<'a>, P: Place>(
         base.now (item_value index.entry) (target_of base.now) whole.now) result whole.now }
 {
     match target_of(base.item()) {
-        Some(target) => owned(world.place.item(world.alloc, whole, target, index)),
+        Some(target) => world.place.item(world.alloc, whole, target, index),
         None => state::item(world.alloc, &whole.state, base, index),
     }
 }

@@ -19,7 +19,7 @@ use values::{Broken, Item, Key, Value};
 
 /// An operator between two values, but `and` and `or`.
 #[inline(always)]
-pub(crate) fn binary<'a, L: Link<'a>, P: Place>(
+pub(crate) fn binary<'a, L: Link<'a>, P: Place<'a>>(
     world: &World<'_, L, P>,
     whole: &mut Whole<P::Work>,
     operator: Operator,
@@ -37,7 +37,7 @@ pub(crate) fn binary<'a, L: Link<'a>, P: Place>(
 }
 
 /// An operator whose right side is a target.
-fn binary_with<'a, L: Link<'a>, P: Place>(
+fn binary_with<'a, L: Link<'a>, P: Place<'a>>(
     world: &World<'_, L, P>,
     whole: &mut Whole<P::Work>,
     operator: Operator,
@@ -64,7 +64,7 @@ fn binary_with<'a, L: Link<'a>, P: Place>(
 
 /// `not` or `-`.
 #[inline(always)]
-pub(crate) fn sign<'a, L: Link<'a>, P: Place>(
+pub(crate) fn sign<'a, L: Link<'a>, P: Place<'a>>(
     world: &World<'_, L, P>,
     whole: &Whole<P::Work>,
     sign: Sign,

@@ -6,6 +6,7 @@ ghost use Rattle.evaluator.specs.Walked.{left_seen};
 
 use crate::left::Left;
 use crate::{binding, calling, displays, finding_callees, functions, looks, operating, turns};
+use field_names::FieldName;
 use frames::{Callee, Defaults, FunctionId, Operate, Refusal, Stack};
 use grammar::{Operator, Sign};
 use language::Whole;
@@ -26,7 +27,7 @@ pub struct World<'a, L, P> {
     pub default_info: &'a DefaultInfo,
 }
 
-impl<'a, L: Link<'a>, P: Place> Operate<'a> for World<'a, L, P> {
+impl<'a, L: Link<'a>, P: Place<'a>> Operate<'a> for World<'a, L, P> {
     type State = Whole<'a, P::Work>;
 
     type Walk = Left<'a>;
@@ -105,7 +106,7 @@ impl<'a, L: Link<'a>, P: Place> Operate<'a> for World<'a, L, P> {
         &self,
         state: &mut Whole<'a, P::Work>,
         value: &Operand<'a>,
-        name: &Text,
+        name: &FieldName,
     ) -> Result<Operand<'a>, Broken> {
         looks::field(self, state, value, name)
     }
@@ -273,7 +274,7 @@ impl<'a, L: Link<'a>, P: Place> Operate<'a> for World<'a, L, P> {
         &self,
         state: &mut Whole<'a, P::Work>,
         owner: Operand<'a>,
-        name: &'a Text,
+        name: &'a FieldName,
     ) -> Result<Callee<'a>, Broken> {
         finding_callees::find(self, state, owner, name)
     }

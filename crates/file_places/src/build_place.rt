@@ -10,10 +10,12 @@ ghost use Rattle.rule_calls.specs.Packages.{Declared};
 ghost use Rattle.file_places.specs.BuildPlace.{refused_call, rule_called};
 
 use crate::methods::{declared_kind, has_method};
+use field_names::FieldName;
 use language::Whole;
+use operands::Operand;
 use operations::Arguments;
-use places::Place;
-use plain::{Shared, Text};
+use places::{Place, Works};
+use plain::Shared;
 use rule_calls::{PackageTargets, call_rule};
 use std::alloc::Global;
 use targets::Rule;
@@ -35,9 +37,11 @@ pub struct BuildPlace<'a, R> {
     pub linked: &'a R,
 }
 
-impl<'a, R: Rules> Place for BuildPlace<'a, R> {
+impl<'a, R: Rules> Works for BuildPlace<'a, R> {
     type Work = PackageTargets;
+}
 
+impl<'a, 'p, R: Rules> Place<'p> for BuildPlace<'a, R> {
     ghost use Rattle.file_places.specs.BuildPlace.{build_place};
 
     ghost place = { λ p. build_place (R.rules p.linked.now) };
@@ -56,7 +60,7 @@ impl<'a, R: Rules> Place for BuildPlace<'a, R> {
         }
     }
 
-    fn has_method(&self, owner: &Leaf, name: &Text) -> bool {
+    fn has_method(&self, owner: &Leaf, name: &FieldName) -> bool {
         has_method(owner, name)
     }
 
@@ -65,7 +69,7 @@ impl<'a, R: Rules> Place for BuildPlace<'a, R> {
         _alloc: Global,
         _whole: &mut Whole<PackageTargets>,
         owner: &Leaf,
-        name: &Text,
+        name: &FieldName,
         _arguments: &Arguments<'_, '_>,
     ) -> Result<Value, Broken> {
         match declared_kind(owner, name) {
@@ -79,8 +83,8 @@ impl<'a, R: Rules> Place for BuildPlace<'a, R> {
         _alloc: Global,
         _whole: &Whole<PackageTargets>,
         _owner: &Leaf,
-        _name: &Text,
-    ) -> Result<Value, Broken> {
+        _name: &FieldName,
+    ) -> Result<Operand<'p>, Broken> {
         Err(Broken::Kind(Kind::Name))
     }
 
@@ -90,7 +94,7 @@ impl<'a, R: Rules> Place for BuildPlace<'a, R> {
         _whole: &Whole<PackageTargets>,
         _target: usize,
         _provider: Item<'_>,
-    ) -> Result<Value, Broken> {
+    ) -> Result<Operand<'p>, Broken> {
         Err(Broken::Kind(Kind::Wrong))
     }
 

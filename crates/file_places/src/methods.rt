@@ -2,38 +2,45 @@
 ghost use Rattle.std.specs.Prelude.{◌≡◌};
 ghost use Rattle.file_places.specs.Methods.{kind_named, declared_kind, has_method};
 
-use plain::Text;
+use field_names::{FieldName, KnownName};
 use values::{AttributeKind, Leaf, Object};
 
 /// Whether an object has a method of this name.
-pub(crate) fn has_method(owner: &Leaf, name: &Text) -> bool
+pub(crate) fn has_method(owner: &Leaf, name: &FieldName) -> bool
     ensures { result ≡ has_method owner.now name.now }
 {
     declared_kind(owner, name).is_some()
 }
 
 /// The kind of attribute that a method of an object declares, if it is one of `attr`.
-pub(crate) fn declared_kind(owner: &Leaf, name: &Text) -> Option<AttributeKind>
+pub(crate) fn declared_kind(owner: &Leaf, name: &FieldName) -> Option<AttributeKind>
     ensures { result ≡ declared_kind owner.now name.now }
 {
     match owner {
-        Leaf::Object(Object::Attr) => kind_named(name.as_str()),
+        Leaf::Object(Object::Attr) => kind_named(name),
         _ => None,
     }
 }
 
 /// The kind of attribute that a method of `attr` declares.
-fn kind_named(name: &str) -> Option<AttributeKind>
+fn kind_named(name: &FieldName) -> Option<AttributeKind>
     ensures { result ≡ kind_named name.now }
 {
-    match name {
-        "string" => Some(AttributeKind::String),
-        "int" => Some(AttributeKind::Int),
-        "bool" => Some(AttributeKind::Bool),
-        "string_list" => Some(AttributeKind::StringList),
-        "string_dict" => Some(AttributeKind::StringDict),
-        "label" => Some(AttributeKind::Label),
-        "label_list" => Some(AttributeKind::LabelList),
-        _ => None,
+    if name.is(KnownName::String) {
+        Some(AttributeKind::String)
+    } else if name.is(KnownName::Int) {
+        Some(AttributeKind::Int)
+    } else if name.is(KnownName::Bool) {
+        Some(AttributeKind::Bool)
+    } else if name.is(KnownName::StringList) {
+        Some(AttributeKind::StringList)
+    } else if name.is(KnownName::StringDict) {
+        Some(AttributeKind::StringDict)
+    } else if name.is(KnownName::Label) {
+        Some(AttributeKind::Label)
+    } else if name.is(KnownName::LabelList) {
+        Some(AttributeKind::LabelList)
+    } else {
+        None
     }
 }

@@ -8,10 +8,11 @@ ghost use Rattle.file_places.specs.ModulePlace.{declared, attribute_call, built_
 use crate::methods::{declared_kind, has_method};
 use declarations::Declarations;
 use declaring::{Attributes, new_attribute, new_provider, new_rule};
+use field_names::FieldName;
 use language::Whole;
+use operands::Operand;
 use operations::Arguments;
-use places::Place;
-use plain::Text;
+use places::{Place, Works};
 use std::alloc::Global;
 use values::{AttributeKind, Broken, BuiltIn, Item, Kind, Leaf, Value};
 
@@ -22,9 +23,11 @@ pub struct ModulePlace<'a, A> {
     pub linked: &'a A,
 }
 
-impl<'a, A: Attributes> Place for ModulePlace<'a, A> {
+impl<'a, A: Attributes> Works for ModulePlace<'a, A> {
     type Work = Declarations;
+}
 
+impl<'a, 'p, A: Attributes> Place<'p> for ModulePlace<'a, A> {
     ghost use Rattle.file_places.specs.ModulePlace.{module_place};
 
     ghost place = { λ p. module_place (A.declared p.linked.now) };
@@ -43,7 +46,7 @@ impl<'a, A: Attributes> Place for ModulePlace<'a, A> {
         }
     }
 
-    fn has_method(&self, owner: &Leaf, name: &Text) -> bool {
+    fn has_method(&self, owner: &Leaf, name: &FieldName) -> bool {
         has_method(owner, name)
     }
 
@@ -52,7 +55,7 @@ impl<'a, A: Attributes> Place for ModulePlace<'a, A> {
         alloc: Global,
         whole: &mut Whole<Declarations>,
         owner: &Leaf,
-        name: &Text,
+        name: &FieldName,
         arguments: &Arguments<'_, '_>,
     ) -> Result<Value, Broken> {
         match declared_kind(owner, name) {
@@ -66,8 +69,8 @@ impl<'a, A: Attributes> Place for ModulePlace<'a, A> {
         _alloc: Global,
         _whole: &Whole<Declarations>,
         _owner: &Leaf,
-        _name: &Text,
-    ) -> Result<Value, Broken> {
+        _name: &FieldName,
+    ) -> Result<Operand<'p>, Broken> {
         Err(Broken::Kind(Kind::Name))
     }
 
@@ -77,7 +80,7 @@ impl<'a, A: Attributes> Place for ModulePlace<'a, A> {
         _whole: &Whole<Declarations>,
         _target: usize,
         _provider: Item<'_>,
-    ) -> Result<Value, Broken> {
+    ) -> Result<Operand<'p>, Broken> {
         Err(Broken::Kind(Kind::Wrong))
     }
 

@@ -4,6 +4,7 @@ ghost use Rattle.contexts.specs.Actions.{method_named};
 ghost use Rattle.implementations.specs.Implementations.{refused, built_in_refused, is_attr_method, attr_refused, has_method, object_has_method};
 
 use contexts::ActionMethod;
+use field_names::{FieldName, KnownName};
 use values::{BuiltIn, Kind, Leaf, Object};
 
 /// The fault of a call of what isn't an implementation's: `place` for `provider`, `rule` and rules.
@@ -19,23 +20,20 @@ pub(crate) fn refused(callee: &Leaf) -> Kind
 }
 
 /// Whether `attr` has a method of this name.
-fn is_attr_method(name: &str) -> bool
+fn is_attr_method(name: &FieldName) -> bool
     ensures { result ≡ is_attr_method name.now }
 {
-    match name {
-        "string" => true,
-        "int" => true,
-        "bool" => true,
-        "string_list" => true,
-        "string_dict" => true,
-        "label" => true,
-        "label_list" => true,
-        _ => false,
-    }
+    name.is(KnownName::String)
+        || name.is(KnownName::Int)
+        || name.is(KnownName::Bool)
+        || name.is(KnownName::StringList)
+        || name.is(KnownName::StringDict)
+        || name.is(KnownName::Label)
+        || name.is(KnownName::LabelList)
 }
 
 /// The fault of a call of a method of `attr`: these are a module's.
-pub(crate) fn attr_refused(name: &str) -> Kind
+pub(crate) fn attr_refused(name: &FieldName) -> Kind
     ensures { result ≡ attr_refused name.now }
 {
     if is_attr_method(name) {
@@ -45,13 +43,30 @@ pub(crate) fn attr_refused(name: &str) -> Kind
     }
 }
 
+/// The method of `ctx.actions` of this name.
+pub(crate) fn action_named(name: &FieldName) -> Option<ActionMethod>
+    ensures { result ≡ method_named name.now }
+{
+    if name.is(KnownName::DeclareFile) {
+        Some(ActionMethod::DeclareFile)
+    } else if name.is(KnownName::Write) {
+        Some(ActionMethod::Write)
+    } else if name.is(KnownName::Run) {
+        Some(ActionMethod::Run)
+    } else if name.is(KnownName::RunShell) {
+        Some(ActionMethod::RunShell)
+    } else {
+        None
+    }
+}
+
 /// Whether a value has a method of this name: `attr` and `ctx.actions` alone have some.
-pub(crate) fn has_method(owner: &Leaf, name: &str) -> bool
+pub(crate) fn has_method(owner: &Leaf, name: &FieldName) -> bool
     ensures { result ≡ has_method owner.now name.now }
 {
     match owner {
         Leaf::Object(Object::Attr) => is_attr_method(name),
-        Leaf::Object(Object::ContextActions) => ActionMethod::named(name).is_some(),
+        Leaf::Object(Object::ContextActions) => action_named(name).is_some(),
         _ => false,
     }
 }

@@ -1,69 +1,43 @@
 //! The place of an implementation.
-ghost use Rattle.std.specs.Prelude.{◌≡◌, Ok, Err, Some, None, MatchResult, IfOk};
+ghost use Rattle.std.specs.Prelude.{◌≡◌, Ok, Err, Some, None, MatchResult};
 ghost use Rattle.values.specs.Ticking.{FaultOr};
 ghost use Rattle.operations.specs.Arguments.{given};
-ghost use Rattle.operations.specs.Instances.{default_info};
-ghost use Rattle.analysis.specs.Seen.{dependencies_seen};
 ghost use Rattle.places.specs.Answers.{Says, Reads};
 ghost use Rattle.contexts.specs.Actions.{method_named};
 ghost use Rattle.implementations.specs.Implementations.{implementation_place, call_method, object_method, action_call, worked};
 
-use crate::methods::{attr_refused, has_method, refused};
-use analysis::Dependency;
+use crate::methods::{action_named, attr_refused, has_method, refused};
 use contexts::{ActionMethod, Work};
+use field_names::FieldName;
 use language::Whole;
+use operands::Operand;
 use operations::Arguments;
-use places::Place;
-use plain::{Shared, Text};
-use std::alloc::{AllocError, Global};
+use places::{Place, Works};
+use std::alloc::Global;
 use target_actions::Mnemonics;
-use target_fields::{Dependencies, field, item, offers};
-use targets::Target;
-use values::{Broken, Item, Kind, Leaf, Object, Provider, Value};
+use target_fields::{TargetContext, field, item, offers};
+use values::{Broken, Item, Kind, Leaf, Object, Value};
 use workspace::Label;
 
-/// What the implementation of the target of a label sees: the target, and its dependencies with their outcomes. Its work are the
-/// Files that it declares and the actions that it registers.
+/// What the implementation of the target of a label sees: the target, and its dependencies with their outcomes. What lies in
+/// these is lent, and so is what was made of the target's attributes. Its work are the Files that it declares and the actions
+/// that it registers.
 #[derive(Drop)]
-pub struct ImplementationPlace<'a> {
+pub struct ImplementationPlace<'a, 'b> {
     pub label: &'a Label,
-    pub target: &'a Target,
-    pub dependencies: Dependencies<'a>,
+    pub context: &'a TargetContext<'b>,
     pub mnemonics: &'a Mnemonics,
 }
 
-impl<'a> ImplementationPlace<'a> {
-    /// The place of the implementation of a target with these dependencies. Their labels are put in order once.
-    pub fn new(
-        alloc: Global,
-        label: &'a Label,
-        target: &'a Target,
-        dependencies: &'a [Dependency<'a>],
-        info: &'a Shared<Provider>,
-        mnemonics: &'a Mnemonics,
-    ) -> Result<ImplementationPlace<'a>, AllocError>
-        requires { info.now ≡ default_info }
-        ensures label { IfOk result (λ p. p.label.now ≡ label.now) }
-        ensures target { IfOk result (λ p. p.target.now ≡ target.now) }
-        ensures dependencies { IfOk result
-            (λ p. p.dependencies ≡ dependencies_seen dependencies.now) }
-    {
-        let dependencies = Dependencies::new(alloc, dependencies, info)?;
-        Ok(ImplementationPlace {
-            label,
-            target,
-            dependencies,
-            mnemonics,
-        })
-    }
+impl<'a, 'b> Works for ImplementationPlace<'a, 'b> {
+    type Work = Work;
 }
 
-impl<'a> Place for ImplementationPlace<'a> {
+impl<'a, 'b> Place<'a> for ImplementationPlace<'a, 'b> {
     ghost use Rattle.implementations.specs.Implementations.{implementation_place};
 
-    type Work = Work;
-
-    ghost place = { λ p. implementation_place p.label.now p.target.now p.dependencies };
+    ghost place = { λ p. implementation_place p.label.now p.context.now.target.now
+        p.context.now.dependencies };
 
     fn call(
         &self,
@@ -75,8 +49,8 @@ impl<'a> Place for ImplementationPlace<'a> {
         Err(Broken::Kind(refused(callee)))
     }
 
-    fn has_method(&self, owner: &Leaf, name: &Text) -> bool {
-        has_method(owner, name.as_str())
+    fn has_method(&self, owner: &Leaf, name: &FieldName) -> bool {
+        has_method(owner, name)
     }
 
     fn method(
@@ -84,7 +58,7 @@ impl<'a> Place for ImplementationPlace<'a> {
         alloc: Global,
         whole: &mut Whole<Work>,
         owner: &Leaf,
-        name: &Text,
+        name: &FieldName,
         arguments: &Arguments<'_, '_>,
     ) -> Result<Value, Broken> {
         call_method(
@@ -103,14 +77,13 @@ impl<'a> Place for ImplementationPlace<'a> {
         alloc: Global,
         whole: &Whole<Work>,
         owner: &Leaf,
-        name: &Text,
-    ) -> Result<Value, Broken> {
+        name: &FieldName,
+    ) -> Result<Operand<'a>, Broken> {
         field(
             alloc,
             self.label,
             &whole.state.owner,
-            self.target,
-            &self.dependencies,
+            self.context,
             owner,
             name,
         )
@@ -122,11 +95,11 @@ impl<'a> Place for ImplementationPlace<'a> {
         whole: &Whole<Work>,
         target: usize,
         provider: Item<'_>,
-    ) -> Result<Value, Broken> {
+    ) -> Result<Operand<'a>, Broken> {
         item(
             alloc,
             &whole.state.heap,
-            &self.dependencies,
+            &self.context.dependencies,
             target,
             provider,
         )
@@ -138,7 +111,12 @@ impl<'a> Place for ImplementationPlace<'a> {
         target: usize,
         provider: Item<'_>,
     ) -> Result<bool, Broken> {
-        offers(&whole.state.heap, &self.dependencies, target, provider)
+        offers(
+            &whole.state.heap,
+            &self.context.dependencies,
+            target,
+            provider,
+        )
     }
 }
 
@@ -149,21 +127,21 @@ fn call_method(
     mnemonics: &Mnemonics,
     whole: &mut Whole<Work>,
     owner: &Leaf,
-    name: &Text,
+    name: &FieldName,
     arguments: &Arguments<'_, '_>,
 ) -> Result<Value, Broken>
     ensures { Says (call_method label.now owner.now name.now (given arguments.now) whole.old) result
         whole.new }
 {
     match owner {
-        Leaf::Object(Object::Attr) => Err(Broken::Kind(attr_refused(name.as_str()))),
+        Leaf::Object(Object::Attr) => Err(Broken::Kind(attr_refused(name))),
         Leaf::Object(Object::ContextActions) => {
             call_action(
                 alloc,
                 label,
                 mnemonics,
                 whole,
-                ActionMethod::named(name.as_str()),
+                action_named(name),
                 arguments,
             )
         }

@@ -57,6 +57,20 @@ impl Model for Targets {
         AreAll t.files.files t.files.limit t.packages.entries t.faults.items };
 }
 
+/// What the packages of a workspace declare, of which nothing more is asked: it is there to be let go.
+pub struct DonePackages {
+    packages: IndexMap<Text, Package>,
+}
+
+impl Drop for DonePackages {
+    fn drop(self) {
+        let DonePackages { packages: _ } = self;
+    }
+}
+
+/// The files of a workspace, the faults of those that fail, and what its packages declare.
+pub type TargetParts = (LoadedFiles, Vec<FileFault<FaultKind, Kind>>, DonePackages);
+
 /// What a label names, but that a source file isn't looked for.
 pub(crate) enum Declaration<'a> {
     /// A declared target, with what it depends on.
@@ -125,6 +139,19 @@ impl Targets {
         ensures { result.now ≡ faults self.now.files self.now.limit }
     {
         &self.faults
+    }
+
+    /// Its parts, so that what the packages declare is let go where and when it suits.
+    pub fn into_parts(self) -> TargetParts
+        ensures { result.1.items ≡ faults self.files self.limit }
+    {
+        let Targets {
+            alloc: _,
+            files,
+            packages,
+            faults,
+        } = self;
+        (files, faults, DonePackages { packages })
     }
 
     /// The declaration of a label.

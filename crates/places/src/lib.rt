@@ -11,4 +11,4 @@ mod place;
 
 pub use link::Link;
 pub use none::{NoFiles, NoPlace};
-pub use place::Place;
+pub use place::{Place, Works};

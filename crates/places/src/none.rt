@@ -2,8 +2,10 @@
 ghost use Rattle.std.specs.Prelude.{◌≡◌, Err, None, false, MatchResult};
 ghost use Rattle.places.specs.Nothing.{no_files, no_place};
 
-use crate::{Link, Place};
+use crate::{Link, Place, Works};
+use field_names::FieldName;
 use language::Whole;
+use operands::Operand;
 use operations::Arguments;
 use plain::Text;
 use std::alloc::{AllocError, Global};
@@ -39,9 +41,11 @@ impl<'a> Link<'a> for NoFiles {
 #[derive(Clone, Copy)]
 pub struct NoPlace;
 
-impl Place for NoPlace {
+impl Works for NoPlace {
     type Work = ();
+}
 
+impl<'a> Place<'a> for NoPlace {
     ghost place = { λ _. no_place };
 
     fn call(
@@ -54,7 +58,7 @@ impl Place for NoPlace {
         Err(Broken::Kind(Kind::Place))
     }
 
-    fn has_method(&self, _owner: &Leaf, _name: &Text) -> bool {
+    fn has_method(&self, _owner: &Leaf, _name: &FieldName) -> bool {
         false
     }
 
@@ -63,7 +67,7 @@ impl Place for NoPlace {
         _alloc: Global,
         _whole: &mut Whole<()>,
         _owner: &Leaf,
-        _name: &Text,
+        _name: &FieldName,
         _arguments: &Arguments<'_, '_>,
     ) -> Result<Value, Broken> {
         Err(Broken::Kind(Kind::Name))
@@ -74,8 +78,8 @@ impl Place for NoPlace {
         _alloc: Global,
         _whole: &Whole<()>,
         _owner: &Leaf,
-        _name: &Text,
-    ) -> Result<Value, Broken> {
+        _name: &FieldName,
+    ) -> Result<Operand<'a>, Broken> {
         Err(Broken::Kind(Kind::Name))
     }
 
@@ -85,7 +89,7 @@ impl Place for NoPlace {
         _whole: &Whole<()>,
         _target: usize,
         _provider: Item<'_>,
-    ) -> Result<Value, Broken> {
+    ) -> Result<Operand<'a>, Broken> {
         Err(Broken::Kind(Kind::Wrong))
     }
 

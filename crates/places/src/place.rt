@@ -5,21 +5,25 @@ ghost use Rattle.operations.specs.Arguments.{given};
 ghost use Rattle.language.specs.Place.{Place as Having};
 ghost use Rattle.places.specs.Answers.{Says, Reads};
 
+use field_names::FieldName;
 use language::Whole;
+use operands::Operand;
 use operations::Arguments;
-use plain::Text;
 use std::alloc::Global;
 use values::{Broken, Item, Leaf, Value};
 
-/// A module, a `BUILD` file or an implementation: its calls, and what its targets and objects show. Its work is what its
-/// calls change beside the state of the evaluation.
+/// What has work of its own.
+pub trait Works {
+    /// What its calls change beside the state of the evaluation.
+    type Work;
+}
+
+/// A module, a `BUILD` file or an implementation: its calls, and what its targets and objects show. What lies in what lives
+/// longer than the evaluation is lent.
 ///
 /// Each method gives what the place gives, with the state after it, or the fault that it has. Where memory was refused
 /// nothing is said.
-pub trait Place {
-    /// What the place declares.
-    type Work;
-
+pub trait Place<'a>: Works {
     ghost place: { Self → Having Self.Work };
 
     /// A call of `provider` or `rule`, or of a rule.
@@ -34,7 +38,7 @@ pub trait Place {
             whole.new };
 
     /// Whether a target or an object has a method of this name.
-    fn has_method(&self, owner: &Leaf, name: &Text) -> bool
+    fn has_method(&self, owner: &Leaf, name: &FieldName) -> bool
         ensures { result ≡ (place self.now).has_method owner.now name.now };
 
     /// A call of a method of a target or an object.
@@ -43,7 +47,7 @@ pub trait Place {
         alloc: Global,
         whole: &mut Whole<Self::Work>,
         owner: &Leaf,
-        name: &Text,
+        name: &FieldName,
         arguments: &Arguments<'_, '_>,
     ) -> Result<Value, Broken>
         ensures { Says ((place self.now).method owner.now name.now (given arguments.now) whole.old)
@@ -55,8 +59,8 @@ pub trait Place {
         alloc: Global,
         whole: &Whole<Self::Work>,
         owner: &Leaf,
-        name: &Text,
-    ) -> Result<Value, Broken>
+        name: &FieldName,
+    ) -> Result<Operand<'a>, Broken>
         ensures { Reads ((place self.now).field owner.now name.now whole.now) result };
 
     /// `t[P]` of the target at a place among the dependencies.
@@ -66,7 +70,7 @@ pub trait Place {
         whole: &Whole<Self::Work>,
         target: usize,
         provider: Item<'_>,
-    ) -> Result<Value, Broken>
+    ) -> Result<Operand<'a>, Broken>
         ensures { Reads ((place self.now).item target (item_value provider.entry) whole.now) result };
 
     /// `P in t` of the target at a place among the dependencies.

@@ -48,7 +48,7 @@ fn with_context(alloc: Global) -> Result<Arguments<'static>, AllocError>
 }
 
 /// Calls a function with `ctx` alone, at the line of its `def`.
-fn call<'a, L: Link<'a>, P: Place>(
+fn call<'a, L: Link<'a>, P: Place<'a>>(
     setting: &Setting<'a, L, P>,
     id: MadeId,
     whole: &mut Whole<'a, P::Work>,
@@ -69,7 +69,7 @@ fn call<'a, L: Link<'a>, P: Place>(
 /// # Errors
 ///
 /// `AllocError` where memory was refused.
-pub fn call_implementation<'a, L: Link<'a>, P: Place>(
+pub fn call_implementation<'a, L: Link<'a>, P: Place<'a>>(
     setting: &Setting<'a, L, P>,
     label: &Label,
     id: MadeId,

@@ -47,7 +47,7 @@ fn by_path(alloc: Global, paths: &[Text], fault: Fault) -> Result<Placed<Kind>, 
 }
 
 /// Runs what starts there, in a state.
-pub(crate) fn run<'a, L: Link<'a>, P: Place>(
+pub(crate) fn run<'a, L: Link<'a>, P: Place<'a>>(
     setting: &Setting<'a, L, P>,
     start: Start<'a>,
     whole: &mut Whole<'a, P::Work>,
@@ -58,7 +58,7 @@ pub(crate) fn run<'a, L: Link<'a>, P: Place>(
         start.entry whole.old) in
         IfOk result (λ r. MatchResult r (λ v. meant ≡ Ok (v, whole.new)) (λ p. meant ≡ Err p))) }
 {
-    let world = World {
+    let world: World<'a, L, P> = World {
         alloc: setting.alloc,
         linked: setting.linked,
         place: setting.place,
@@ -76,7 +76,7 @@ pub(crate) fn run<'a, L: Link<'a>, P: Place>(
 /// # Errors
 ///
 /// `AllocError` where memory was refused.
-pub fn run_top<'a, L: Link<'a>, P: Place>(
+pub fn run_top<'a, L: Link<'a>, P: Place<'a>>(
     setting: &Setting<'a, L, P>,
     file: &TopFile<'_>,
     work: P::Work,

@@ -1,5 +1,6 @@
 -- What a target has for the attribute of a name, by the attribute's place.
-use Rattle.std.proofs.Common.{◌≡◌, ◌∙◌, ℕ, ◌+◌, Bool, true, false, suc, List, [], ◌∷◌, slice_get, Option, Some, None, if◌then◌else◌, ap, refl, arith}
+use Rattle.std.proofs.Common.{◌≡◌, ◌∙◌, ℕ, ◌+◌, Bool, true, false, suc, List, [], ◌∷◌, map, slice_get, Option, Some, None, if◌then◌else◌, ap, refl, arith}
+use Rattle.std.proofs.lemmas.Option.{slice_get-map}
 use Rattle.std.specs.Prelude.{option_map}
 use Rattle.std.specs.Str.{bytes_eq}
 use Rattle.operations.specs.Arguments.{place_from, place_named}
@@ -39,3 +40,8 @@ named_at x (a ∷ rest) [] = nowhere (place_named x (names_of (a ∷ rest)))
 named_at x (a ∷ rest) (v ∷ vs) =
     chosen (bytes_eq x a.name) v vs (place_from x 1 (names_of rest)) (value_named x rest vs)
     (ap (at_place (v ∷ vs)) (later_place x 0 (names_of rest)) ∙ next v vs (place_from x 0 (names_of rest)) ∙ named_at x rest vs)
+
+-- what stands at a place, of what is made of each
+pub mapped_at : {A B : Type 0} (f : A → B) (xs : List A) (o : Option ℕ) → at_place (map f xs) o ≡ option_map f (at_place xs o)
+mapped_at f xs None = refl
+mapped_at f xs (Some i) = slice_get-map f xs i

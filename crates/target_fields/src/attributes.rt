@@ -1,61 +1,126 @@
-//! What a target has for its attributes, as values.
-ghost use Rattle.std.specs.Prelude.{◌≡◌, ◌++◌, ◌∷◌, [], IfOk, OnOk, map, option_copied};
+//! What a target has for its attributes, as values that are made once.
+ghost use Rattle.std.specs.Prelude.{◌≡◌, ◌++◌, ◌∷◌, [], IfOk, OnOk, map, slice_get};
+ghost use Rattle.values.specs.Seeing.{option_value};
 ghost use Rattle.values.specs.Tree.{leaf};
 ghost use Rattle.operations.specs.Items.{at_place};
 ghost use Rattle.targets.specs.TextDicts.{dict_of_texts};
-ghost use Rattle.contexts.specs.Fields.{value_for, attribute_value, text_tree, target_tree, frozen_list};
+ghost use Rattle.contexts.specs.Fields.{attribute_value, text_tree, target_tree, frozen_list};
 
 use crate::dependencies::Dependencies;
+use operands::Operand;
 use plain::{Shared, Text};
 use std::alloc::{AllocError, Global};
-use targets::{AttributeValue, Target, TextDict};
-use values::{Branch, Frozen, Key, Leaf, Value};
+use std::marker::Model;
+use targets::{AttributeValue, TextDict};
+use values::{Branch, Frozen, Item, Key, Leaf, Value};
 use workspace::Label;
 
-/// What a target has for the attribute of a name. The attribute is found by order.
-pub(crate) fn value_for<'a>(target: &'a Target, name: &Text) -> Option<&'a AttributeValue>
-    ensures { option_copied result ≡ value_for target.now name.now }
-{
-    value_at(
-        target.values.as_slice(),
-        target.rule.get().attributes.place(name),
-    )
+/// What a target has for each attribute of its rule, as a value. What lies in the target is lent; lists, dicts and targets
+/// are made here, once, and lent to each that reads them.
+#[derive(Drop)]
+pub(crate) struct AttributeValues<'a> {
+    values: Vec<Operand<'a>>,
 }
 
-/// The value at a place, if there is one.
-fn value_at<'a>(values: &'a [AttributeValue], place: Option<usize>) -> Option<&'a AttributeValue>
-    ensures { option_copied result ≡ at_place values.now place }
+impl<'a> Model for AttributeValues<'a> {
+    ghost use Rattle.std.specs.Prelude.{List};
+    ghost use Rattle.values.specs.declared.value.Value.{Value as Held};
+    ghost use Rattle.values.specs.ValueCodes.{items_code};
+
+    ghost Value = { List Held };
+
+    ghost coded = { items_code };
+
+    ghost view = { λ a. a.values.items };
+}
+
+impl<'a> AttributeValues<'a> {
+    /// Those of a target with these dependencies.
+    pub(crate) fn new(
+        alloc: Global,
+        dependencies: &Dependencies<'a>,
+        values: &'a [AttributeValue],
+    ) -> Result<AttributeValues<'a>, AllocError>
+        ensures { IfOk result (λ a. a ≡ map (attribute_value dependencies.now) values.now) }
+    {
+        let values = made_values(alloc, dependencies, values)?;
+        Ok(AttributeValues { values })
+    }
+
+    /// That of the attribute at a place, if there is one.
+    pub(crate) fn at(&self, place: Option<usize>) -> Option<Item<'_>>
+        ensures { option_value result ≡ at_place self.now place }
+    {
+        match place {
+            Some(place) => item_at(self.values.as_slice(), place),
+            None => None,
+        }
+    }
+}
+
+/// The value at a place, where it lies.
+fn item_at<'a>(values: &'a [Operand<'_>], place: usize) -> Option<Item<'a>>
+    ensures { option_value result ≡ slice_get values.now place }
 {
-    match place {
-        Some(place) => values.get(place),
+    match values.get(place) {
+        Some(value) => Some(value.item()),
         None => None,
     }
 }
 
-/// What a target has for an attribute, as a value: labels are the targets of the dependencies.
-pub(crate) fn attribute_value<'a>(
+/// What a target has for attributes, as values.
+fn made_values<'a>(
+    alloc: Global,
+    dependencies: &Dependencies<'a>,
+    values: &'a [AttributeValue],
+) -> Result<Vec<Operand<'a>>, AllocError>
+    ensures { IfOk result
+        (λ os. os.items ≡ map (attribute_value dependencies.now) values.now) }
+{
+    let mut made = Vec::with_capacity(alloc, values.len())?;
+    for value in values {
+        put_value(alloc, dependencies, value, &mut made)?;
+    }
+    Ok(made)
+}
+
+/// Puts what a target has for an attribute last.
+fn put_value<'a>(
     alloc: Global,
     dependencies: &Dependencies<'a>,
     value: &'a AttributeValue,
-) -> Result<Value, AllocError>
+    made: &mut Vec<Operand<'a>>,
+) -> Result<(), AllocError>
+    ensures { OnOk result (made.new.items
+        ≡ made.old.items ++ attribute_value dependencies.now value.now ∷ []) }
+{
+    made.push(attribute_value(alloc, dependencies, value)?)?;
+    Ok(())
+}
+
+/// What a target has for an attribute, as a value: labels are the targets of the dependencies.
+fn attribute_value<'a>(
+    alloc: Global,
+    dependencies: &Dependencies<'a>,
+    value: &'a AttributeValue,
+) -> Result<Operand<'a>, AllocError>
     ensures { IfOk result (λ v. v ≡ attribute_value dependencies.now value.now) }
 {
     match value {
-        AttributeValue::Key(key) => Ok(Value::Key(key.share()?)),
-        AttributeValue::Strings(texts) => frozen_list(
-            alloc,
-            text_trees(alloc, texts.get().as_slice())?,
-        ),
-        AttributeValue::StringDict(dict) => frozen_dict(alloc, dict.get()),
-        AttributeValue::Label(None) => Ok(Value::Leaf(Leaf::None)),
+        AttributeValue::Key(key) => Ok(Operand::lent(Item::Key(key))),
+        AttributeValue::Strings(texts) => {
+            let texts = text_trees(alloc, texts.get().as_slice())?;
+            Ok(Operand::own(frozen_list(alloc, texts)?))
+        }
+        AttributeValue::StringDict(dict) => Ok(Operand::own(frozen_dict(alloc, dict.get())?)),
+        AttributeValue::Label(None) => Ok(Operand::own(Value::Leaf(Leaf::None))),
         AttributeValue::Label(Some(label)) => {
-            Ok(Value::Leaf(Leaf::Target(dependencies.place(label.get()))))
+            let place = dependencies.place(label.get());
+            Ok(Operand::own(Value::Leaf(Leaf::Target(place))))
         }
         AttributeValue::Labels(labels) => {
-            frozen_list(
-                alloc,
-                target_trees(alloc, dependencies, labels.get().as_slice())?,
-            )
+            let targets = target_trees(alloc, dependencies, labels.get().as_slice())?;
+            Ok(Operand::own(frozen_list(alloc, targets)?))
         }
     }
 }

@@ -7,15 +7,15 @@ ghost use Rattle.analysis.specs.Seen.{dependency_seen};
 ghost use Rattle.contexts.specs.Fields.{field, object_field, attr_field, files_field, files_or_name, labels_for, context_field, target_field, dependency_field, depset_value, label_value};
 ghost use Rattle.contexts.specs.Offered.{files_of};
 
-use crate::attributes::{attribute_value, value_for};
+use crate::context::{TargetContext, value_for};
 use crate::dependencies::Dependencies;
 use crate::files::files_of;
 use crate::listings::files;
-use analysis::Dependency;
 use contexts::text_of_label;
+use field_names::{FieldName, KnownName};
+use operands::{Operand, owned};
 use plain::Text;
 use std::alloc::{AllocError, Global};
-use targets::Target;
 use values::{Broken, Key, Kind, Leaf, Object, Value};
 use workspace::Label;
 
@@ -25,38 +25,38 @@ use workspace::Label;
 /// # Errors
 ///
 /// `name`, where there is no such field; of `ctx.files` `large`, where there are too many Files for a list.
-pub fn field<'a>(
+pub fn field<'a, 'b>(
     alloc: Global,
     label: &Label,
     text: &Text,
-    target: &'a Target,
-    dependencies: &Dependencies<'a>,
+    context: &'a TargetContext<'b>,
     owner: &Leaf,
-    name: &Text,
-) -> Result<Value, Broken>
-    ensures { Gives (field target.now dependencies.now label.now owner.now name.now) result }
+    name: &FieldName,
+) -> Result<Operand<'a>, Broken>
+    ensures { Gives (field context.now.target.now context.now.dependencies label.now owner.now
+        name.now) result }
 {
     match owner {
         Leaf::Target(place) => {
-            let value = target_field(alloc, dependencies, *place, name)?;
+            let value = target_field(alloc, &context.dependencies, *place, name)?;
             or_name(value)
         }
         Leaf::Object(Object::Context) => {
             let value = context_field(alloc, label, text, name)?;
-            or_name(value)
+            own_or_name(value)
         }
         Leaf::Object(Object::ContextAttr) => {
-            let value = attr_field(alloc, label, target, dependencies, name)?;
+            let value = attr_field(alloc, label, context, name)?;
             or_name(value)
         }
-        Leaf::Object(Object::ContextFiles) => files_field(alloc, target, dependencies, name),
+        Leaf::Object(Object::ContextFiles) => owned(files_field(alloc, context, name)),
         _ => Err(Broken::Kind(Kind::Name)),
     }
 }
 
 /// A value, or `name`.
-fn or_name(value: Option<Value>) -> Result<Value, Broken>
-    ensures { Gives (or_fault Kind.Name value) result }
+fn or_name<'a>(value: Option<Operand<'a>>) -> Result<Operand<'a>, Broken>
+    ensures { Gives (or_fault Kind.Name value.entry) result }
 {
     match value {
         Some(value) => Ok(value),
@@ -64,22 +64,35 @@ fn or_name(value: Option<Value>) -> Result<Value, Broken>
     }
 }
 
+/// A value that was made, or `name`.
+fn own_or_name<'a>(value: Option<Value>) -> Result<Operand<'a>, Broken>
+    ensures { Gives (or_fault Kind.Name value) result }
+{
+    match value {
+        Some(value) => Ok(Operand::own(value)),
+        None => Err(Broken::Kind(Kind::Name)),
+    }
+}
+
 /// A field of the target at a place.
-fn target_field(
+fn target_field<'a, 'b>(
     alloc: Global,
-    dependencies: &Dependencies<'_>,
+    dependencies: &'a Dependencies<'b>,
     place: usize,
-    name: &Text,
-) -> Result<Option<Value>, AllocError>
+    name: &FieldName,
+) -> Result<Option<Operand<'a>>, AllocError>
     ensures { IfOk result (λ v. v ≡ target_field (slice_get dependencies.now place) name.now) }
 {
     let Some(dependency) = dependencies.at(place) else {
         return Ok(None);
     };
-    match name.as_str() {
-        "label" => Ok(Some(label_value(alloc, dependency.label.get())?)),
-        "files" => files_value(alloc, dependency, dependencies),
-        _ => Ok(None),
+    if name.is(KnownName::Label) {
+        let label = label_value(alloc, dependency.label.get())?;
+        Ok(Some(Operand::own(label)))
+    } else if name.is(KnownName::Files) {
+        files_of(alloc, dependency, dependencies.info().get())
+    } else {
+        Ok(None)
     }
 }
 
@@ -99,69 +112,58 @@ fn own_label(alloc: Global, label: &Label, text: &Text) -> Result<Value, AllocEr
     Ok(Value::Leaf(Leaf::Label(text)))
 }
 
-/// `files` of a target.
-fn files_value(
-    alloc: Global,
-    dependency: &Dependency<'_>,
-    dependencies: &Dependencies<'_>,
-) -> Result<Option<Value>, AllocError>
-    ensures { IfOk result (λ v. v
-        ≡ option_map depset_value (files_of (dependency_seen dependency.now))) }
-{
-    match files_of(alloc, dependency, dependencies.info().get())? {
-        Some(depset) => Ok(Some(Value::Leaf(Leaf::Depset(depset)))),
-        None => Ok(None),
-    }
-}
-
 /// A field of `ctx`.
 fn context_field(
     alloc: Global,
     label: &Label,
     text: &Text,
-    name: &Text,
+    name: &FieldName,
 ) -> Result<Option<Value>, AllocError>
     ensures { IfOk result (λ v. v ≡ context_field label.now name.now) }
 {
-    match name.as_str() {
-        "label" => Ok(Some(own_label(alloc, label, text)?)),
-        "attr" => Ok(Some(Value::Leaf(Leaf::Object(Object::ContextAttr)))),
-        "files" => Ok(Some(Value::Leaf(Leaf::Object(Object::ContextFiles)))),
-        "actions" => Ok(Some(Value::Leaf(Leaf::Object(Object::ContextActions)))),
-        _ => Ok(None),
+    if name.is(KnownName::Label) {
+        Ok(Some(own_label(alloc, label, text)?))
+    } else if name.is(KnownName::Attr) {
+        Ok(Some(Value::Leaf(Leaf::Object(Object::ContextAttr))))
+    } else if name.is(KnownName::Files) {
+        Ok(Some(Value::Leaf(Leaf::Object(Object::ContextFiles))))
+    } else if name.is(KnownName::Actions) {
+        Ok(Some(Value::Leaf(Leaf::Object(Object::ContextActions))))
+    } else {
+        Ok(None)
     }
 }
 
-/// A field of `ctx.attr`.
-fn attr_field<'a>(
+/// A field of `ctx.attr`: what the target has for an attribute is lent.
+fn attr_field<'a, 'b>(
     alloc: Global,
     label: &Label,
-    target: &'a Target,
-    dependencies: &Dependencies<'a>,
-    name: &Text,
-) -> Result<Option<Value>, AllocError>
-    ensures { IfOk result (λ v. v ≡ attr_field target.now dependencies.now label.now name.now) }
+    context: &'a TargetContext<'b>,
+    name: &FieldName,
+) -> Result<Option<Operand<'a>>, AllocError>
+    ensures { IfOk result (λ v. v ≡ attr_field context.now.target.now context.now.dependencies
+        label.now name.now) }
 {
-    if name.as_str() == "name" {
-        return Ok(Some(Value::Key(Key::Text(Text::new(alloc, label.name())?))));
+    if name.is(KnownName::Name) {
+        let name = Text::new(alloc, label.name())?;
+        return Ok(Some(Operand::own(Value::Key(Key::Text(name)))));
     }
-    match value_for(target, name) {
-        Some(value) => Ok(Some(attribute_value(alloc, dependencies, value)?)),
+    match context.attribute(name) {
+        Some(item) => Ok(Some(Operand::lent(item))),
         None => Ok(None),
     }
 }
 
 /// A field of `ctx.files`.
-fn files_field<'a>(
+fn files_field(
     alloc: Global,
-    target: &'a Target,
-    dependencies: &Dependencies<'a>,
-    name: &Text,
+    context: &TargetContext<'_>,
+    name: &FieldName,
 ) -> Result<Value, Broken>
-    ensures { Gives (files_field target.now dependencies.now name.now) result }
+    ensures { Gives (files_field context.now.target.now context.now.dependencies name.now) result }
 {
-    match value_for(target, name) {
-        Some(value) => files(alloc, dependencies, value),
+    match value_for(context.target, name) {
+        Some(value) => files(alloc, &context.dependencies, value),
         None => Err(Broken::Kind(Kind::Name)),
     }
 }

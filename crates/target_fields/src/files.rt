@@ -1,5 +1,5 @@
 //! `files` of a target.
-ghost use Rattle.std.specs.Prelude.{◌≡◌, ◌∷◌, [], Some, None, IfOk, option_copied, codes};
+ghost use Rattle.std.specs.Prelude.{◌≡◌, ◌∷◌, [], Some, None, IfOk, option_map, option_copied, codes};
 ghost use Rattle.values.specs.Seeing.{item_value, option_value};
 ghost use Rattle.values.specs.Shape.{value_of};
 ghost use Rattle.values.specs.View.{tree_of};
@@ -7,68 +7,87 @@ ghost use Rattle.operations.specs.Fields.{field_in};
 ghost use Rattle.operations.specs.Instances.{default_info};
 ghost use Rattle.operations.specs.Reading.{leaf_depset};
 ghost use Rattle.analysis.specs.Seen.{dependency_seen};
-ghost use Rattle.contexts.specs.Offered.{files_of, files_in, tree_files, value_depset, instances};
+ghost use Rattle.contexts.specs.Fields.{depset_value};
+ghost use Rattle.contexts.specs.Offered.{files_of, files_in, tree_files, source_files, value_depset, instances};
 
 use crate::offered::{instance_of, source_files};
 use analysis::Dependency;
-use depsets::Depset;
+use depsets::{Depset, FileRef};
 use making::field;
-use plain::Text;
+use operands::Operand;
+use plain::{Shared, Text};
 use std::alloc::{AllocError, Global};
 use targets::Outcome;
 use values::{Frozen, Held, Item, Leaf, Provider, Seen, Value};
 
-/// The depset in `files` of a target's `DefaultInfo`, if there is one.
-pub(crate) fn files_of(
+/// The depset in `files` of a target's `DefaultInfo`, if there is one: that of a source file is made, and else it is lent.
+pub(crate) fn files_of<'a>(
     alloc: Global,
-    dependency: &Dependency<'_>,
+    dependency: &'a Dependency<'a>,
     info: &Provider,
-) -> Result<Option<Depset>, AllocError>
+) -> Result<Option<Operand<'a>>, AllocError>
     requires { info.now ≡ default_info }
-    ensures { IfOk result (λ d. d ≡ files_of (dependency_seen dependency.now)) }
+    ensures { IfOk result (λ v. v
+        ≡ option_map depset_value (files_of (dependency_seen dependency.now))) }
 {
     match dependency.outcome {
-        Outcome::Source(file) => Ok(Some(source_files(alloc, file)?)),
-        Outcome::Done(providers, _) => shared_files(alloc, providers.as_slice(), info),
+        Outcome::Source(file) => Ok(Some(made_files(alloc, file)?)),
+        Outcome::Done(providers, _) => lent_files(alloc, providers.as_slice(), info),
         Outcome::Failed(_) => Ok(None),
     }
 }
 
-/// The depset in `files` of the `DefaultInfo` among instances, shared.
-fn shared_files(
+/// The depset of a source file, as a value.
+fn made_files<'a>(alloc: Global, file: &Shared<FileRef>) -> Result<Operand<'a>, AllocError>
+    ensures { IfOk result (λ v. v ≡ depset_value (source_files file.now)) }
+{
+    let depset = source_files(alloc, file)?;
+    Ok(Operand::own(Value::Leaf(Leaf::Depset(depset))))
+}
+
+/// The depset in `files` of the `DefaultInfo` among instances.
+fn lent_files<'a>(
     alloc: Global,
-    instances: &[Frozen],
+    instances: &'a [Frozen],
     info: &Provider,
-) -> Result<Option<Depset>, AllocError>
+) -> Result<Option<Operand<'a>>, AllocError>
     requires { info.now ≡ default_info }
-    ensures { IfOk result (λ d. d ≡ files_in instances.now) }
+    ensures { IfOk result (λ v. v ≡ option_map depset_value (files_in instances.now)) }
 {
     let Some(instance) = instance_of(instances, info) else {
         return Ok(None);
     };
     let name = Text::new(alloc, "files")?;
-    match tree_files(instance, &name) {
-        Some(files) => Ok(Some(files.share()?)),
-        None => Ok(None),
-    }
+    Ok(tree_files(instance, &name))
 }
 
 /// The depset in `files` of an instance, if there is one.
-fn tree_files<'a>(instance: &'a Frozen, files: &Text) -> Option<&'a Depset>
+fn tree_files<'a>(instance: &'a Frozen, files: &Text) -> Option<Operand<'a>>
     requires { files.now ≡ codes "files" }
-    ensures { option_copied result ≡ tree_files instance.now }
+    ensures { result ≡ option_map depset_value (tree_files instance.now) }
 {
     match instance.see() {
         Seen::Instance(provider, slots) => match field(provider, slots, files) {
-            Some(item) => item_depset(item),
+            Some(item) => lent_depset(item),
             None => None,
         },
         _ => None,
     }
 }
 
+/// An item, if it is a depset.
+#[tactic(auto, using(crate::proofs::Depsets::depset_again))]
+fn lent_depset<'a>(item: Item<'a>) -> Option<Operand<'a>>
+    ensures { result ≡ option_map depset_value (value_depset (item_value item.entry)) }
+{
+    match item_depset(item) {
+        Some(_) => Some(Operand::lent(item)),
+        None => None,
+    }
+}
+
 /// The depset that an item is, if it is one.
-fn item_depset<'a>(item: Item<'a>) -> Option<&'a Depset>
+pub(crate) fn item_depset<'a>(item: Item<'a>) -> Option<&'a Depset>
     ensures { option_copied result ≡ value_depset (item_value item.entry) }
 {
     match item {

@@ -2,16 +2,18 @@
 //! providers that targets offer.
 //!
 //! Each call gives what its definition in `contexts` says, or answers that memory was refused. Nothing of a dependency is copied:
-//! its depsets, instances and Files are shared.
+//! its depsets and instances are lent where they lie, and so is what [`TargetContext`] made once of a target's attributes.
 #![tactic(auto)]
 
 mod attributes;
+mod context;
 mod dependencies;
 mod fields;
 mod files;
 mod listings;
 mod offered;
 
+pub use context::TargetContext;
 pub use dependencies::Dependencies;
 pub use fields::field;
 pub use offered::{item, offers};

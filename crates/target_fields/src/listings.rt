@@ -1,19 +1,21 @@
 //! `ctx.files`: the listings of the targets of labels.
 ghost use Rattle.std.specs.Prelude.{◌≡◌, ◌++◌, ◌∷◌, [], ◌<◌, Ok, Err, Some, None, MatchResult, IfOk, OnOk, map, length, slice_get};
 ghost use Rattle.depsets.specs.Listed.{walked};
+ghost use Rattle.values.specs.Seeing.{item_value};
 ghost use Rattle.values.specs.Ticking.{FaultOr};
 ghost use Rattle.operations.specs.Instances.{default_info};
 ghost use Rattle.operations.specs.States.{Gives};
 ghost use Rattle.contexts.specs.Fields.{attribute_labels, files_listed, files_or_name, frozen_list, listing, listed_files, element_tree, place_of, unless_large};
+ghost use Rattle.contexts.specs.Offered.{value_depset};
 
 use crate::attributes::frozen_list;
 use crate::dependencies::Dependencies;
-use crate::files::files_of;
+use crate::files::{files_of, item_depset};
 use depsets::{Depset, Element, Elements};
 use plain::Shared;
 use std::alloc::{AllocError, Global};
 use targets::AttributeValue;
-use values::{Broken, Frozen, Key, Kind, LARGEST, Leaf, Value};
+use values::{Broken, Frozen, Item, Key, Kind, LARGEST, Leaf, Value};
 use workspace::Label;
 
 /// The Files of the targets of an attribute's labels.
@@ -98,7 +100,18 @@ fn put_files(
         return Ok(());
     };
     match files_of(alloc, dependency, dependencies.info().get())? {
-        Some(depset) => put_listing(alloc, &depset, trees),
+        Some(files) => put_value(alloc, files.item(), trees),
+        None => Ok(()),
+    }
+}
+
+/// Puts the listing of a value last, if it is a depset.
+fn put_value(alloc: Global, value: Item<'_>, trees: &mut Vec<Frozen>) -> Result<(), AllocError>
+    ensures { OnOk result (trees.new.items ≡ trees.old.items
+        ++ map element_tree (listing (value_depset (item_value value.entry)))) }
+{
+    match item_depset(value) {
+        Some(depset) => put_listing(alloc, depset, trees),
         None => Ok(()),
     }
 }

@@ -12,23 +12,24 @@ ghost use Rattle.contexts.specs.Offered.{source_files, info_with, instances, ins
 use crate::dependencies::Dependencies;
 use analysis::{Dependency, is_of};
 use depsets::{Depset, Element, FileRef, Id, Order};
+use operands::Operand;
 use plain::Shared;
 use std::alloc::{AllocError, Global};
 use targets::Outcome;
 use values::{Branch, Broken, Frozen, Heap, Item, Kind, Leaf, Provider, Seen, Value};
 
-/// The instance of a provider that the target at a place offers.
+/// The instance of a provider that the target at a place offers, which its outcome lends. That of a source file is made.
 ///
 /// # Errors
 ///
 /// `type`, where the value is no provider; `key`, where the target doesn't offer it.
-pub fn item(
+pub fn item<'a>(
     alloc: Global,
     heap: &Heap,
-    dependencies: &Dependencies<'_>,
+    dependencies: &Dependencies<'a>,
     place: usize,
     provider: Item<'_>,
-) -> Result<Value, Broken>
+) -> Result<Operand<'a>, Broken>
     ensures { Gives (item dependencies.now heap.now place (item_value provider.entry)) result }
 {
     let Some(provider) = provider_of(&heap.see_item(provider)) else {
@@ -88,31 +89,30 @@ fn has_instance(outcome: &Outcome, provider: &Provider, info: &Shared<Provider>)
 }
 
 /// The instance of a provider that a target of this outcome offers.
-fn instance(
+fn instance<'a>(
     alloc: Global,
-    outcome: &Outcome,
+    outcome: &'a Outcome,
     provider: &Provider,
     info: &Shared<Provider>,
-) -> Result<Option<Value>, AllocError>
+) -> Result<Option<Operand<'a>>, AllocError>
     requires { info.now ≡ default_info }
     ensures { IfOk result (λ v. v
         ≡ option_map value_of (instance_of provider.now (instances outcome.now))) }
 {
     match outcome {
         Outcome::Source(file) => source_instance(alloc, file, provider, info),
-        Outcome::Done(providers, _) => shared_instance(providers.as_slice(), provider),
+        Outcome::Done(providers, _) => Ok(lent_instance(providers.as_slice(), provider)),
         Outcome::Failed(_) => Ok(None),
     }
 }
 
-/// An instance that is among these, shared.
-fn shared_instance(instances: &[Frozen], provider: &Provider) -> Result<Option<Value>, AllocError>
-    ensures { IfOk result (λ v. v
-        ≡ option_map value_of (instance_of provider.now instances.now)) }
+/// An instance that is among these, where it lies.
+fn lent_instance<'a>(instances: &'a [Frozen], provider: &Provider) -> Option<Operand<'a>>
+    ensures { result ≡ option_map value_of (instance_of provider.now instances.now) }
 {
     match instance_of(instances, provider) {
-        Some(instance) => Ok(Some(instance.to_value()?)),
-        None => Ok(None),
+        Some(instance) => Some(Operand::lent(Item::Tree(instance))),
+        None => None,
     }
 }
 
@@ -129,12 +129,12 @@ pub(crate) fn instance_of<'a>(instances: &'a [Frozen], provider: &Provider) -> O
 }
 
 /// What a source file offers: `DefaultInfo` alone.
-fn source_instance(
+fn source_instance<'a>(
     alloc: Global,
     file: &Shared<FileRef>,
     provider: &Provider,
     info: &Shared<Provider>,
-) -> Result<Option<Value>, AllocError>
+) -> Result<Option<Operand<'a>>, AllocError>
     requires { info.now ≡ default_info }
     ensures { IfOk result (λ v. v
         ≡ option_map value_of (instance_of provider.now (instances (Outcome.Source file.now)))) }
@@ -142,7 +142,7 @@ fn source_instance(
     if !provider.is_same(info.get()) {
         return Ok(None);
     }
-    Ok(Some(source_info(alloc, file, info)?))
+    Ok(Some(Operand::own(source_info(alloc, file, info)?)))
 }
 
 /// The `DefaultInfo` of a source file.

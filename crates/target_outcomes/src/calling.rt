@@ -27,13 +27,14 @@ use plain::Shared;
 use running::{Setting, call_implementation};
 use std::alloc::{AllocError, Global};
 use target_actions::Mnemonics;
+use target_fields::TargetContext;
 use targets::Target;
 use values::{FunctionRef, Kind, Provider};
 use workspace::Label;
 
 /// Calls a function with `ctx` alone, in a place where nothing was done.
-fn call<'a, L: Link<'a>>(
-    setting: &Setting<'a, L, ImplementationPlace<'_>>,
+fn call<'a, 'b, L: Link<'a>>(
+    setting: &Setting<'a, L, ImplementationPlace<'a, 'b>>,
     label: &Label,
     function: &FunctionRef,
 ) -> Result<Result<Implemented, Placed<Kind>>, AllocError>
@@ -42,7 +43,8 @@ fn call<'a, L: Link<'a>>(
         → IfOk result (Implements (target_after setting.now.limit files setting.now.paths.now
         target_world function.now (function_meaning
         (language (L.linked setting.now.linked.now)
-        (implementation_place place.label.now place.target.now place.dependencies)) files
+        (implementation_place place.label.now place.context.now.target.now
+        place.context.now.dependencies)) files
         (function_id function.now.id) context_alone
         (record {
           state = state_of_target setting.now.limit label.now
@@ -64,21 +66,26 @@ fn call<'a, L: Link<'a>>(
 }
 
 /// The call of the implementation of the rule of a label's target, with its dependencies: what it gave, or its fault.
-pub(crate) fn implement(
+pub(crate) fn implement<'a>(
     alloc: Global,
     files: &LoadedFiles,
-    info: &Shared<Provider>,
+    info: &'a Shared<Provider>,
     mnemonics: &Mnemonics,
     label: &Label,
-    target: &Target,
-    dependencies: &[Dependency<'_>],
+    target: &'a Target,
+    dependencies: &'a [Dependency<'a>],
 ) -> Result<Result<Implemented, Placed<Kind>>, AllocError>
     requires { info.now ≡ default_info }
     ensures { IfOk result (Implements (implement files.now.files files.now.limit label.now
         target.now (dependencies_seen dependencies.now))) }
 {
     modules::laws::modules_are_found_by_path::<usize, Module, FaultKind, Kind>();
-    let place = ImplementationPlace::new(alloc, label, target, dependencies, info, mnemonics)?;
+    let context = TargetContext::new(alloc, target, dependencies, info)?;
+    let place = ImplementationPlace {
+        label,
+        context: &context,
+        mnemonics,
+    };
     let paths = files.paths();
     let modules = files.modules();
     let sources = files.sources();
@@ -86,6 +93,7 @@ pub(crate) fn implement(
     let linked = Files {
         alloc,
         paths,
+        module_numbers: sources.module_numbers(),
         known: &known,
     };
     let setting = Setting {
