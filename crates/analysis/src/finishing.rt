@@ -115,7 +115,7 @@ fn done(
 fn no_action(file: &FileRef) -> Result<Outcome, AllocError>
     ensures { IfOk result (λ o. o ≡ Outcome.Failed (TargetFault.NoAction file.now.path)) }
 {
-    let path = file.path.share()?;
+    let path = file.path.text().share()?;
     Ok(Outcome::Failed(TargetFault::NoAction(path)))
 }
 

@@ -3,7 +3,7 @@ use Rattle.std.proofs.Common.{◌≡◌, ℕ, zero, suc, ◌+◌, ◌≤◌, Boo
 use Rattle.depsets.proofs.Turns.{drop_at}
 use Rattle.values.specs.Visits.{keys_of}
 use Rattle.values.specs.Ticking.{FaultOr}
-use Rattle.values.specs.declared.key.Key.{Key}
+use Rattle.keys.specs.declared.key.Key.{Key}
 use Rattle.values.specs.declared.value.Value.{Value}
 use Rattle.values.specs.declared.value.Value.TheVariants as value
 use Rattle.values.specs.declared.cells.Cell.{Cell}

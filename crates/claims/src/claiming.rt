@@ -70,7 +70,7 @@ fn add_claim(
     ensures { OnOk result (claims.new.items
         ≡ claims.old.items ++ claim_on place label.now file.now ∷ []) }
 {
-    let path = file.get().path.share()?;
+    let path = file.get().path.text().share()?;
     let label = label.share()?;
     claims.push(Claim { path, label, place })?;
     Ok(())

@@ -57,7 +57,7 @@ fn file_paths(alloc: Global, files: &[Shared<FileRef>]) -> Result<Vec<Text>, All
 {
     let mut paths = Vec::new(alloc);
     for file in files {
-        paths.push(file.get().path.share()?)?;
+        paths.push(file.get().path.text().share()?)?;
     }
     Ok(paths)
 }
@@ -69,7 +69,7 @@ fn element_paths(alloc: Global, elements: &Elements<'_>) -> Result<Vec<Text>, Al
     let mut paths = Vec::new(alloc);
     for i in 0..elements.len() {
         if let Element::File(file) = elements.at(i) {
-            paths.push(file.get().path.share()?)?;
+            paths.push(file.get().path.text().share()?)?;
         }
     }
     Ok(paths)

@@ -11,7 +11,7 @@ fn files(alloc: Global, label: &str, paths: &[&str]) -> Result<Files, AllocError
     for path in paths {
         let path = Text::new(alloc, path)?;
         let owner = Text::new(alloc, label)?;
-        files.push(Counted::new(alloc, FileRef { path, owner })?)?;
+        files.push(Counted::new(alloc, FileRef::new(path, owner))?)?;
     }
     Ok(files)
 }

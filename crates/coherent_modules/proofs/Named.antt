@@ -4,7 +4,7 @@ use Rattle.std.specs.List.{flat_map}
 use Rattle.values.specs.Shape.{value_of}
 use Rattle.values.specs.Tree.{Trees, Pairs, Slots, key, leaf, branch, list, tuple, dict, instance, none, more, stop, pair, end, missing, given}
 use Rattle.values.specs.View.{FrozenTree, FrozenBranch}
-use Rattle.values.specs.declared.key.Key.{Key}
+use Rattle.keys.specs.declared.key.Key.{Key}
 use Rattle.values.specs.declared.leaf.Leaf.{Leaf}
 use Rattle.values.specs.declared.leaf.Leaf.TheVariants as plain
 use Rattle.values.specs.declared.leaf.Provider.{Provider}

@@ -4,7 +4,7 @@ use Rattle.depsets.specs.declared.element.Element.TheVariants as element
 use Rattle.values.specs.Tree.{key, leaf, dict, pairs}
 use Rattle.values.specs.View.{FrozenTree}
 use Rattle.values.specs.Shape.{value_of}
-use Rattle.values.specs.declared.key.Key.TheVariants as index
+use Rattle.keys.specs.declared.key.Key.TheVariants as index
 use Rattle.values.specs.declared.leaf.Leaf.{Leaf}
 use Rattle.values.specs.declared.leaf.Leaf.TheVariants as plain
 use Rattle.values.specs.declared.leaf.Object.{Object}

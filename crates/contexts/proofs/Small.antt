@@ -9,7 +9,7 @@ use Rattle.depsets.specs.declared.element.Element.TheVariants as element
 use Rattle.depsets.specs.declared.element.FileRef.{FileRef}
 use Rattle.values.specs.Tree.{key, branch, instance, slots}
 use Rattle.values.specs.View.{FrozenTree}
-use Rattle.values.specs.declared.key.Key.TheVariants as index
+use Rattle.keys.specs.declared.key.Key.TheVariants as index
 use Rattle.values.specs.declared.leaf.AttributeKind.{AttributeKind}
 use Rattle.values.specs.declared.leaf.AttributeKind.TheVariants as kind
 use Rattle.values.specs.declared.leaf.ExportName.TheVariants as export

@@ -7,7 +7,7 @@ use Rattle.depsets.specs.Rose.{Rose}
 use Rattle.depsets.specs.declared.element.FileRef.{FileRef}
 use Rattle.values.specs.Shape.{Shape, key, atom, items, shape}
 use Rattle.values.specs.declared.cells.Cell.{Cell}
-use Rattle.values.specs.declared.key.Key.TheVariants as index
+use Rattle.keys.specs.declared.key.Key.TheVariants as index
 use Rattle.values.specs.declared.leaf.Leaf.{Leaf}
 use Rattle.values.specs.declared.leaf.Leaf.TheVariants as plain
 use Rattle.values.specs.declared.ticks.Kind.{Kind}

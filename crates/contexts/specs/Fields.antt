@@ -10,7 +10,7 @@ use Rattle.values.specs.Shape.{value_of}
 use Rattle.values.specs.Tree.{key, leaf, list, trees}
 use Rattle.values.specs.View.{FrozenTree}
 use Rattle.values.specs.declared.cells.TheConstants.{LARGEST}
-use Rattle.values.specs.declared.key.Key.TheVariants as index
+use Rattle.keys.specs.declared.key.Key.TheVariants as index
 use Rattle.values.specs.declared.leaf.Leaf.{Leaf}
 use Rattle.values.specs.declared.leaf.Leaf.TheVariants as plain
 use Rattle.values.specs.declared.leaf.Object.{Object}

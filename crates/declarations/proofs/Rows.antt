@@ -2,8 +2,8 @@
 use Rattle.std.specs.Prelude.{◌≡◌, ℕ, pos, true, false, List, [], ◌∷◌, Option, Some, None, Result, Ok, Err, refl, codes}
 use Rattle.values.specs.declared.cells.Cell.{Cell}
 use Rattle.values.specs.declared.cells.Cell.TheVariants as cell
-use Rattle.values.specs.declared.key.Key.{Key}
-use Rattle.values.specs.declared.key.Key.TheVariants as index
+use Rattle.keys.specs.declared.key.Key.{Key}
+use Rattle.keys.specs.declared.key.Key.TheVariants as index
 use Rattle.values.specs.declared.leaf.AttributeKind.{AttributeKind}
 use Rattle.values.specs.declared.leaf.AttributeKind.TheVariants as kind
 use Rattle.values.specs.declared.leaf.BuiltIn.TheVariants as built_in

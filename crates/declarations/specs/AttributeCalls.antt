@@ -3,8 +3,8 @@
 use Rattle.std.specs.Prelude.{ℕ, Bool, true, false, List, [], ◌∷◌, ◌++◌, length, Option, Some, None, option_map, option_and_then, Result, Ok, Err, codes}
 use Rattle.values.specs.Shape.{Shape, key, atom, items, entries, shape}
 use Rattle.values.specs.declared.cells.Cell.{Cell}
-use Rattle.values.specs.declared.key.Key.{Key}
-use Rattle.values.specs.declared.key.Key.TheVariants as index
+use Rattle.keys.specs.declared.key.Key.{Key}
+use Rattle.keys.specs.declared.key.Key.TheVariants as index
 use Rattle.values.specs.declared.leaf.AttributeKind.{AttributeKind}
 use Rattle.values.specs.declared.leaf.AttributeKind.TheVariants as kind
 use Rattle.values.specs.declared.leaf.Leaf.TheVariants as plain

@@ -1,7 +1,7 @@
 -- The call of `rule` (Bazel documentation, "rule"; docs/PROFILE.md, "Calls for providers and rules" and "Attributes").
 use Rattle.std.specs.Prelude.{ℕ, Bool, true, List, [], ◌∷◌, ◌++◌, length, slice_get, Option, Some, None, option_and_then, Result, Ok, Err, codes, bytes_eq, if◌then◌else◌}
 use Rattle.values.specs.Shape.{Shape, key, atom, entries, shape}
-use Rattle.values.specs.declared.key.Key.{Key}
+use Rattle.keys.specs.declared.key.Key.{Key}
 use Rattle.values.specs.declared.leaf.AttributeRef.{AttributeRef}
 use Rattle.values.specs.declared.leaf.ExportName.TheVariants as export
 use Rattle.values.specs.declared.leaf.FunctionRef.{FunctionRef}

@@ -2,16 +2,29 @@
 ghost use Rattle.std.specs.Prelude.{◌≡◌, IfOk};
 ghost use Rattle.depsets.specs.Elements.{type_of, same_element};
 
+use keys::TextKey;
 use plain::{Shared, Text};
 use std::alloc::AllocError;
 
 /// A file: its path, and the label of the target or of the source file that it belongs to.
 ///
-/// Two are equal where path and owner are.
+/// Two are equal where path and owner are. The path is kept as a key, since it is lent wherever it is read.
 #[derive(PartialEq, Eq, Hash, Drop)]
 pub struct FileRef {
-    pub path: Text,
+    pub path: TextKey,
     pub owner: Text,
+}
+
+impl FileRef {
+    /// The File of a path and an owner.
+    pub fn new(path: Text, owner: Text) -> FileRef
+        ensures { result ≡ record { path = path; owner = owner } }
+    {
+        FileRef {
+            path: TextKey::new(path),
+            owner,
+        }
+    }
 }
 
 /// An element of a depset. A label is its text.

@@ -16,7 +16,7 @@ use Rattle.values.specs.View.{FrozenTree}
 use Rattle.values.specs.declared.leaf.Leaf.TheVariants as plain
 use Rattle.values.specs.declared.leaf.ExportName.TheVariants as export
 use Rattle.values.specs.declared.leaf.ProviderRef.TheVariants as provider
-use Rattle.values.specs.declared.key.Key.TheVariants as index
+use Rattle.keys.specs.declared.key.Key.TheVariants as index
 use Rattle.values.specs.declared.ticks.Kind.{Kind}
 use Rattle.values.specs.declared.ticks.Kind.TheVariants as kind
 use Rattle.visits.specs.Freeze.{freeze_at}

@@ -11,7 +11,8 @@ use frames::{Callee, Defaults, FunctionId, Operate, Refusal, Stack};
 use grammar::{Operator, Sign};
 use language::Whole;
 use language_calls::DefaultInfo;
-use operands::{Constant, Operand};
+use keys::TextKey;
+use operands::Operand;
 use places::{Link, Place};
 use plain::Text;
 use std::alloc::{AllocError, Global};
@@ -47,7 +48,7 @@ impl<'a, L: Link<'a>, P: Place<'a>> Operate<'a> for World<'a, L, P> {
     }
 
     #[inline(always)]
-    fn string(&self, text: &'a Constant) -> Operand<'a> {
+    fn string(&self, text: &'a TextKey) -> Operand<'a> {
         Operand::lent(Item::Key(text.key()))
     }
 

@@ -12,7 +12,7 @@ use operands::Operand;
 use operations::State;
 use plain::Text;
 use std::alloc::{AllocError, Global};
-use values::{Broken, FileRef, Key, Kind, Leaf, Provider, Seen, Slots, Value};
+use values::{Broken, FileRef, Item, Key, Kind, Leaf, Provider, Seen, Slots, Value};
 
 /// `value.name` of an instance, a label or a File. A field of an instance that is lent is lent.
 ///
@@ -117,18 +117,18 @@ fn label_field<'a>(
     }
 }
 
-/// `path` and `basename` of a File.
+/// `path` and `basename` of a File. The path is lent.
 fn file_field<'a>(
     alloc: Global,
-    file: &FileRef,
+    file: &'a FileRef,
     field: &FieldName,
 ) -> Result<Option<Operand<'a>>, AllocError>
     ensures { IfOk result (λ r. r ≡ file_field file.now field.now) }
 {
     if field.is(KnownName::Path) {
-        Ok(Some(string(file.path.share()?)))
+        Ok(Some(Operand::lent(Item::Key(file.path.key()))))
     } else if field.is(KnownName::Basename) {
-        Ok(Some(string(basename(alloc, &file.path)?)))
+        Ok(Some(string(basename(alloc, file.path.text())?)))
     } else {
         Ok(None)
     }

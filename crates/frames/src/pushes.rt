@@ -7,7 +7,8 @@ ghost use Rattle.frames.specs.Seen.{Performs};
 use crate::frame::Frame;
 use crate::stop::{Step, Stop};
 use crate::world::Operate;
-use operands::{Constant, Operand};
+use keys::TextKey;
+use operands::Operand;
 use syntax::Predeclared;
 
 /// A number that the file writes out.
@@ -34,7 +35,7 @@ pub fn push_number<'a, W: Operate<'a>>(
 pub fn push_text<'a, W: Operate<'a>>(
     world: &W,
     line: usize,
-    text: &'a Constant,
+    text: &'a TextKey,
     f: &mut Frame<'a, W::Walk>,
 ) -> Result<Step, Stop>
     requires { f.old.place < 2 ^ 63 }

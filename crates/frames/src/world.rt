@@ -14,7 +14,8 @@ use crate::frame::{Callee, FunctionId};
 use crate::stack::Stack;
 use field_names::FieldName;
 use grammar::{Operator, Sign};
-use operands::{Constant, Operand};
+use keys::TextKey;
+use operands::Operand;
 use plain::Text;
 use std::alloc::{AllocError, Global};
 use syntax::Predeclared;
@@ -57,7 +58,7 @@ pub trait Operate<'a> {
         ensures { IfOk result (λ v. v ≡ (operations self.now).number number) };
 
     /// A string that a file writes out, which is lent.
-    fn string(&self, text: &'a Constant) -> Operand<'a>
+    fn string(&self, text: &'a TextKey) -> Operand<'a>
         ensures { result ≡ (operations self.now).string text.now };
 
     /// `None`.

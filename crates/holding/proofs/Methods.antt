@@ -6,7 +6,7 @@ use Rattle.strings.specs.Splitting.{split_of}
 use Rattle.values.specs.Leaves.{same_key}
 use Rattle.values.specs.Shape.{shape}
 use Rattle.values.specs.Visits.{keys_of}
-use Rattle.values.specs.declared.key.Key.{Key}
+use Rattle.keys.specs.declared.key.Key.{Key}
 use Rattle.values.specs.declared.ticks.Kind.{Kind}
 use Rattle.values.specs.declared.value.Value.{Value}
 use Rattle.values.specs.declared.value.Value.TheVariants as value

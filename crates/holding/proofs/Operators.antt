@@ -8,8 +8,8 @@ use Rattle.depsets.specs.Elements.{same_truth}
 use Rattle.values.specs.Laws.{extend, heap_after}
 use Rattle.values.specs.Shape.{Shape, key, items, shape}
 use Rattle.values.specs.Ticking.{Count, ticked}
-use Rattle.values.specs.declared.key.Key.{Key}
-use Rattle.values.specs.declared.key.Key.TheVariants as index
+use Rattle.keys.specs.declared.key.Key.{Key}
+use Rattle.keys.specs.declared.key.Key.TheVariants as index
 use Rattle.values.specs.declared.ticks.TheConstants.{VISITED_LEVELS}
 use Rattle.values.specs.declared.ticks.Kind.{Kind}
 use Rattle.values.specs.declared.ticks.Kind.TheVariants.{Wrong}

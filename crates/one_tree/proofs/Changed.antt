@@ -8,7 +8,7 @@ use Rattle.values.specs.Leaves.{same_key}
 use Rattle.values.specs.declared.cells.Cell.{Cell}
 use Rattle.values.specs.declared.cells.Cell.TheVariants as cell
 use Rattle.values.specs.declared.cells.TheConstants.{LARGEST}
-use Rattle.values.specs.declared.key.Key.{Key}
+use Rattle.keys.specs.declared.key.Key.{Key}
 use Rattle.values.specs.declared.ticks.Kind.{Kind}
 use Rattle.values.specs.declared.ticks.Kind.TheVariants.{Iterating, Large}
 use Rattle.values.specs.declared.value.Value.{Value}

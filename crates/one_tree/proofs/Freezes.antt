@@ -7,7 +7,7 @@ use Rattle.values.specs.View.{FrozenTree, FrozenBranch}
 use Rattle.values.specs.Visits.{all_of, keys_of}
 use Rattle.values.specs.declared.cells.Cell.{Cell}
 use Rattle.values.specs.declared.cells.Cell.TheVariants as cell
-use Rattle.values.specs.declared.key.Key.{Key}
+use Rattle.keys.specs.declared.key.Key.{Key}
 use Rattle.values.specs.declared.leaf.Leaf.{Leaf}
 use Rattle.values.specs.declared.leaf.Provider.{Provider}
 use Rattle.values.specs.declared.ticks.Kind.{Kind}

@@ -5,7 +5,7 @@ use Rattle.depsets.specs.declared.depset.Order.TheVariants.{Default}
 use Rattle.depsets.specs.declared.element.Element.TheVariants as element
 use Rattle.values.specs.Tree.{leaf, branch, list, more, none}
 use Rattle.values.specs.declared.cells.Cell.TheVariants as cell
-use Rattle.values.specs.declared.key.Key.TheVariants as key
+use Rattle.keys.specs.declared.key.Key.TheVariants as key
 use Rattle.values.specs.declared.leaf.Leaf.TheVariants as plain
 use Rattle.values.specs.declared.value.Value.TheVariants as value
 use Rattle.one_tree.specs.Found.{Set, in_tree, in_heap, together}

@@ -1,7 +1,4 @@
 -- Operands, as the values that they are: of one's own, or lent by what lives longer.
-use Rattle.std.specs.Prelude.{ℕ, List, []}
-use Rattle.values.specs.declared.key.Key.{Key}
-use Rattle.values.specs.declared.key.Key.TheVariants as keys
 use Rattle.values.specs.declared.value.Value.{Value}
 use Rattle.values.specs.Seeing.{item_value}
 use Rattle.operands.specs.declared.operand.Lies.{Lies}
@@ -23,8 +20,3 @@ near_value (near.Made v) = v
 abbrev pub stored_value : Stored → Value
 stored_value (stored.Lent i) = item_value i
 stored_value (stored.Kept v) = v.now
-
--- the bytes of a key that is a text
-abbrev pub key_text : Key → List ℕ
-key_text (keys.Text t) = t
-key_text _ = []

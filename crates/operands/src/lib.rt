@@ -5,13 +5,11 @@
 #![tactic(auto)]
 
 mod bindings;
-mod constant;
 mod near;
 mod operand;
 mod stored;
 
 pub use bindings::Bindings;
-pub use constant::Constant;
 pub use near::{Near, as_value};
 pub use operand::{Operand, owned};
 pub use stored::Stored;

@@ -5,7 +5,7 @@ use Rattle.values.specs.Ticking.{Count, Ticking, then_on, with_count}
 use Rattle.values.specs.Keyed.{has_key}
 use Rattle.values.specs.Shape.{Shape, key, atom, items, entries, fields, nothing, shape}
 use Rattle.values.specs.declared.ticks.TheConstants.{VISITED_LEVELS}
-use Rattle.values.specs.declared.key.Key.{Key}
+use Rattle.keys.specs.declared.key.Key.{Key}
 use Rattle.values.specs.declared.value.Value.{Value}
 use Rattle.values.specs.declared.cells.Cell.{Cell}
 use Rattle.values.specs.declared.ticks.Kind.{Kind}

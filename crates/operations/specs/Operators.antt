@@ -11,8 +11,8 @@ use Rattle.numbers.specs.declared.arithmetic.NumberError.TheVariants as refused
 use Rattle.numbers.specs.declared.order.Comparison.{Comparison}
 use Rattle.depsets.specs.Elements.{same_truth}
 use Rattle.values.specs.Shape.{Shape, key, atom, items, entries, fields, nothing, shape}
-use Rattle.values.specs.declared.key.Key.{Key}
-use Rattle.values.specs.declared.key.Key.TheVariants as index
+use Rattle.keys.specs.declared.key.Key.{Key}
+use Rattle.keys.specs.declared.key.Key.TheVariants as index
 use Rattle.values.specs.declared.value.Value.{Value}
 use Rattle.values.specs.declared.cells.Cell.{Cell}
 use Rattle.values.specs.declared.ticks.Kind.{Kind}

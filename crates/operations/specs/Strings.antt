@@ -10,8 +10,8 @@ use Rattle.strings.specs.declared.errors.StringError.TheVariants as refused
 use Rattle.values.specs.Ticking.{Count, Ticking, with_count}
 use Rattle.values.specs.Shape.{Shape, key, atom, items, entries, fields, nothing, shape}
 use Rattle.values.specs.declared.ticks.TheConstants.{VISITED_LEVELS}
-use Rattle.values.specs.declared.key.Key.{Key}
-use Rattle.values.specs.declared.key.Key.TheVariants as index
+use Rattle.keys.specs.declared.key.Key.{Key}
+use Rattle.keys.specs.declared.key.Key.TheVariants as index
 use Rattle.values.specs.declared.value.Value.{Value}
 use Rattle.values.specs.declared.cells.Cell.{Cell}
 use Rattle.values.specs.declared.ticks.Kind.{Kind}

@@ -5,7 +5,7 @@ use Rattle.depsets.specs.Flat.{Among}
 use Rattle.depsets.specs.declared.element.Element.TheVariants as element
 use Rattle.values.specs.Tree.{Trees, key, leaf, branch, list, tuple, dict, instance, none, more, tree_list}
 use Rattle.values.specs.View.{FrozenTree, FrozenBranch}
-use Rattle.values.specs.declared.key.Key.{Key}
+use Rattle.keys.specs.declared.key.Key.{Key}
 use Rattle.values.specs.declared.leaf.Leaf.{Leaf}
 use Rattle.values.specs.declared.leaf.Leaf.TheVariants as plain
 use Rattle.values.specs.declared.leaf.Provider.{Provider}

@@ -5,7 +5,7 @@ use Rattle.std.specs.List.{flat_map}
 use Rattle.depsets.specs.Listed.{walked, flat}
 use Rattle.values.specs.Tree.{Slots, key as key_tree, leaf, branch, list, tuple, dict, instance, end, missing, given}
 use Rattle.values.specs.View.{FrozenTree, FrozenBranch}
-use Rattle.values.specs.declared.key.Key.{Key}
+use Rattle.keys.specs.declared.key.Key.{Key}
 use Rattle.values.specs.declared.leaf.Leaf.{Leaf}
 use Rattle.values.specs.declared.leaf.Provider.{Provider}
 use Rattle.printing.specs.Texts.{IsCoherentTree, IsCoherentBranch, AreCoherentSlots, field_head, provider_text}

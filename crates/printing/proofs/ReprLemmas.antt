@@ -11,8 +11,8 @@ use Rattle.printing.specs.Texts.{separator, joined_from, quoted, leaf_text}
 use Rattle.printing.specs.Repr.{has_text, commas, enclosed, printed, printed_entry, print_at, fits, appended, itself, string_key, string_in, whole_at}
 use Rattle.values.specs.declared.leaf.Leaf.{Leaf}
 use Rattle.values.specs.declared.leaf.Leaf.TheVariants as plain
-use Rattle.values.specs.declared.key.Key.{Key}
-use Rattle.values.specs.declared.key.Key.TheVariants as index
+use Rattle.keys.specs.declared.key.Key.{Key}
+use Rattle.keys.specs.declared.key.Key.TheVariants as index
 use Rattle.values.specs.declared.value.Value.{Value}
 use Rattle.values.specs.declared.cells.Cell.{Cell}
 use Rattle.printing.specs.declared.reprs.TheConstants.{LARGEST_TEXT}

@@ -13,7 +13,7 @@ use Rattle.values.specs.View.{FrozenTree, FrozenBranch}
 use Rattle.printing.specs.Texts.{separator, joined_from, joined, how_many, tuple_end, entry_head, field_head, provider_text, leaf_text, depset_text, text_by, branch_text_by, texts_by, pair_texts_by, field_texts_by, text_of, IsCoherentLeaf, IsCoherentTree, IsCoherentBranch, AreCoherent, AreCoherentPairs, AreCoherentSlots}
 use Rattle.values.specs.declared.leaf.Leaf.{Leaf}
 use Rattle.values.specs.declared.leaf.Leaf.TheVariants as plain
-use Rattle.values.specs.declared.key.Key.{Key}
+use Rattle.keys.specs.declared.key.Key.{Key}
 use Rattle.values.specs.declared.leaf.Provider.{Provider}
 use Rattle.values.proofs.SeeLemmas.{pairs-short}
 use Rattle.printing.proofs.TextLemmas.{parts-next, parts-end}

@@ -8,8 +8,8 @@ use Rattle.values.specs.Shape.{Shape, key, atom, items, entries, fields, nothing
 use Rattle.printing.specs.Texts.{joined, leaf_text, key_text, entry_head, tuple_end}
 use Rattle.values.specs.declared.leaf.Leaf.{Leaf}
 use Rattle.values.specs.declared.leaf.Leaf.TheVariants as plain
-use Rattle.values.specs.declared.key.Key.{Key}
-use Rattle.values.specs.declared.key.Key.TheVariants as index
+use Rattle.keys.specs.declared.key.Key.{Key}
+use Rattle.keys.specs.declared.key.Key.TheVariants as index
 use Rattle.values.specs.declared.value.Value.{Value}
 use Rattle.values.specs.declared.cells.Cell.{Cell}
 use Rattle.values.specs.declared.ticks.TheConstants.{VISITED_LEVELS}

@@ -16,8 +16,8 @@ use Rattle.values.specs.Tree.{Trees, Pairs, Slots, key as key_tree, leaf, branch
 use Rattle.values.specs.View.{FrozenTree, FrozenBranch}
 use Rattle.values.specs.declared.leaf.Leaf.{Leaf}
 use Rattle.values.specs.declared.leaf.Leaf.TheVariants as plain
-use Rattle.values.specs.declared.key.Key.{Key}
-use Rattle.values.specs.declared.key.Key.TheVariants as key
+use Rattle.keys.specs.declared.key.Key.{Key}
+use Rattle.keys.specs.declared.key.Key.TheVariants as key
 use Rattle.values.specs.declared.leaf.Exported.{Exported}
 use Rattle.values.specs.declared.leaf.ExportName.{ExportName}
 use Rattle.values.specs.declared.leaf.ExportName.TheVariants as export

@@ -10,7 +10,7 @@ use Rattle.depsets.specs.declared.element.Element.{Element}
 use Rattle.values.specs.KindText.{kind_text}
 use Rattle.values.specs.Tree.{Slots, branch, instance, end, missing, given}
 use Rattle.values.specs.View.{FrozenTree, FrozenBranch}
-use Rattle.values.specs.declared.key.Key.{Key}
+use Rattle.keys.specs.declared.key.Key.{Key}
 use Rattle.values.specs.declared.leaf.Leaf.{Leaf}
 use Rattle.values.specs.declared.leaf.Provider.{Provider}
 use Rattle.values.specs.declared.ticks.Kind.{Kind}

@@ -2,7 +2,7 @@
 use Rattle.std.proofs.Common.{◌≡◌, ℕ, List, Result, subst}
 use Rattle.values.specs.Shape.{Shape}
 use Rattle.values.specs.declared.cells.Cell.{Cell}
-use Rattle.values.specs.declared.key.Key.{Key}
+use Rattle.keys.specs.declared.key.Key.{Key}
 use Rattle.values.specs.declared.leaf.AttributeKind.{AttributeKind}
 use Rattle.values.specs.declared.ticks.Broken.{Broken}
 use Rattle.values.specs.declared.ticks.Kind.TheVariants.{Wrong}

@@ -1,7 +1,7 @@
 -- One turn of a loop over the items of a value.
 use Rattle.std.proofs.Common.{◌≡◌, ℕ, zero, suc, ◌+◌, ◌≤◌, Bool, true, List, [], ◌∷◌, ◌++◌, map, length, drop, slice_get, Option, Some, None, Ok, Err, if◌then◌else◌, refl, arith, sym, ap, ◌∙◌, append_assoc}
 use Rattle.values.specs.Visits.{keys_of}
-use Rattle.values.specs.declared.key.Key.{Key}
+use Rattle.keys.specs.declared.key.Key.{Key}
 use Rattle.values.specs.declared.value.Value.TheVariants as value
 use Rattle.depsets.proofs.Turns.{drop_at}
 use Rattle.values.specs.Ticking.{Count, Ticking, then_on, FaultOr}

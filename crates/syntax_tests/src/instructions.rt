@@ -1,6 +1,6 @@
 //! Files that are read and compiled: their instructions are those that the definitions of the code give for them.
 use code::{Code, Instruction, Lined, Source, compile};
-use operands::Constant;
+use keys::TextKey;
 use std::alloc::{AllocError, Global};
 use syntax::{FileKind, Parsed, parse};
 use values::Key;
@@ -17,7 +17,7 @@ fn number(source: Source) -> usize {
 }
 
 /// How many bytes a string has.
-fn text_len(constant: &Constant) -> usize {
+fn text_len(constant: &TextKey) -> usize {
     match constant.key() {
         Key::Text(text) => text.len(),
         Key::Number(_) | Key::Truth(_) => 0,

@@ -78,7 +78,7 @@ fn file_named(
 {
     let path = path_below(alloc, label.package(), name)?;
     let owner = text_of_label(alloc, label, owner)?;
-    Shared::new(alloc, FileRef { path, owner })
+    Shared::new(alloc, FileRef::new(path, owner))
 }
 
 /// The path of a name in a package; the root package is empty.

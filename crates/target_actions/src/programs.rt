@@ -45,7 +45,7 @@ fn executable<'a>(value: &Seen<'a>) -> Option<&'a Text>
 {
     match value {
         Seen::Key(Key::Text(text)) => Some(text),
-        Seen::Leaf(Leaf::File(file)) => Some(&file.get().path),
+        Seen::Leaf(Leaf::File(file)) => Some(file.get().path.text()),
         _ => None,
     }
 }

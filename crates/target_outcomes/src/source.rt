@@ -33,6 +33,6 @@ pub fn source_outcome(alloc: Global, label: &Label) -> Result<Outcome, AllocErro
 {
     let path = path_of(alloc, label)?;
     let owner = Text::new(alloc, label.text())?;
-    let file = Shared::new(alloc, FileRef { path, owner })?;
+    let file = Shared::new(alloc, FileRef::new(path, owner))?;
     Ok(Outcome::Source(file))
 }

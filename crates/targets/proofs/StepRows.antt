@@ -3,7 +3,7 @@ use Rattle.std.specs.Prelude.{◌≡◌, ℕ, pos, false, List, [], ◌∷◌, N
 use Rattle.depsets.specs.declared.element.FileRef.{FileRef}
 use Rattle.values.specs.Tree.{key, leaf, branch, list, tuple, instance, trees, slots}
 use Rattle.values.specs.View.{FrozenTree}
-use Rattle.values.specs.declared.key.Key.TheVariants as index
+use Rattle.keys.specs.declared.key.Key.TheVariants as index
 use Rattle.values.specs.declared.leaf.AttributeKind.TheVariants as kind
 use Rattle.values.specs.declared.leaf.ExportName.TheVariants as export
 use Rattle.values.specs.declared.leaf.FunctionRef.{FunctionRef}

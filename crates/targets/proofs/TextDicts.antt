@@ -5,8 +5,8 @@ use Rattle.values.specs.Keyed.{AreDistinct}
 use Rattle.values.specs.Shape.{Shape, shape}
 use Rattle.values.specs.Visits.{keys_of}
 use Rattle.values.specs.declared.cells.Cell.{Cell}
-use Rattle.values.specs.declared.key.Key.{Key}
-use Rattle.values.specs.declared.key.Key.TheVariants as index
+use Rattle.keys.specs.declared.key.Key.{Key}
+use Rattle.keys.specs.declared.key.Key.TheVariants as index
 use Rattle.values.specs.declared.value.Value.{Value}
 use Rattle.operations.specs.Reading.{string_in}
 use Rattle.targets.specs.RuleCalls.{each_of}

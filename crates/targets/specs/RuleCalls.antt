@@ -7,8 +7,8 @@ use Rattle.values.specs.Shape.{Shape, key, items, entries, shape}
 use Rattle.values.specs.Ticking.{Count, Ticking, then_on}
 use Rattle.values.specs.Visits.{all_of}
 use Rattle.values.specs.declared.cells.Cell.{Cell}
-use Rattle.values.specs.declared.key.Key.{Key}
-use Rattle.values.specs.declared.key.Key.TheVariants as index
+use Rattle.keys.specs.declared.key.Key.{Key}
+use Rattle.keys.specs.declared.key.Key.TheVariants as index
 use Rattle.values.specs.declared.leaf.Leaf.TheVariants as plain
 use Rattle.values.specs.declared.leaf.AttributeKind.{AttributeKind}
 use Rattle.values.specs.declared.leaf.AttributeKind.TheVariants as kind

@@ -7,10 +7,10 @@ use Rattle.values.specs.Leaves.{same_key}
 use Rattle.values.specs.Shape.{zip}
 use Rattle.values.specs.View.{FrozenTree}
 use Rattle.values.specs.Visits.{keys_of}
-use Rattle.values.specs.declared.key.Key.{Key}
+use Rattle.keys.specs.declared.key.Key.{Key}
 use Rattle.values.specs.declared.value.Value.{Value}
-use Rattle.values.specs.contracts.key.KeyPartialEq.TheImpl.{eq-value}
-use Rattle.values.specs.contracts.key.KeyEq.TheImpl.Laws.{laws-law}
+use Rattle.keys.specs.contracts.key.KeyPartialEq.TheImpl.{eq-value}
+use Rattle.keys.specs.contracts.key.KeyEq.TheImpl.Laws.{laws-law}
 use Rattle.values.proofs.SeeLemmas.{agree}
 
 all_at : (P : Key → Type 0) (ks : List Key) (i : ℕ) (k : Key) → AllByRecursion P ks → slice_get ks i ≡ Some k → P k

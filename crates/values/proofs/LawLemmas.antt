@@ -3,7 +3,7 @@ use Rattle.std.proofs.Common.{◌≡◌, ◌≢◌, ℕ, zero, suc, ◌+◌, Boo
 use Rattle.values.specs.Cells.{after, put_at, in_list, in_dict, pushed_items, joined_items, indexed_items, keyed_entries, pushed, joined, indexed, keyed, made, list_changed, dict_changed, walk_begun, walk_begun_at, walk_over, walk_ended, ended_at}
 use Rattle.values.specs.View.{is_walkable}
 use Rattle.values.specs.Laws.{Change, append, extend, set_index, set_key, changed_value, heap_after, is_walked, contents, OthersStay, WalkedStay, WalksStay}
-use Rattle.values.specs.declared.key.Key.{Key}
+use Rattle.keys.specs.declared.key.Key.{Key}
 use Rattle.values.specs.declared.value.Value.{Value}
 use Rattle.values.specs.declared.value.Value.TheVariants as value
 use Rattle.values.specs.declared.cells.Cell.{Cell}

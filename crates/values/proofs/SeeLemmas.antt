@@ -7,12 +7,12 @@ use Rattle.std.specs.List.{position, position_or_len}
 use Rattle.std.specs.Map.{lookup}
 use Rattle.values.specs.Leaves.{same_key}
 use Rattle.values.specs.declared.value.Value.{Value}
-use Rattle.values.specs.declared.key.Key.TheVariants as key
-use Rattle.values.specs.contracts.key.KeyPartialEq.TheImpl.{eq-value}
+use Rattle.keys.specs.declared.key.Key.TheVariants as key
+use Rattle.keys.specs.contracts.key.KeyPartialEq.TheImpl.{eq-value}
 use Rattle.values.specs.Tree.{stop, trees, tree_list, pairs, pair_list, slots, slot_list}
 use Rattle.values.specs.View.{FrozenTree}
 use Rattle.values.specs.Shape.{value_of, entry_of, zip}
-use Rattle.values.specs.declared.key.Key.{Key}
+use Rattle.keys.specs.declared.key.Key.{Key}
 
 pub tree_list-trees : (ts : List FrozenTree) → tree_list (trees ts) ≡ ts
 tree_list-trees [] = refl

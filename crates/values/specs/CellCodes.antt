@@ -4,7 +4,7 @@ use Rattle.std.specs.Coded.{Coded, coded×, coded⊎, coded_ℕ, coded_list, cod
 use Rattle.std.proofs.Common.{inl, inr}
 use Rattle.values.specs.LeafCodes.{provider_code}
 use Rattle.values.specs.ValueCodes.{items_code, fields_code, entries_code}
-use Rattle.values.specs.declared.key.Key.{Key}
+use Rattle.keys.specs.declared.key.Key.{Key}
 use Rattle.values.specs.declared.leaf.Provider.{Provider}
 use Rattle.values.specs.declared.value.Value.{Value}
 use Rattle.values.specs.declared.cells.Cell.{Cell}

@@ -1,7 +1,7 @@
 -- What holds of every change of a heap (Starlark's specification, "For loops": what is walked isn't changed).
 use Rattle.std.specs.Prelude.{◌≡◌, ◌≢◌, ℕ, ℤ, Bool, true, false, List, Some, Option, Result, Ok, slice_get, nat_lt}
 use Rattle.values.specs.Cells.{pushed, joined, indexed, keyed, made, list_changed, dict_changed, walk_begun_at, walk_ended}
-use Rattle.values.specs.declared.key.Key.{Key}
+use Rattle.keys.specs.declared.key.Key.{Key}
 use Rattle.values.specs.declared.value.Value.{Value}
 use Rattle.values.specs.declared.value.Value.TheVariants as value
 use Rattle.values.specs.declared.cells.Cell.{Cell}

@@ -24,8 +24,8 @@ use Rattle.values.specs.declared.leaf.Object.{Object}
 use Rattle.values.specs.declared.leaf.Object.TheVariants as object
 use Rattle.values.specs.declared.leaf.Leaf.{Leaf}
 use Rattle.values.specs.declared.leaf.Leaf.TheVariants as plain
-use Rattle.values.specs.declared.key.Key.{Key}
-use Rattle.values.specs.declared.key.Key.TheVariants as key
+use Rattle.keys.specs.declared.key.Key.{Key}
+use Rattle.keys.specs.declared.key.Key.TheVariants as key
 
 abbrev pub file_code : Coded FileRef
 file_code = code_by (List ℕ × List ℕ) (coded× text_code text_code) (λ f. (f.path, f.owner)) (λ p. record { path = p.0; owner = p.1 }) (λ _. refl)

@@ -9,8 +9,8 @@ use Rattle.values.specs.declared.leaf.FunctionRef.{FunctionRef}
 use Rattle.values.specs.declared.leaf.MadeId.{MadeId}
 use Rattle.values.specs.declared.leaf.Provider.{Provider}
 use Rattle.values.specs.declared.leaf.RuleRef.{RuleRef}
-use Rattle.values.specs.declared.key.Key.{Key}
-use Rattle.values.specs.declared.key.Key.TheVariants.{Text, Number, Truth}
+use Rattle.keys.specs.declared.key.Key.{Key}
+use Rattle.keys.specs.declared.key.Key.TheVariants.{Text, Number, Truth}
 
 -- What a module makes is told apart by numbers: the module's, and its own among those of its kind there.
 abbrev pub same_made : MadeId → MadeId → Bool

@@ -1,7 +1,7 @@
 -- What the views of a value show.
 use Rattle.std.specs.Prelude.{List, map, true, false, Option, Some, None}
 use Rattle.values.specs.Shape.{Shape, key, atom, items, entries, fields, nothing, value_of, slot_of, zip}
-use Rattle.values.specs.declared.key.Key.{Key}
+use Rattle.keys.specs.declared.key.Key.{Key}
 use Rattle.values.specs.declared.value.Value.{Value}
 use Rattle.values.specs.declared.value.Value.TheVariants as value
 use Rattle.values.specs.declared.sees.Item.{Item}

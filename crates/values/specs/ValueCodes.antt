@@ -6,7 +6,7 @@ use Rattle.values.specs.Tree.{coded_branch}
 use Rattle.values.specs.View.{FrozenBranch}
 use Rattle.values.specs.LeafCodes.{leaf_code, key_code, provider_code}
 use Rattle.values.specs.declared.leaf.Leaf.{Leaf as Plain}
-use Rattle.values.specs.declared.key.Key.{Key as Index}
+use Rattle.keys.specs.declared.key.Key.{Key as Index}
 use Rattle.values.specs.declared.value.Value.{Value}
 use Rattle.values.specs.declared.value.Value.TheVariants.{Key, Leaf, Cell, Frozen}
 

@@ -2,7 +2,7 @@
 use Rattle.std.specs.Prelude.{◌≡◌, length, Bool, true, false}
 use Rattle.values.specs.Tree.{Tree, Branch, key, leaf, branch, list, tuple, dict, instance, trees, pairs, slots}
 use Rattle.values.specs.declared.leaf.Leaf.{Leaf}
-use Rattle.values.specs.declared.key.Key.{Key}
+use Rattle.keys.specs.declared.key.Key.{Key}
 use Rattle.values.specs.declared.leaf.Provider.{Provider}
 use Rattle.values.specs.declared.frozen.Held.{Held}
 use Rattle.values.specs.declared.frozen.Held.TheVariants as held

@@ -166,7 +166,7 @@ pub struct Entries {
 impl Model for Entries {
     ghost use Rattle.std.specs.Prelude.{List};
     ghost use Rattle.values.specs.declared.value.Value.{Value as Held};
-    ghost use Rattle.values.specs.declared.key.Key.{Key as Index};
+    ghost use Rattle.keys.specs.declared.key.Key.{Key as Index};
     ghost use Rattle.values.specs.ValueCodes.{entries_code};
 
     ghost Value = { List (Index × Held) };

@@ -12,7 +12,6 @@
 mod cells;
 mod frozen;
 mod heap;
-mod key;
 mod laws;
 mod leaf;
 mod sees;
@@ -25,7 +24,7 @@ pub use depsets::{
 };
 pub use frozen::{Branch, Frozen, Held, Node, tree_at};
 pub use heap::{Heap, place_of};
-pub use key::Key;
+pub use keys::Key;
 pub use laws::{changes_touch_one_cell, walked_cells_keep_their_items, walks_leave_walked_cells};
 pub use leaf::{
     AttributeKind, AttributeRef, BuiltIn, ExportName, Exported, FunctionRef, Leaf, MadeId, Names,

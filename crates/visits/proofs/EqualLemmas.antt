@@ -6,7 +6,7 @@ use Rattle.values.specs.Leaves.{same_key}
 use Rattle.values.specs.Ticking.{Count, Ticking, then_on, after_tick, entered, FaultOr}
 use Rattle.values.specs.Shape.{shape}
 use Rattle.visits.specs.Equal.{equal_at, compared, pairs_equal, items_equal, found_equal, matches_equal, entries_equal, same_given}
-use Rattle.values.specs.declared.key.Key.{Key}
+use Rattle.keys.specs.declared.key.Key.{Key}
 use Rattle.values.specs.declared.value.Value.{Value}
 use Rattle.values.specs.declared.cells.Cell.{Cell}
 use Rattle.values.specs.declared.ticks.Broken.{Broken}

@@ -7,7 +7,7 @@ use Rattle.values.specs.Ticking.{Count, Ticking, ticked, then_on, after_tick, wi
 use Rattle.values.specs.Visits.{all_of, keys_of}
 use Rattle.visits.specs.Freeze.{freeze_at, built, can_freeze, frozen_entry, frozen_slot, sequence}
 use Rattle.visits.specs.Revisit.{values_in, all_visited, entry_visited, slot_visited, branch_visited, visited, visit_at}
-use Rattle.values.specs.declared.key.Key.{Key}
+use Rattle.keys.specs.declared.key.Key.{Key}
 use Rattle.values.specs.declared.leaf.Leaf.{Leaf}
 use Rattle.values.specs.declared.leaf.Provider.{Provider}
 use Rattle.values.specs.declared.value.Value.{Value}

@@ -6,7 +6,7 @@ use Rattle.values.specs.Ticking.{Count, after_tick, entered, FaultOr}
 use Rattle.visits.specs.Freeze.{can_freeze}
 use Rattle.values.specs.declared.leaf.Leaf.{Leaf}
 use Rattle.values.specs.declared.leaf.Provider.{Provider}
-use Rattle.values.specs.declared.key.Key.{Key}
+use Rattle.keys.specs.declared.key.Key.{Key}
 use Rattle.values.specs.declared.ticks.Broken.{Broken}
 use Rattle.values.specs.declared.ticks.Kind.{Kind}
 use Rattle.values.specs.declared.ticks.Kind.TheVariants.{Wrong, Deep}

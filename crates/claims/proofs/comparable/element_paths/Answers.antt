@@ -13,7 +13,7 @@ loop-i-preserved c =
     (elim c.match-at.branch [
       | in-File+in_ok-share+in_ok-push w ↦
           ap (λ v. v.items) w.paths-is ∙ w.in_ok-push.ensures.items
-          ∙ ap (λ p. old ++ p ∷ []) (w.in_ok-share.ensures ∙ ap (λ f. f.path) w.get.ensures)
+          ∙ ap (λ p. old ++ p ∷ []) (w.in_ok-share.ensures ∙ w.text.ensures ∙ ap (λ f. f.path) w.get.ensures)
           ∙ ap (λ l. old ++ l) (sym (ap element_paths w.in-File.is))
       | in_default w ↦
           ap (λ v. v.items) w.paths-is ∙ sym (append-nil old) ∙ ap (λ l. old ++ l) (sym (no_paths e w.in_default.not-File))

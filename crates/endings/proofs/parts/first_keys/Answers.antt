@@ -1,6 +1,6 @@
 use Rattle.std.proofs.Common.{sym, ap, ◌∙◌, slice_get}
 use Rattle.indexmap.specs.IndexSet.{insert_key}
-use Rattle.values.specs.contracts.key.KeyPartialEq.TheImpl.{eq-value}
+use Rattle.keys.specs.contracts.key.KeyPartialEq.TheImpl.{eq-value}
 use Rattle.values.proofs.KeyListLemmas.{keys-next}
 use Rattle.endings.proofs.parts.first_keys.Goals as goal
 

@@ -1,7 +1,7 @@
 use Rattle.std.proofs.Common.{◌≡◌, ◌+◌, None, Some, drop, sym, ap, ◌∙◌}
 use Rattle.values.specs.Seeing.{item_value, table_entries}
 use Rattle.values.specs.Shape.{Shape}
-use Rattle.values.specs.declared.key.Key.{Key}
+use Rattle.keys.specs.declared.key.Key.{Key}
 use Rattle.values.specs.declared.value.Value.{Value}
 use Rattle.targets.specs.RuleCalls.{each_of}
 use Rattle.targets.specs.TextDicts.{text_shown, text_entry}

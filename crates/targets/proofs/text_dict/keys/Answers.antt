@@ -2,8 +2,8 @@ use Rattle.std.proofs.Common.{map, sym, ap, ◌∙◌, Some}
 use Rattle.std.specs.Prelude.{option_map}
 use Rattle.std.proofs.lemmas.Option.{slice_get-map, slice_get-get_or}
 use Rattle.indexmap.specs.IndexSet.{insert_key}
-use Rattle.values.specs.contracts.key.KeyPartialEq.TheImpl.{eq-value}
-use Rattle.values.specs.declared.key.Key.TheVariants as index
+use Rattle.keys.specs.contracts.key.KeyPartialEq.TheImpl.{eq-value}
+use Rattle.keys.specs.declared.key.Key.TheVariants as index
 use Rattle.values.proofs.KeyListLemmas.{keys-next, derived-distinct}
 use Rattle.targets.specs.TextDicts.{entry_key}
 use Rattle.targets.proofs.text_dict.keys.Goals as goal

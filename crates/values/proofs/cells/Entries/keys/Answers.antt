@@ -2,7 +2,7 @@ use Rattle.std.proofs.Common.{◌≤◌, length, sym, subst, ap, ◌∙◌, arit
 use Rattle.std.specs.List.{IsDistinct}
 use Rattle.indexmap.specs.IndexSet.{insert_key}
 use Rattle.values.specs.Visits.{keys_of}
-use Rattle.values.specs.contracts.key.KeyPartialEq.TheImpl.{eq-value}
+use Rattle.keys.specs.contracts.key.KeyPartialEq.TheImpl.{eq-value}
 use Rattle.values.proofs.KeyListLemmas.{keys-next, key_at-entry, length-keys_of}
 use Rattle.values.proofs.cells.Entries.keys.Goals as goal
 

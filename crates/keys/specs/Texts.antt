@@ -1,0 +1,9 @@
+-- Texts that are kept as keys.
+use Rattle.std.specs.Prelude.{ℕ, List, []}
+use Rattle.keys.specs.declared.key.Key.{Key}
+use Rattle.keys.specs.declared.key.Key.TheVariants as keys
+
+-- the bytes of a key that is a text
+abbrev pub key_text : Key → List ℕ
+key_text (keys.Text t) = t
+key_text _ = []
