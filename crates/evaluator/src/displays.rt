@@ -69,8 +69,7 @@ pub(crate) fn enter<W>(
         whole.old) result whole.new }
 {
     let dict = as_value(dict)?;
-    let key = as_value(key)?;
-    state::enter(&mut whole.state, dict.get(), key.get(), value.into_value()?)
+    state::enter(&mut whole.state, dict.get(), key, value.into_value()?)
 }
 
 /// An entry more of a comprehension's dict.
@@ -84,8 +83,7 @@ pub(crate) fn keep<W>(
         whole.old) result whole.new }
 {
     let dict = as_value(dict)?;
-    let key = as_value(key)?;
-    state::keep(&mut whole.state, dict.get(), key.get(), value.into_value()?)
+    state::keep(&mut whole.state, dict.get(), key, value.into_value()?)
 }
 
 /// `base[index] = value`.
@@ -99,11 +97,5 @@ pub(crate) fn set_item<W>(
         whole.old) result whole.new }
 {
     let base = as_value(base)?;
-    let index = as_value(index)?;
-    state::set_item(
-        &mut whole.state,
-        base.get(),
-        index.get(),
-        value.into_value()?,
-    )
+    state::set_item(&mut whole.state, base.get(), index, value.into_value()?)
 }

@@ -92,6 +92,5 @@ pub(crate) fn increase<W>(
     ensures { Says (of_state (add_in_place old.entry (item_value more.entry)) whole.old) result
         whole.new }
 {
-    let old = old.into_value()?;
     state::add_in_place(alloc, &mut whole.state, old, more)
 }

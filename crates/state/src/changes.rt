@@ -9,6 +9,7 @@ ghost use Rattle.operations.specs.Reading.{number_in, key_in, sequence_in, of_ty
 ghost use Rattle.operations.specs.Changes.{append, extend, set_item, set_in, extended};
 
 use crate::reading::{key_of, number_of, sequence_of};
+use crate::rooms::room;
 use operands::Operand;
 use operations::State;
 use std::alloc::{AllocError, Global};
@@ -24,7 +25,8 @@ pub fn append(state: &mut State, list: &Value, item: Value) -> Result<Value, Bro
     Ok(Value::Leaf(Leaf::None))
 }
 
-/// `list.extend(sequence)`, by the items that it has now.
+/// `list.extend(sequence)`, by the items that it has now. A list that can't be extended by so many refuses them before any
+/// is copied.
 pub fn extend(
     alloc: Global,
     state: &mut State,
@@ -36,6 +38,9 @@ pub fn extend(
     let Some(items) = sequence_of(&state.heap.see_item(sequence.item())) else {
         return Err(Broken::Kind(Kind::Wrong));
     };
+    if let Err(broken) = room(&state.heap, Item::Value(list), items) {
+        return Err(broken);
+    }
     let items = copied(alloc, items)?;
     if let Err(broken) = state.heap.extend(list, items) {
         return Err(broken);
@@ -64,8 +69,13 @@ pub(crate) fn copy_into(group: Group<'_>, items: &mut Items) -> Result<(), Alloc
 }
 
 /// `base[index] = value`.
-pub fn set_item(state: &mut State, base: &Value, index: &Value, value: Value) -> Result<(), Broken>
-    ensures { Does (set_item base.now index.now value) state.old result state.new }
+pub fn set_item(
+    state: &mut State,
+    base: &Value,
+    index: Item<'_>,
+    value: Value,
+) -> Result<(), Broken>
+    ensures { Does (set_item base.now (item_value index.entry) value) state.old result state.new }
 {
     match state.heap.see(base) {
         Seen::List(_) => set_index(state, base, index, value),
@@ -76,11 +86,16 @@ pub fn set_item(state: &mut State, base: &Value, index: &Value, value: Value) ->
 }
 
 /// `list[index] = value`.
-fn set_index(state: &mut State, list: &Value, index: &Value, value: Value) -> Result<(), Broken>
-    ensures { Does (λ s. changed tt s (of_type (number_in (shape s.heap index.now))
+fn set_index(
+    state: &mut State,
+    list: &Value,
+    index: Item<'_>,
+    value: Value,
+) -> Result<(), Broken>
+    ensures { Does (λ s. changed tt s (of_type (number_in (shape s.heap (item_value index.entry)))
         (λ n. list_changed (indexed n value) s.heap list.now))) state.old result state.new }
 {
-    match number_of(&state.heap.see(index)) {
+    match number_of(&state.heap.see_item(index)) {
         Some(number) => match state.heap.set_index(list, number, value) {
             Ok(()) => Ok(()),
             Err(broken) => Err(broken),
@@ -93,13 +108,13 @@ fn set_index(state: &mut State, list: &Value, index: &Value, value: Value) -> Re
 pub(crate) fn set_key(
     state: &mut State,
     dict: &Value,
-    key: &Value,
+    key: Item<'_>,
     value: Value,
 ) -> Result<(), Broken>
-    ensures { Does (λ s. changed tt s (of_type (key_in (shape s.heap key.now))
+    ensures { Does (λ s. changed tt s (of_type (key_in (shape s.heap (item_value key.entry)))
         (λ k. dict_changed (keyed k value) s.heap dict.now))) state.old result state.new }
 {
-    let Some(key) = key_of(&state.heap.see(key)) else {
+    let Some(key) = key_of(&state.heap.see_item(key)) else {
         return Err(Broken::Kind(Kind::Wrong));
     };
     let key = key.share()?;

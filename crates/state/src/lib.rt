@@ -11,6 +11,7 @@ mod items;
 mod making;
 mod operators;
 mod reading;
+mod rooms;
 mod truths;
 mod walks;
 

@@ -2,7 +2,7 @@
 ghost use Rattle.std.specs.Prelude.{◌≡◌, Ok, Err, MatchResult};
 ghost use Rattle.values.specs.Ticking.{FaultOr};
 ghost use Rattle.values.specs.Shape.{shape};
-ghost use Rattle.values.specs.Seeing.{seen, table_entries, option_value};
+ghost use Rattle.values.specs.Seeing.{seen, item_value, table_entries, option_value};
 ghost use Rattle.values.specs.Keyed.{has_key};
 ghost use Rattle.operations.specs.Reading.{key_in, of_type};
 ghost use Rattle.operations.specs.States.{Does, Stays};
@@ -11,7 +11,7 @@ ghost use Rattle.operations.specs.Making.{new_list, new_tuple, new_dict, placed,
 use crate::changes::set_key;
 use operations::{Made, State};
 use std::alloc::Global;
-use values::{Broken, Entries, Heap, Items, Kind, Seen, Value};
+use values::{Broken, Entries, Heap, Item, Items, Kind, Seen, Value};
 
 /// A new list of these items, or `large`.
 pub fn new_list(state: &mut State, items: Items) -> Result<Value, Broken>
@@ -68,15 +68,15 @@ pub fn collect(state: &mut State, list: &Value, item: Value) -> Result<(), Broke
 }
 
 /// An entry more of a comprehension's dict: `type` where the key can't be one, or `large`. The later value of a key stays.
-pub fn keep(state: &mut State, dict: &Value, key: &Value, value: Value) -> Result<(), Broken>
-    ensures { Does (keep dict.now key.now value) state.old result state.new }
+pub fn keep(state: &mut State, dict: &Value, key: Item<'_>, value: Value) -> Result<(), Broken>
+    ensures { Does (keep dict.now (item_value key.entry) value) state.old result state.new }
 {
     set_key(state, dict, key, value)
 }
 
 /// An entry more of a dict display: `type` where the key can't be one, then `key` where it is there already.
-pub fn enter(state: &mut State, dict: &Value, key: &Value, value: Value) -> Result<(), Broken>
-    ensures { Does (enter dict.now key.now value) state.old result state.new }
+pub fn enter(state: &mut State, dict: &Value, key: Item<'_>, value: Value) -> Result<(), Broken>
+    ensures { Does (enter dict.now (item_value key.entry) value) state.old result state.new }
 {
     if holds(&state.heap, dict, key) {
         return Err(Broken::Kind(Kind::Key));
@@ -85,11 +85,11 @@ pub fn enter(state: &mut State, dict: &Value, key: &Value, value: Value) -> Resu
 }
 
 /// Whether a value is a dict that has the key.
-fn holds(heap: &Heap, dict: &Value, key: &Value) -> bool
+fn holds(heap: &Heap, dict: &Value, key: Item<'_>) -> bool
     ensures { result ≡ is_held (entries_in (shape heap.now dict.now))
-        (key_in (shape heap.now key.now)) }
+        (key_in (shape heap.now (item_value key.entry))) }
 {
-    has_key(&heap.see(dict), &heap.see(key))
+    has_key(&heap.see(dict), &heap.see_item(key))
 }
 
 /// Whether a dict has the key that a value is.

@@ -1,5 +1,5 @@
 //! Sums, arithmetic and order.
-ghost use Rattle.std.specs.Prelude.{◌≡◌, ◌++◌, Ok, Err, Some, None, MatchResult, IfOk};
+ghost use Rattle.std.specs.Prelude.{◌≡◌, ◌++◌, Ok, Err, Some, None, MatchOption, MatchResult, IfOk};
 ghost use Rattle.values.specs.Ticking.{FaultOr};
 ghost use Rattle.values.specs.Shape.{shape};
 ghost use Rattle.values.specs.Seeing.{seen, item_value, group_items};
@@ -8,18 +8,22 @@ ghost use Rattle.operations.specs.States.{Does, Stays, Gives};
 ghost use Rattle.operations.specs.Reading.{number_in, of_type};
 ghost use Rattle.operations.specs.Making.{placed, make};
 ghost use Rattle.operations.specs.Changes.{extension, extended};
-ghost use Rattle.operations.specs.Operators.{number_fault, new_number, key_sum, added, plus, add_in_place, extended_or_sum, calculated, calculate, number_value, negative, key_order, order_in, compare};
+ghost use Rattle.values.specs.Cells.{after, joined_items};
+ghost use Rattle.operations.specs.Operators.{number_fault, new_number, key_sum, plus, add_in_place, extended_or_sum, calculated, calculate, number_value, negative, key_order, order_in, compare};
+ghost use Rattle.state.specs.Sizes.{sum_within};
 
 use crate::changes::{copied, copy_into};
 use crate::making::place;
 use crate::reading::number_of;
+use crate::rooms::room;
 use numbers::{Comparison, NumberError, difference, opposite, product, quotient, remainder, sum};
+use operands::Operand;
 use operations::{Arithmetic, Made, State};
 use plain::Text;
 use printing::LARGEST_TEXT;
 use std::alloc::{AllocError, Global};
 use std::cmp::Ordering;
-use values::{Broken, Group, Heap, Item, Items, Key, Kind, Seen, Value};
+use values::{Broken, Group, Heap, Item, Items, Key, Kind, LARGEST, Seen, Value};
 
 /// `a + b`: two whole numbers, two strings, two lists, or two tuples.
 ///
@@ -36,24 +40,30 @@ pub fn plus(alloc: Global, state: &mut State, a: Item<'_>, b: Item<'_>) -> Resul
     }
 }
 
-/// What two values of a heap add up to.
+/// What two values of a heap add up to, or `large`.
 #[inline(always)]
 fn added_in(alloc: Global, heap: &Heap, a: Item<'_>, b: Item<'_>) -> Result<Made, Broken>
-    ensures { Gives (added (shape heap.now (item_value a.entry))
+    ensures { Gives (sum_within (shape heap.now (item_value a.entry))
         (shape heap.now (item_value b.entry))) result }
 {
     added(alloc, &heap.see_item(a), &heap.see_item(b))
 }
 
-/// What two values add up to.
+/// What two values add up to, or `large`.
 #[inline(always)]
 fn added(alloc: Global, a: &Seen<'_>, b: &Seen<'_>) -> Result<Made, Broken>
-    ensures { Gives (added (seen a.now) (seen b.now)) result }
+    ensures { Gives (sum_within (seen a.now) (seen b.now)) result }
 {
     match (a, b) {
         (Seen::Key(x), Seen::Key(y)) => key_sum(alloc, x, y),
-        (Seen::List(xs), Seen::List(ys)) => Ok(Made::List(both(alloc, *xs, *ys)?)),
-        (Seen::Tuple(xs), Seen::Tuple(ys)) => Ok(Made::Tuple(both(alloc, *xs, *ys)?)),
+        (Seen::List(xs), Seen::List(ys)) => match both(alloc, *xs, *ys) {
+            Ok(items) => Ok(Made::List(items)),
+            Err(broken) => Err(broken),
+        },
+        (Seen::Tuple(xs), Seen::Tuple(ys)) => match both(alloc, *xs, *ys) {
+            Ok(items) => Ok(Made::Tuple(items)),
+            Err(broken) => Err(broken),
+        },
         _ => Err(Broken::Kind(Kind::Wrong)),
     }
 }
@@ -106,8 +116,19 @@ fn glued(alloc: Global, a: &Text, b: &Text) -> Result<Text, AllocError>
     Text::from_string(text)
 }
 
+/// The items of two groups, one behind the other, or `large`, which is known before any is copied.
+fn both(alloc: Global, xs: Group<'_>, ys: Group<'_>) -> Result<Items, Broken>
+    ensures { Gives (joined_items (group_items ys.entry) (group_items xs.entry)) result }
+{
+    if xs.len().saturating_add(ys.len()) > LARGEST {
+        return Err(Broken::Kind(Kind::Large));
+    }
+    let items = both_copied(alloc, xs, ys)?;
+    Ok(items)
+}
+
 /// The items of two groups, one behind the other.
-fn both(alloc: Global, xs: Group<'_>, ys: Group<'_>) -> Result<Items, AllocError>
+fn both_copied(alloc: Global, xs: Group<'_>, ys: Group<'_>) -> Result<Items, AllocError>
     ensures { IfOk result (λ items. items ≡ group_items xs.entry ++ group_items ys.entry) }
 {
     let mut items = Items::with_capacity(alloc, xs.len().saturating_add(ys.len()))?;
@@ -116,49 +137,62 @@ fn both(alloc: Global, xs: Group<'_>, ys: Group<'_>) -> Result<Items, AllocError
     Ok(items)
 }
 
-/// `x += y`: a list is extended in place by a list or a tuple, and is given itself; all else is `x + y`.
+/// `x += y`: a list is extended in place by a list or a tuple, and is given itself; all else is `x + y`. What `x` is lent is
+/// only read for a sum.
 pub fn add_in_place(
     alloc: Global,
     state: &mut State,
-    x: Value,
+    x: Operand<'_>,
     y: Item<'_>,
 ) -> Result<Value, Broken>
-    ensures { Does (add_in_place x (item_value y.entry)) state.old result state.new }
+    ensures { Does (add_in_place x.entry (item_value y.entry)) state.old result state.new }
 {
-    match extension_in(alloc, &state.heap, &x, y)? {
-        Some(items) => extended(state, x, items),
-        None => plus(alloc, state, Item::Value(&x), y),
+    match extension_in(alloc, state, x.item(), y) {
+        Ok(Some(items)) => extended(state, x, items),
+        Ok(None) => plus(alloc, state, x.item(), y),
+        Err(broken) => Err(broken),
     }
 }
 
-/// What `x += y` extends `x` by, None where that is the sum.
+/// What `x += y` extends `x` by, None where that is the sum. A list that can't be extended by so many items refuses them
+/// before any is copied.
 fn extension_in(
     alloc: Global,
-    heap: &Heap,
-    x: &Value,
+    state: &State,
+    x: Item<'_>,
     y: Item<'_>,
-) -> Result<Option<Items>, AllocError>
-    ensures { IfOk result (λ r. r
-        ≡ extension (shape heap.now x.now) (shape heap.now (item_value y.entry))) }
+) -> Result<Option<Items>, Broken>
+    ensures { MatchResult result (λ r. r ≡ extension (shape state.now.heap (item_value x.entry))
+        (shape state.now.heap (item_value y.entry)))
+        (λ e. FaultOr (add_in_place (item_value x.entry) (item_value y.entry) state.now) e) }
 {
-    extension(alloc, &heap.see(x), &heap.see_item(y))
+    let Some(more) = extension(&state.heap.see_item(x), &state.heap.see_item(y)) else {
+        return Ok(None);
+    };
+    if let Err(broken) = room(&state.heap, x, more) {
+        return Err(broken);
+    }
+    let items = copied(alloc, more)?;
+    Ok(Some(items))
 }
 
 /// What a list is extended by: the items of a list or of a tuple.
-fn extension(alloc: Global, x: &Seen<'_>, y: &Seen<'_>) -> Result<Option<Items>, AllocError>
-    ensures { IfOk result (λ r. r ≡ extension (seen x.now) (seen y.now)) }
+fn extension<'a>(x: &Seen<'_>, y: &Seen<'a>) -> Option<Group<'a>>
+    ensures { MatchOption result (extension (seen x.now) (seen y.now) ≡ None)
+        (λ g. extension (seen x.now) (seen y.now) ≡ Some (group_items g)) }
 {
     match (x, y) {
-        (Seen::List(_), Seen::List(items)) => Ok(Some(copied(alloc, *items)?)),
-        (Seen::List(_), Seen::Tuple(items)) => Ok(Some(copied(alloc, *items)?)),
-        _ => Ok(None),
+        (Seen::List(_), Seen::List(items)) => Some(*items),
+        (Seen::List(_), Seen::Tuple(items)) => Some(*items),
+        _ => None,
     }
 }
 
 /// The list itself, with these items more.
-fn extended(state: &mut State, list: Value, items: Items) -> Result<Value, Broken>
-    ensures { Does (extended items list) state.old result state.new }
+fn extended(state: &mut State, list: Operand<'_>, items: Items) -> Result<Value, Broken>
+    ensures { Does (extended items list.entry) state.old result state.new }
 {
+    let list = list.into_value()?;
     match state.heap.extend(&list, items) {
         Ok(()) => Ok(list),
         Err(broken) => Err(broken),
