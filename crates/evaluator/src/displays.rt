@@ -12,7 +12,7 @@ use frames::Stack;
 use language::Whole;
 use operands::{Operand, as_value};
 use std::alloc::Global;
-use values::{Broken, Item, Value};
+use values::{Broken, Item, Kind, LARGEST, Value};
 
 /// A new list of these items, of which the first is at the top.
 pub(crate) fn new_list<W>(
@@ -22,6 +22,9 @@ pub(crate) fn new_list<W>(
 ) -> Result<Value, Broken>
     ensures { Says (of_state (new_list items.entry) whole.old) result whole.new }
 {
+    if items.len() > LARGEST {
+        return Err(Broken::Kind(Kind::Large));
+    }
     let items = all_of(alloc, items)?;
     state::new_list(&mut whole.state, items)
 }
@@ -34,6 +37,9 @@ pub(crate) fn new_tuple<W>(
 ) -> Result<Value, Broken>
     ensures { Says (of_state (new_tuple items.entry) whole.old) result whole.new }
 {
+    if items.len() > LARGEST {
+        return Err(Broken::Kind(Kind::Large));
+    }
     let items = all_of(alloc, items)?;
     state::new_tuple(&mut whole.state, items)
 }
