@@ -9,9 +9,9 @@ use crate::{binding, calling, displays, finding_callees, functions, looks, opera
 use field_names::FieldName;
 use frames::{Callee, Defaults, FunctionId, Operate, Refusal, Stack};
 use grammar::{Operator, Sign};
+use keys::TextKey;
 use language::Whole;
 use language_calls::DefaultInfo;
-use keys::TextKey;
 use operands::Operand;
 use places::{Link, Place};
 use plain::Text;

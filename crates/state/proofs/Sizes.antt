@@ -1,7 +1,7 @@
 -- Sizes that are known before anything is made or copied.
-use Rattle.std.proofs.Common.{◌≡◌, ℕ, zero, suc, ◌+◌, Bool, true, false, List, [], ◌∷◌, ◌++◌, length, slice_get, nat_lt, Some, None, Ok, Err, Result, if◌then◌else◌, refl, sym, ap, ◌∙◌, arith}
+use Rattle.std.proofs.Common.{◌≡◌, ℕ, zero, suc, ◌+◌, Bool, true, false, List, [], ◌∷◌, ◌++◌, length, slice_get, nat_lt, Some, None, Ok, Err, Result, if◌then◌else◌, refl, sym, ap, ◌∙◌}
 use Rattle.std.proofs.lemmas.List.{length-append}
-use Rattle.values.specs.Cells.{put_at, after, joined_items, made}
+use Rattle.values.specs.Cells.{put_at, after}
 use Rattle.values.specs.Shape.{Shape, key, atom, items, entries, fields, nothing}
 use Rattle.values.specs.Ticking.{FaultOr}
 use Rattle.values.specs.declared.cells.Cell.{Cell}
@@ -31,6 +31,7 @@ unchanged a s (Ok g) (broken.Kind k) h = absurd (cc)
 unchanged a s (Err j) (broken.Kind k) h = let e : j ≡ k = cc in ap Err e
 unchanged a s r broken.NoMemory h = tt
 
+-- what is made of what a change gives is no refusal
 allowed_after : {A B : Type 0} (g : A → B) (r : Result A Kind) → allowed (after g r) ≡ allowed r
 allowed_after g (Ok a) = refl
 allowed_after g (Err k) = refl
@@ -47,25 +48,25 @@ module _ (f : Cell → Result Cell Kind) where
   at_none (x ∷ xs) (suc i) p = ap (after (λ ds. x ∷ ds)) (at_none xs i p)
 
 -- a list or a tuple of two is made where it isn't too large
-made_list : (large : Bool) (zs : List Value) (s : State) → make (after (sequence true) (if large then Err Large else Ok zs)) s
-    ≡ with_heap s (if large then Err Large else Ok (value.Cell (length s.heap), s.heap ++ cell.List zs 0 ∷ []))
-made_list true zs s = refl
-made_list false zs s = refl
+made_list : (large : Bool) (zs : List Value) (s : State) → nat_lt LARGEST (length zs) ≡ large
+    → make (after (sequence true) (if large then Err Large else Ok zs)) s ≡ new_list zs s
+made_list true zs s e =
+    ap (λ b. with_heap s (if b then Err Large else Ok (value.Cell (length s.heap), s.heap ++ cell.List zs 0 ∷ []))) (sym e)
+made_list false zs s e = refl
 
-made_tuple : (large : Bool) (zs : List Value) (s : State) → make (after (sequence false) (if large then Err Large else Ok zs)) s
-    ≡ with_heap s (if large then Err Large else Ok (value.Cell (length s.heap), s.heap ++ cell.Tuple zs ∷ []))
-made_tuple true zs s = refl
-made_tuple false zs s = refl
+made_tuple : (large : Bool) (zs : List Value) (s : State) → nat_lt LARGEST (length zs) ≡ large
+    → make (after (sequence false) (if large then Err Large else Ok zs)) s ≡ new_tuple zs s
+made_tuple true zs s e =
+    ap (λ b. with_heap s (if b then Err Large else Ok (value.Cell (length s.heap), s.heap ++ cell.Tuple zs ∷ []))) (sym e)
+made_tuple false zs s e = refl
 
 both_made : (j k : Bool) (xs ys : List Value) (s : State) → make (sum_within (items j xs) (items k ys)) s ≡ make (added (items j xs) (items k ys)) s
 both_made true true xs ys s =
-    made_list (nat_lt LARGEST (length xs + length ys)) (xs ++ ys) s
-    ∙ ap (λ n. with_heap s (made s.heap (cell.List (xs ++ ys) 0) n)) (sym (length-append xs ys))
+    made_list (nat_lt LARGEST (length xs + length ys)) (xs ++ ys) s (ap (λ n. nat_lt LARGEST n) (length-append xs ys))
 both_made true false xs ys s = refl
 both_made false true xs ys s = refl
 both_made false false xs ys s =
-    made_tuple (nat_lt LARGEST (length xs + length ys)) (xs ++ ys) s
-    ∙ ap (λ n. with_heap s (made s.heap (cell.Tuple (xs ++ ys)) n)) (sym (length-append xs ys))
+    made_tuple (nat_lt LARGEST (length xs + length ys)) (xs ++ ys) s (ap (λ n. nat_lt LARGEST n) (length-append xs ys))
 
 -- the sum is made, or refused, as it is where its size is known only after
 pub same_sum : (a b : Shape) (s : State) → make (sum_within a b) s ≡ make (added a b) s
@@ -85,3 +86,8 @@ same_sum (atom l) b s = refl
 same_sum (entries es) b s = refl
 same_sum (fields p xs) b s = refl
 same_sum nothing b s = refl
+
+-- and what refuses it refuses the sum
+pub sum_refused : (a b : Shape) (s : State) (e : Broken) → FaultOr (sum_within a b) e → FaultOr (make (added a b) s) e
+sum_refused a b s (broken.Kind k) h = sym (same_sum a b s) ∙ ap (λ r. make r s) h
+sum_refused a b s broken.NoMemory h = tt

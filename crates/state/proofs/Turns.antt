@@ -1,8 +1,5 @@
 -- One turn of a loop over the items of a value.
-use Rattle.std.proofs.Common.{◌≡◌, ℕ, zero, suc, ◌+◌, ◌≤◌, Bool, true, List, [], ◌∷◌, ◌++◌, map, length, drop, slice_get, Option, Some, None, Ok, Err, if◌then◌else◌, refl, arith, sym, ap, ◌∙◌, append_assoc}
-use Rattle.values.specs.Visits.{keys_of}
-use Rattle.keys.specs.declared.key.Key.{Key}
-use Rattle.values.specs.declared.value.Value.TheVariants as value
+use Rattle.std.proofs.Common.{◌≡◌, ℕ, ◌+◌, Bool, true, List, [], ◌∷◌, ◌++◌, drop, slice_get, Some, Ok, Err, if◌then◌else◌, sym, ap, ◌∙◌, append_assoc}
 use Rattle.depsets.proofs.Turns.{drop_at}
 use Rattle.values.specs.Ticking.{Count, Ticking, then_on, FaultOr}
 use Rattle.values.specs.declared.value.Value.{Value}

@@ -35,17 +35,30 @@ pub fn extend(
 ) -> Result<Value, Broken>
     ensures { Does (extend list.now sequence.now) state.old result state.new }
 {
-    let Some(items) = sequence_of(&state.heap.see_item(sequence.item())) else {
+    let items = match more_of(alloc, state, list, sequence.item()) {
+        Ok(items) => items,
+        Err(broken) => return Err(broken),
+    };
+    if let Err(broken) = state.heap.extend(list, items) {
+        return Err(broken);
+    }
+    Ok(Value::Leaf(Leaf::None))
+}
+
+/// The items that `list.extend(sequence)` adds, or why it adds none.
+fn more_of(alloc: Global, state: &State, list: &Value, sequence: Item<'_>) -> Result<Items, Broken>
+    ensures { MatchResult result
+        (λ items. sequence_in (shape state.now.heap (item_value sequence.entry)) ≡ Some items)
+        (λ e. FaultOr (extend list.now (item_value sequence.entry) state.now) e) }
+{
+    let Some(items) = sequence_of(&state.heap.see_item(sequence)) else {
         return Err(Broken::Kind(Kind::Wrong));
     };
     if let Err(broken) = room(&state.heap, Item::Value(list), items) {
         return Err(broken);
     }
     let items = copied(alloc, items)?;
-    if let Err(broken) = state.heap.extend(list, items) {
-        return Err(broken);
-    }
-    Ok(Value::Leaf(Leaf::None))
+    Ok(items)
 }
 
 /// The items of a group.
@@ -86,12 +99,7 @@ pub fn set_item(
 }
 
 /// `list[index] = value`.
-fn set_index(
-    state: &mut State,
-    list: &Value,
-    index: Item<'_>,
-    value: Value,
-) -> Result<(), Broken>
+fn set_index(state: &mut State, list: &Value, index: Item<'_>, value: Value) -> Result<(), Broken>
     ensures { Does (λ s. changed tt s (of_type (number_in (shape s.heap (item_value index.entry)))
         (λ n. list_changed (indexed n value) s.heap list.now))) state.old result state.new }
 {

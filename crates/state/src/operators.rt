@@ -137,8 +137,8 @@ fn both_copied(alloc: Global, xs: Group<'_>, ys: Group<'_>) -> Result<Items, All
     Ok(items)
 }
 
-/// `x += y`: a list is extended in place by a list or a tuple, and is given itself; all else is `x + y`. What `x` is lent is
-/// only read for a sum.
+/// `x += y`: a list is extended in place by a list or a tuple, and is given itself; all else is `x + y`, which only reads
+/// `x`: one that is lent isn't counted.
 pub fn add_in_place(
     alloc: Global,
     state: &mut State,

@@ -1,5 +1,5 @@
-use Rattle.std.proofs.Common.{◌≡◌, ◌+◌, ◌++◌, ◌∷◌, [], Some, drop, sym, ap, ◌∙◌}
-use Rattle.values.specs.Seeing.{group_items, item_value}
+use Rattle.std.proofs.Common.{◌+◌, ◌++◌, Some, drop, sym, ap, ◌∙◌}
+use Rattle.values.specs.Seeing.{group_items}
 use Rattle.state.proofs.Turns.{copied}
 use Rattle.state.proofs.changes.copy_into.Goals as goal
 

@@ -1,9 +1,8 @@
-use Rattle.std.proofs.Common.{◌≡◌, true, false, Ok, Err, sym, ap, ◌∙◌, subst}
+use Rattle.std.proofs.Common.{true, false, Ok, sym, ap, ◌∙◌, subst}
 use Rattle.values.specs.Ticking.{FaultOr}
 use Rattle.visits.specs.Equal.{equal_at}
 use Rattle.values.specs.Seeing.{group_items, item_value}
 use Rattle.values.specs.declared.ticks.TheConstants.{VISITED_LEVELS}
-use Rattle.operations.specs.Equality.{among}
 use Rattle.state.proofs.Turns.{among-then, among-fault}
 use Rattle.state.proofs.comparing.is_among.Goals as goal
 
