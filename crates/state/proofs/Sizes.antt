@@ -14,24 +14,12 @@ use Rattle.values.specs.declared.ticks.Kind.TheVariants.{Wrong, Large}
 use Rattle.values.specs.declared.value.Value.{Value}
 use Rattle.values.specs.declared.value.Value.TheVariants as value
 use Rattle.operations.specs.declared.state.State.{State}
-use Rattle.operations.specs.States.{changed, with_heap}
+use Rattle.operations.specs.States.{with_heap}
 use Rattle.operations.specs.Making.{make, sequence, new_list, new_tuple}
 use Rattle.operations.specs.Operators.{added}
 use Rattle.state.specs.Sizes.{allowed, sum_within}
 
--- a refusal is that of the change
-pub refused : {A : Type 0} (r : Result A Kind) (e : Broken) → FaultOr (allowed r) e → FaultOr r e
-refused (Ok a) (broken.Kind k) h = absurd (cc)
-refused (Err j) (broken.Kind k) h = let e : j ≡ k = cc in ap Err e
-refused r broken.NoMemory h = tt
-
--- and of the operation that makes it
-pub unchanged : {A : Type 0} (a : A) (s : State) (r : Result (List Cell) Kind) (e : Broken) → FaultOr (allowed r) e → FaultOr (changed a s r) e
-unchanged a s (Ok g) (broken.Kind k) h = absurd (cc)
-unchanged a s (Err j) (broken.Kind k) h = let e : j ≡ k = cc in ap Err e
-unchanged a s r broken.NoMemory h = tt
-
--- what is made of what a change gives is no refusal
+-- a change that is made of another is allowed where that is
 allowed_after : {A B : Type 0} (g : A → B) (r : Result A Kind) → allowed (after g r) ≡ allowed r
 allowed_after g (Ok a) = refl
 allowed_after g (Err k) = refl
