@@ -104,6 +104,10 @@ empty_info : new_default_info default_info (at []) (with_cells [] 0)
     ≡ Ok (value.Cell 0, record (with_cells (cell.Instance default_info (Some (value.Leaf (plain.Depset (next_depset order.Default [] [] (with_cells [] 0)))) ∷ []) ∷ []) 0) { depsets = 1 })
 empty_info = refl
 
+-- its depset's serial has a limit, as any depset's has
+last_info : new_default_info default_info (at []) (record (with_cells [] 0) { depsets = 2 ^ 64 - 1 }) ≡ Err kind.Large
+last_info = refl
+
 no_depset : new_default_info default_info (record { items = []; names = codes "files" ∷ []; values = list_at ∷ [] }) (with_cells (cell.List (one ∷ []) 0 ∷ []) 0)
     ≡ Err kind.Wrong
 no_depset = refl
