@@ -8,4 +8,6 @@ pub mod Refusals
 pub mod Whole
 pub mod Placing
 pub mod Reading
+mod EachMade
+mod TextLists
 pub mod TextDicts

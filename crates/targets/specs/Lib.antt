@@ -1,3 +1,4 @@
+pub mod TextLists
 pub mod TextDicts
 pub mod Defaults
 pub mod Attributes

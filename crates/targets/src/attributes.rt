@@ -1,7 +1,7 @@
 //! Rules and their attributes.
 ghost use Rattle.std.specs.Prelude.{◌≡◌, IfOk};
 
-use crate::{RuleAttributes, Sequence, TextDict};
+use crate::{RuleAttributes, Sequence, TextDict, TextList};
 use plain::{Shared, Text};
 use std::alloc::AllocError;
 use values::{AttributeKind, FunctionRef, Key, Names, Provider};
@@ -11,7 +11,9 @@ use workspace::Label;
 pub enum AttributeValue {
     /// A string, a whole number or a bool.
     Key(Key),
-    Strings(Shared<Names>),
+    /// Strings, as the frozen list that each reader is lent.
+    Strings(Shared<TextList>),
+    /// A dict of strings, as the frozen dict that each reader is lent.
     StringDict(Shared<TextDict>),
     Label(Option<Shared<Label>>),
     Labels(Shared<Sequence<Shared<Label>>>),

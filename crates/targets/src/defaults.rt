@@ -2,10 +2,10 @@
 ghost use Rattle.std.specs.Prelude.{◌≡◌, [], IfOk};
 ghost use Rattle.targets.specs.Attributes.{default_of, default_of_kind};
 
-use crate::{Attribute, AttributeValue, Sequence, TextDict};
+use crate::{Attribute, AttributeValue, Sequence, TextDict, TextList};
 use plain::{Shared, Text};
 use std::alloc::{AllocError, Global};
-use values::{AttributeKind, Key, Names};
+use values::{AttributeKind, Key};
 
 /// What a target has for an attribute where nothing is given.
 pub(crate) fn default_of(alloc: Global, attribute: &Attribute) -> Result<AttributeValue, AllocError>
@@ -43,7 +43,7 @@ fn no_text(alloc: Global) -> Result<Text, AllocError>
 fn no_strings(alloc: Global) -> Result<AttributeValue, AllocError>
     ensures { IfOk result (λ v. v ≡ AttributeValue.Strings []) }
 {
-    let strings = Shared::new(alloc, Names::new(alloc))?;
+    let strings = Shared::new(alloc, TextList::new(alloc)?)?;
     Ok(AttributeValue::Strings(strings))
 }
 
@@ -51,7 +51,7 @@ fn no_strings(alloc: Global) -> Result<AttributeValue, AllocError>
 fn no_entries(alloc: Global) -> Result<AttributeValue, AllocError>
     ensures { IfOk result (λ v. v ≡ AttributeValue.StringDict []) }
 {
-    let dict = Shared::new(alloc, TextDict::new(alloc))?;
+    let dict = Shared::new(alloc, TextDict::new(alloc)?)?;
     Ok(AttributeValue::StringDict(dict))
 }
 

@@ -1,7 +1,7 @@
 //! Rules, their attributes, the targets that `BUILD` files declare, and what becomes of a label.
 //!
 //! The definitions stand in `specs/`, one subject a file: `Attributes` says what an attribute is and what a target has for it,
-//! `TextDicts` what a dict of strings is,
+//! `TextLists` and `TextDicts` what a list and a dict of strings are,
 //! `RuleCalls` what the call of a rule declares or refuses, `Resolving` what a label names and what it depends on, `Checks`
 //! which dependencies an attribute takes, and `Steps` the outcome of a label from the outcomes of its dependencies, over any
 //! meaning of implementations. [`laws`] says what follows from them. The types here are what these definitions speak of.
@@ -15,6 +15,7 @@ mod rule_attributes;
 mod sequence;
 mod target;
 mod text_dict;
+mod text_list;
 
 pub use attributes::{AllowFiles, Attribute, AttributeValue, NamedAttribute, Rule};
 pub use outcome::{Actions, Outcome, Providers, TargetFault};
@@ -22,3 +23,4 @@ pub use rule_attributes::RuleAttributes;
 pub use sequence::Sequence;
 pub use target::Target;
 pub use text_dict::{TextDict, TextEntry};
+pub use text_list::TextList;

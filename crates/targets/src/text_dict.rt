@@ -1,51 +1,57 @@
 //! Dicts of strings.
-ghost use Rattle.std.specs.Prelude.{◌≡◌, [], ◌++◌, ◌∷◌, IfOk, OnOk, map};
+ghost use Rattle.std.specs.Prelude.{◌≡◌, [], IfOk, MatchOption, None, Some};
 ghost use Rattle.values.specs.Keyed.{AreDistinct};
 ghost use Rattle.values.specs.Seeing.{seen, table_entries};
+ghost use Rattle.values.specs.Tree.{branch};
 ghost use Rattle.values.specs.Visits.{keys_of};
 ghost use Rattle.targets.specs.RuleCalls.{each_of};
-ghost use Rattle.targets.specs.TextDicts.{text_shown, text_entry, entry_key, entry_tree, AreEntries, dict_of_texts};
+ghost use Rattle.targets.specs.TextDicts.{text_entry, value_shown, value_frozen, dict_of_texts};
 
-use crate::Sequence;
+use crate::text_list::text_seen;
 use indexmap::IndexSet;
 use plain::Text;
 use std::alloc::{AllocError, Global};
 use std::marker::Model;
 use values::{Branch, Frozen, Heap, Key, Seen, Table};
 
-/// A key and its value, both strings.
+/// A key and its value, both strings, as a contract speaks of them.
 #[derive(Drop)]
 pub struct TextEntry {
     pub key: Text,
     pub value: Text,
 }
 
-/// A dict whose keys and values are strings: to a contract its entries in order. No two have one key.
+/// A dict whose keys and values are strings, as the frozen dict that whoever reads it is lent: to a contract its entries in
+/// order. No two have one key.
 #[derive(Drop)]
 pub struct TextDict {
-    entries: Sequence<TextEntry>,
+    tree: Frozen,
 }
 
 impl Model for TextDict {
-    ghost use Rattle.std.specs.Prelude.{List};
+    ghost use Rattle.std.specs.Prelude.{List, ◌≡◌};
+    ghost use Rattle.values.specs.Tree.{branch};
     ghost use Rattle.targets.specs.declared.text_dict.TextEntry.{TextEntry as Entry};
-    ghost use Rattle.targets.specs.TextDicts.{AreEntries};
+    ghost use Rattle.targets.specs.TextDicts.{AreEntries, entries_in, dict_of_texts};
 
     ghost Value = { List Entry };
 
-    ghost view = { λ d. d.entries };
+    ghost view = { λ d. entries_in d.tree };
 
-    ghost invariant = { λ d. AreEntries d.entries };
+    ghost invariant = { λ d. (d.tree ≡ branch (dict_of_texts (entries_in d.tree)))
+        × AreEntries (entries_in d.tree) };
 }
 
 impl TextDict {
     /// No entries.
-    pub fn new(alloc: Global) -> TextDict
-        ensures { result ≡ [] }
+    pub fn new(alloc: Global) -> Result<TextDict, AllocError>
+        ensures { IfOk result (λ d. d ≡ []) }
     {
-        TextDict {
-            entries: Sequence::new(alloc),
-        }
+        let keys = IndexSet::with_capacity(alloc, 0)?;
+        let dict = Branch::dict(alloc, keys, Vec::new(alloc))?;
+        Ok(TextDict {
+            tree: Frozen::of_branch(dict),
+        })
     }
 
     /// A dict of the heap, or a frozen one, whose keys and values are strings; None where one is no string.
@@ -57,90 +63,69 @@ impl TextDict {
         ensures { IfOk result
             (λ o. o ≡ each_of (text_entry heap.now) (table_entries table.entry)) }
     {
-        match entries_in(alloc, heap, table)? {
-            Some(entries) => Ok(Some(TextDict { entries })),
-            None => Ok(None),
-        }
+        let Some(values) = values_in(alloc, heap, table)? else {
+            return Ok(None);
+        };
+        let dict = Branch::dict(alloc, keys_in(alloc, table)?, values)?;
+        Ok(Some(TextDict {
+            tree: Frozen::of_branch(dict),
+        }))
     }
 
-    /// The frozen dict of its entries, in their order.
-    pub fn to_frozen(&self, alloc: Global) -> Result<Branch, AllocError>
-        ensures { IfOk result (λ b. b ≡ dict_of_texts self.now) }
+    /// It, as a frozen dict.
+    pub fn tree(&self) -> &Frozen
+        ensures { result.now ≡ branch (dict_of_texts self.now) }
     {
-        let entries = self.entries.as_slice();
-        let keys = keys(alloc, entries)?;
-        let values = values(alloc, entries)?;
-        Branch::dict(alloc, keys, values)
+        &self.tree
     }
 }
 
-/// The entries of a dict, whose keys and values are strings; None where one is no string.
-fn entries_in(
-    alloc: Global,
-    heap: &Heap,
-    table: Table<'_>,
-) -> Result<Option<Sequence<TextEntry>>, AllocError>
-    ensures read { IfOk result
-        (λ o. o ≡ each_of (text_entry heap.now) (table_entries table.entry)) }
+/// The keys of a dict, in order.
+fn keys_in(alloc: Global, table: Table<'_>) -> Result<IndexSet<Key>, AllocError>
+    ensures keys { IfOk result (λ s. s.keys ≡ keys_of (table_entries table.entry)) }
     ensures distinct { AreDistinct (keys_of (table_entries table.entry)) }
 {
     let count = table.distinct_len();
-    let mut entries = Sequence::with_capacity(alloc, count)?;
+    let mut keys = IndexSet::with_capacity(alloc, count)?;
     for place in 0..count {
-        let Some((key, item)) = table.at(place) else {
-            return Ok(Some(entries));
+        let Some((key, _)) = table.at(place) else {
+            return Ok(keys);
         };
-        match text_entry(key, &heap.see_item(item))? {
-            Some(entry) => entries.push(entry)?,
-            None => return Ok(None),
-        }
-    }
-    Ok(Some(entries))
-}
-
-/// An entry, if its key and its value are strings.
-fn text_entry(key: &Key, value: &Seen<'_>) -> Result<Option<TextEntry>, AllocError>
-    ensures { IfOk result (λ o. o ≡ text_shown key.now (seen value.now)) }
-{
-    let Key::Text(key) = key else {
-        return Ok(None);
-    };
-    let Seen::Key(Key::Text(value)) = value else {
-        return Ok(None);
-    };
-    Ok(Some(TextEntry {
-        key: key.share()?,
-        value: value.share()?,
-    }))
-}
-
-/// The keys of entries, in order.
-fn keys(alloc: Global, entries: &[TextEntry]) -> Result<IndexSet<Key>, AllocError>
-    requires { AreEntries entries.now }
-    ensures { IfOk result (λ s. s.keys ≡ map entry_key entries.now) }
-{
-    let mut keys = IndexSet::with_capacity(alloc, entries.len())?;
-    for entry in entries {
-        keys.insert(Key::Text(entry.key.share()?))?;
+        keys.insert(key.share()?)?;
     }
     Ok(keys)
 }
 
-/// The values of entries as frozen values, in order.
-fn values(alloc: Global, entries: &[TextEntry]) -> Result<Vec<Frozen>, AllocError>
-    ensures { IfOk result (λ ts. ts.items ≡ map entry_tree entries.now) }
+/// The values of a dict, frozen; None where one, or its key, is no string.
+fn values_in(
+    alloc: Global,
+    heap: &Heap,
+    table: Table<'_>,
+) -> Result<Option<Vec<Frozen>>, AllocError>
+    ensures { IfOk result (λ o. MatchOption o
+        (each_of (value_frozen heap.now) (table_entries table.entry) ≡ None)
+        (λ ts. each_of (value_frozen heap.now) (table_entries table.entry) ≡ Some ts.items)) }
 {
-    let mut trees = Vec::with_capacity(alloc, entries.len())?;
-    for entry in entries {
-        put_value(entry, &mut trees)?;
+    let count = table.len();
+    let mut values = Vec::with_capacity(alloc, count)?;
+    for place in 0..count {
+        let Some((key, item)) = table.at(place) else {
+            return Ok(Some(values));
+        };
+        match value_shown(key, &heap.see_item(item))? {
+            Some(value) => values.push(value)?,
+            None => return Ok(None),
+        }
     }
-    Ok(trees)
+    Ok(Some(values))
 }
 
-/// Puts the value of an entry last.
-fn put_value(entry: &TextEntry, trees: &mut Vec<Frozen>) -> Result<(), AllocError>
-    ensures { OnOk result (trees.new.items ≡ trees.old.items ++ entry_tree entry.now ∷ []) }
+/// The value of an entry, frozen, if its key and its value are strings.
+fn value_shown(key: &Key, value: &Seen<'_>) -> Result<Option<Frozen>, AllocError>
+    ensures { IfOk result (λ o. o ≡ value_shown key.now (seen value.now)) }
 {
-    trees.push(Frozen::of_key(Key::Text(entry.value.share()?)))?;
-    Ok(())
+    match key {
+        Key::Text(_) => text_seen(value),
+        _ => Ok(None),
+    }
 }
