@@ -6,11 +6,11 @@ ghost use Rattle.values.specs.declared.cells.Cell.{Cell};
 ghost use Rattle.targets.specs.RuleCalls.{each_of};
 ghost use Rattle.declarations.specs.AttributeCalls.{default_in, default_typed, whole_label_in};
 
-use crate::lists::{strings, whole_label, whole_labels};
+use crate::lists::{whole_label, whole_labels};
 use operands::Operand;
 use plain::Shared;
 use std::alloc::{AllocError, Global};
-use targets::{AttributeValue, TextDict};
+use targets::{AttributeValue, TextDict, TextList};
 use values::{AttributeKind, Group, Heap, Key, Leaf, Seen};
 
 /// What `default` says, which may be missing; None where it is of another type.
@@ -94,7 +94,7 @@ fn strings_default(
     let Seen::List(items) = value else {
         return Ok(None);
     };
-    match strings(alloc, heap, *items)? {
+    match TextList::read(alloc, heap, *items)? {
         Some(texts) => Ok(Some(AttributeValue::Strings(Shared::new(alloc, texts)?))),
         None => Ok(None),
     }

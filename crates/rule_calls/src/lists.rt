@@ -1,9 +1,8 @@
-//! Strings, and labels of a package, out of the items of a list.
+//! Labels of a package, out of the items of a list.
 ghost use Rattle.std.specs.Prelude.{◌≡◌, [], Ok, Err, MatchResult};
 ghost use Rattle.values.specs.Seeing.{seen, group_items};
 ghost use Rattle.values.specs.Shape.{shape};
 ghost use Rattle.values.specs.Ticking.{FaultOr};
-ghost use Rattle.operations.specs.Reading.{string_in};
 ghost use Rattle.operations.specs.States.{Gives};
 ghost use Rattle.targets.specs.RuleCalls.{label_in};
 ghost use Rattle.rule_calls.specs.Each.{put_read, added};
@@ -13,37 +12,8 @@ use plain::Shared;
 use state::text_of;
 use std::alloc::Global;
 use targets::Sequence;
-use values::{Broken, Group, Heap, Kind, Names, Seen};
+use values::{Broken, Group, Heap, Kind, Seen};
 use workspace::Label;
-
-/// The strings that items are, or `type`.
-pub(crate) fn strings(alloc: Global, heap: &Heap, items: Group<'_>) -> Result<Names, Broken>
-    ensures { Gives (added (λ v. string_in (shape heap.now v)) [] (group_items items.entry)) result }
-{
-    let mut texts = Names::new(alloc);
-    for place in 0..items.len() {
-        if let Err(broken) = put_text(&heap.see_item(items.item(place)), &mut texts) {
-            return Err(broken);
-        }
-    }
-    Ok(texts)
-}
-
-/// Puts the string that a value is last, or `type`.
-fn put_text(value: &Seen<'_>, texts: &mut Names) -> Result<(), Broken>
-    ensures { MatchResult result
-        (λ _. put_read texts.old (string_in (seen value.now)) ≡ Ok texts.new)
-        (λ e. FaultOr (put_read texts.old (string_in (seen value.now))) e) }
-{
-    let Some(text) = text_of(value) else {
-        return Err(Broken::Kind(Kind::Wrong));
-    };
-    let text = text.share()?;
-    if texts.push(text).is_err() {
-        return Err(Broken::NoMemory);
-    }
-    Ok(())
-}
 
 /// The labels that items are, whose texts are read in a package, or `type`.
 pub(crate) fn labels(

@@ -11,11 +11,11 @@ ghost use Rattle.operations.specs.States.{Gives};
 ghost use Rattle.targets.specs.RuleCalls.{typed, is_allowed, if_allowed};
 
 use crate::here::Here;
-use crate::lists::{labels, strings};
+use crate::lists::labels;
 use operands::Operand;
 use plain::Shared;
 use std::alloc::Global;
-use targets::{Attribute, AttributeValue, TextDict};
+use targets::{Attribute, AttributeValue, TextDict, TextList};
 use values::{AttributeKind, Broken, Heap, Key, Kind, Seen};
 
 /// What a value is for an attribute, whose labels are read in a package, or `type`.
@@ -136,12 +136,12 @@ fn strings_value(alloc: Global, heap: &Heap, value: &Seen<'_>) -> Result<Attribu
     let Seen::List(items) = value else {
         return Err(Broken::Kind(Kind::Wrong));
     };
-    match strings(alloc, heap, *items) {
-        Ok(texts) => {
+    match TextList::read(alloc, heap, *items)? {
+        Some(texts) => {
             let texts = Shared::new(alloc, texts)?;
             Ok(AttributeValue::Strings(texts))
         }
-        Err(broken) => Err(broken),
+        None => Err(Broken::Kind(Kind::Wrong)),
     }
 }
 

@@ -3,20 +3,19 @@ ghost use Rattle.std.specs.Prelude.{◌≡◌, ◌++◌, ◌∷◌, [], IfOk, On
 ghost use Rattle.values.specs.Seeing.{option_value};
 ghost use Rattle.values.specs.Tree.{leaf};
 ghost use Rattle.operations.specs.Items.{at_place};
-ghost use Rattle.targets.specs.TextDicts.{dict_of_texts};
-ghost use Rattle.contexts.specs.Fields.{attribute_value, text_tree, target_tree, frozen_list};
+ghost use Rattle.contexts.specs.Fields.{attribute_value, target_tree, frozen_list};
 
 use crate::dependencies::Dependencies;
 use operands::Operand;
-use plain::{Shared, Text};
+use plain::Shared;
 use std::alloc::{AllocError, Global};
 use std::marker::Model;
-use targets::{AttributeValue, TextDict};
-use values::{Branch, Frozen, Item, Key, Leaf, Value};
+use targets::AttributeValue;
+use values::{Branch, Frozen, Item, Leaf, Value};
 use workspace::Label;
 
-/// What a target has for each attribute of its rule, as a value. What lies in the target is lent; lists, dicts and targets
-/// are made here, once, and lent to each that reads them.
+/// What a target has for each attribute of its rule, as a value. What lies in the target is lent, strings in lists and dicts too;
+/// what depends on the dependencies is made here, once, and lent to each that reads it.
 #[derive(Drop)]
 pub(crate) struct AttributeValues<'a> {
     values: Vec<Operand<'a>>,
@@ -108,11 +107,8 @@ fn attribute_value<'a>(
 {
     match value {
         AttributeValue::Key(key) => Ok(Operand::lent(Item::Key(key))),
-        AttributeValue::Strings(texts) => {
-            let texts = text_trees(alloc, texts.get().as_slice())?;
-            Ok(Operand::own(frozen_list(alloc, texts)?))
-        }
-        AttributeValue::StringDict(dict) => Ok(Operand::own(frozen_dict(alloc, dict.get())?)),
+        AttributeValue::Strings(texts) => Ok(Operand::lent(Item::Tree(texts.get().tree()))),
+        AttributeValue::StringDict(dict) => Ok(Operand::lent(Item::Tree(dict.get().tree()))),
         AttributeValue::Label(None) => Ok(Operand::own(Value::Leaf(Leaf::None))),
         AttributeValue::Label(Some(label)) => {
             let place = dependencies.place(label.get());
@@ -131,33 +127,6 @@ pub(crate) fn frozen_list(alloc: Global, items: Vec<Frozen>) -> Result<Value, Al
 {
     let list = Branch::list(alloc, items)?;
     Ok(Value::Frozen(list))
-}
-
-/// A dict of strings as a frozen dict.
-fn frozen_dict(alloc: Global, dict: &TextDict) -> Result<Value, AllocError>
-    ensures { IfOk result (λ v. v ≡ Value.Frozen (dict_of_texts dict.now)) }
-{
-    let dict = dict.to_frozen(alloc)?;
-    Ok(Value::Frozen(dict))
-}
-
-/// Strings as frozen values.
-fn text_trees(alloc: Global, texts: &[Text]) -> Result<Vec<Frozen>, AllocError>
-    ensures { IfOk result (λ ts. ts.items ≡ map text_tree texts.now) }
-{
-    let mut trees = Vec::with_capacity(alloc, texts.len())?;
-    for text in texts {
-        put_text(text, &mut trees)?;
-    }
-    Ok(trees)
-}
-
-/// Puts a string last.
-fn put_text(text: &Text, trees: &mut Vec<Frozen>) -> Result<(), AllocError>
-    ensures { OnOk result (trees.new.items ≡ trees.old.items ++ text_tree text.now ∷ []) }
-{
-    trees.push(Frozen::of_key(Key::Text(text.share()?)))?;
-    Ok(())
 }
 
 /// The targets of labels as frozen values.

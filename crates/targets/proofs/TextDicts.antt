@@ -61,9 +61,9 @@ module _ (t : FrozenTree) (es : List TextEntry) (is : t ≡ branch (dict_of_text
   -- the frozen dict of entries is that of its entries, and no two have one key
   pub is_of_its_entries : AreEntries es → (t ≡ branch (dict_of_texts (entries_in t))) × AreEntries (entries_in t)
   is_of_its_entries d = (
-      is ∙ ap (λ us. branch (dict_of_texts us)) (sym entries_of_dict),
-      subst (λ (us : List TextEntry). AreEntries us) (sym entries_of_dict) d,
-    )
+    is ∙ ap (λ us. branch (dict_of_texts us)) (sym entries_of_dict),
+    subst (λ (us : List TextEntry). AreEntries us) (sym entries_of_dict) d,
+  )
 
 -- ---- the values that are read
 

@@ -1,6 +1,5 @@
 -- The strings that are read of a list are those of the frozen list that is made of them.
 use Rattle.std.proofs.Common.{◌≡◌, ℕ, List, [], ◌∷◌, Option, Some, None, map, refl, sym, ap, ◌∙◌}
-use Rattle.std.specs.Prelude.{option_map}
 use Rattle.values.specs.Shape.{shape}
 use Rattle.values.specs.Tree.{branch, list, trees, tree_list}
 use Rattle.values.specs.View.{FrozenTree}

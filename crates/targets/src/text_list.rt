@@ -72,11 +72,7 @@ fn list_of(alloc: Global, trees: Vec<Frozen>) -> Result<TextList, AllocError>
 }
 
 /// The strings that items are, frozen; None where one is no string.
-fn trees_in(
-    alloc: Global,
-    heap: &Heap,
-    items: Group<'_>,
-) -> Result<Option<Vec<Frozen>>, AllocError>
+fn trees_in(alloc: Global, heap: &Heap, items: Group<'_>) -> Result<Option<Vec<Frozen>>, AllocError>
     ensures { IfOk result (λ o. MatchOption o
         (each_of (text_frozen heap.now) (group_items items.entry) ≡ None)
         (λ ts. each_of (text_frozen heap.now) (group_items items.entry) ≡ Some ts.items)) }

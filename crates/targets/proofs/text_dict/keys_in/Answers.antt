@@ -15,4 +15,4 @@ loop-place-preserved c =
     c.in_ok-insert.ensures.keys
     ∙ (λ j. insert_key eq-value.it (c.loop-place.invariant j) (c.in_ok-share.ensures j))
     ∙ keys-next (keys_of es) i k (derived-distinct (keys_of es) c.distinct_len-count.ensures.distinct)
-        (key_at-entry es i k (item_value c.in-Some.field-0-1) c.in-Some.ensures)
+    (key_at-entry es i k (item_value c.in-Some.field-0-1) c.in-Some.ensures)
