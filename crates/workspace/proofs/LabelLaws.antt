@@ -53,11 +53,11 @@ package-no_colon [] h = refl
 package-no_colon (b ∷ bs) (inl e) = let empty = eqb-true (length (b ∷ bs)) 0 e in absurd (omega (arith, empty))
 package-no_colon (b ∷ bs) (inr legal) = path-no_colon (b ∷ bs) legal
 
-front : (xs ys : List ℕ) → take (length xs) (xs ++ ys) ≡ xs
+pub front : (xs ys : List ℕ) → take (length xs) (xs ++ ys) ≡ xs
 front [] ys = refl
 front (x ∷ xs) ys = ap (λ (zs : List ℕ). x ∷ zs) (front xs ys)
 
-back : (xs ys : List ℕ) → drop (length xs) (xs ++ ys) ≡ ys
+pub back : (xs ys : List ℕ) → drop (length xs) (xs ++ ys) ≡ ys
 back [] ys = refl
 back (x ∷ xs) ys = back xs ys
 

@@ -1,3 +1,4 @@
 pub mod LabelLemmas
 pub mod LabelLaws
+pub mod KeptLabels
 pub mod WorkspaceLemmas

@@ -1,6 +1,6 @@
 -- The labels of targets and files, and the texts that they are read from (Bazel documentation, "Labels";
 -- docs/PROFILE.md, "Labels").
-use Rattle.std.specs.Prelude.{◌≡◌, true, ℕ, Bool, ◌&&◌, ◌||◌, ◌==◌, nat_eq, List, [], ◌∷◌, ◌++◌, length, drop, codes, Option, Some, None, option_and_then, option_map, if◌then◌else◌}
+use Rattle.std.specs.Prelude.{◌≡◌, true, ℕ, Bool, ◌&&◌, ◌||◌, ◌==◌, nat_eq, List, [], ◌∷◌, ◌++◌, length, take, drop, ◌+◌, codes, Option, Some, None, option_and_then, option_map, if◌then◌else◌}
 use Rattle.std.specs.List.{list_any, before_first, after_first, starts_with}
 use Rattle.std.specs.Borrow.{Bor}
 use Rattle.workspace.specs.Paths.{is_path, last_segment}
@@ -25,10 +25,15 @@ label_text l = codes "//" ++ (l.«package» ++ 58 ∷ l.name)
 abbrev pub is_label : LabelParts → Bool
 is_label l = ((length l.«package» == 0 || is_path l.«package») && is_path l.name) && is_path (label_path l)
 
--- the text that is kept beside a label's parts, and that these are legal
-pub record IsLabelKept (l : LabelParts) (text : List ℕ) : Type 0 where
-  pub spells : text ≡ label_text l
-  pub legal : is_label l ≡ true
+-- the parts of a label that is kept as its text: a package of so many bytes stands behind `//`, and the name behind the colon
+abbrev pub parts_kept : List ℕ → ℕ → LabelParts
+parts_kept text size = record { «package» = take size (drop 2 text); name = drop (size + 3) text }
+
+-- a text that is kept is the text of these parts, and they are legal
+pub record IsLabelKept (text : List ℕ) (size : ℕ) : Type 0 where
+  pub spells : text ≡ label_text (parts_kept text size)
+  pub sized : length (parts_kept text size).«package» ≡ size
+  pub legal : is_label (parts_kept text size) ≡ true
 
 -- package and name in what follows `//`: `p:n` and `:n` write both; `p` alone is a package, and its last segment the name
 abbrev pub whole_parts : List ℕ → LabelParts

@@ -15,23 +15,22 @@ use std::marker::Model;
 /// The label of a target or of a file: a package, which may be empty, and a name.
 ///
 /// To a contract it is these two. Labels are equal, hashed and ordered by the bytes of their texts, so
-/// `//a/b:x` comes before `//a:x`; that is why the text is kept beside its parts.
+/// `//a/b:x` comes before `//a:x`; that is why the text is what is kept, and where its package ends.
 #[derive(Drop)]
 pub struct Label {
-    package: Text,
-    name: Text,
     text: Text,
+    /// How many bytes the package has.
+    size: usize,
 }
 
 impl Model for Label {
-    ghost use Rattle.workspace.specs.Labels.{LabelParts, IsLabelKept};
+    ghost use Rattle.workspace.specs.Labels.{LabelParts, parts_kept, IsLabelKept};
 
     ghost Value = { LabelParts };
 
-    ghost view = { λ l. record { «package» = l.«package»; name = l.name } };
+    ghost view = { λ l. parts_kept l.text l.size };
 
-    ghost invariant = { λ l.
-        IsLabelKept (record { «package» = l.«package»; name = l.name }) l.text };
+    ghost invariant = { λ l. IsLabelKept l.text l.size };
 }
 
 /// Why a text gave no label.
@@ -90,11 +89,8 @@ pub fn label_with(alloc: Global, package: &str, name: &str) -> Result<Label, All
     ensures { IfOk result (λ l. l ≡ record { «package» = «package».now; name = name.now }) }
 {
     let text = Text::from_string(format!(in alloc; "//{package}:{name}")?)?;
-    Ok(Label {
-        package: Text::new(alloc, package)?,
-        name: Text::new(alloc, name)?,
-        text,
-    })
+    let size = package.len();
+    Ok(Label { text, size })
 }
 
 impl Label {
@@ -133,14 +129,14 @@ impl Label {
     pub fn package(&self) -> &str
         ensures { result.now ≡ self.now.«package» }
     {
-        self.package.as_str()
+        &self.text.as_str()[2..self.size + 2]
     }
 
     /// Its name.
     pub fn name(&self) -> &str
         ensures { result.now ≡ self.now.name }
     {
-        self.name.as_str()
+        &self.text.as_str()[self.size + 3..]
     }
 
     /// Its text, `//PACKAGE:NAME`.
@@ -150,18 +146,24 @@ impl Label {
         self.text.as_str()
     }
 
-    /// Another name of the same label, which shares its texts.
+    /// Its text, which all who name the label share.
+    pub fn shared_text(&self) -> &Text
+        ensures { result.now ≡ label_text self.now }
+    {
+        &self.text
+    }
+
+    /// Another name of the same label, which shares its text.
     ///
     /// # Errors
     ///
-    /// `AllocError` where the count of a text's names is at its greatest.
+    /// `AllocError` where the count of the text's names is at its greatest.
     pub fn share(&self) -> Result<Label, AllocError>
         ensures { IfOk result (λ l. l ≡ self.now) }
     {
         Ok(Label {
-            package: self.package.share()?,
-            name: self.name.share()?,
             text: self.text.share()?,
+            size: self.size,
         })
     }
 }
