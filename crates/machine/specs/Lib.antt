@@ -1,7 +1,2 @@
-pub mod Filled
-pub mod ActiveView
-pub mod LinkedView
-pub mod CallView
-pub mod RunView
 pub mod Groups
 pub mod StartView

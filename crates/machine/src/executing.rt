@@ -7,16 +7,14 @@ ghost use Rattle.meaning.specs.Correct.{call_start, function_start, top_start};
 ghost use Rattle.meaning.specs.Functions.{Files};
 ghost use Rattle.meaning.specs.StatementCode.{code_of};
 ghost use Rattle.frames.specs.Answers.{callee_seen, id_seen};
-ghost use Rattle.machine.specs.CallView.{arguments_seen};
-ghost use Rattle.machine.specs.LinkedView.{codes_of};
+ghost use Rattle.call_stack.specs.CallView.{arguments_seen};
+ghost use Rattle.call_stack.specs.LinkedView.{codes_of};
 ghost use Rattle.machine.specs.StartView.{Answers, Comes, Starts, meaning_of, start_of};
 
-use crate::active::Active;
-use crate::calling::{Arguments, Called, Place, call, call_function, frame_at_entry};
-use crate::filling::unset;
-use crate::linked::Linked;
-use crate::running::Running;
 use crate::stepping::step;
+use call_stack::{
+    Active, Arguments, Called, Linked, Place, Running, call, call_function, frame_at_entry, unset,
+};
 use frames::{Callee, Frame, FunctionId, Operate, Refusal, Stack, Step, Stop, refused};
 use std::alloc::Global;
 use values::{Kind, Value};
@@ -176,10 +174,8 @@ fn run<'a, W: Operate<'a>>(
     }
 }
 
-/// Runs linked code. What it answers is exactly what the files mean of which it is the code: the value, with the
-/// state after
-/// it and so the ticks; or the fault of that kind, in that file, at that line. Each run ends: the machine takes one
-/// instruction
+/// Runs linked code. What it answers is exactly what the files mean of which it is the code: the value, with the state after
+/// it and so the ticks; or the fault of that kind, in that file, at that line. Each run ends: the machine takes one instruction
 /// after the other and doesn't recurse, whatever the depth of calls.
 ///
 /// # Errors

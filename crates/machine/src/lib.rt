@@ -1,18 +1,12 @@
-//! The machine that runs compiled code.
+//! The machine that runs compiled code: steps over instructions, from the start of a run to its end.
 //!
-//! Files that are compiled are linked ([`Linked`]), and [`execute`] runs a call or the top level of one of them, in
-//! a world of
-//! operations ([`frames::Operate`]): what comes of it is exactly what the files mean.
+//! [`execute`] runs a call, or the top level of a file, of files that are compiled and linked ([`Linked`]), in a world of
+//! operations ([`frames::Operate`]): what comes of it is exactly what the files mean. The calls that are running and how
+//! arguments are bound are crate `call_stack`.
 #![tactic(auto)]
 
-mod active;
-mod calling;
 mod executing;
-mod filling;
-mod linked;
-mod running;
 mod stepping;
 
-pub use calling::Arguments;
+pub use call_stack::{Arguments, Linked};
 pub use executing::{Start, execute};
-pub use linked::Linked;

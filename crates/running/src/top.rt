@@ -5,7 +5,7 @@ ghost use Rattle.meaning.specs.Calls.{top_meaning};
 ghost use Rattle.meaning.specs.StatementCode.{code_of};
 ghost use Rattle.frames.specs.Seen.{fault_seen};
 ghost use Rattle.language.specs.Language.{language};
-ghost use Rattle.machine.specs.LinkedView.{codes_of};
+ghost use Rattle.call_stack.specs.LinkedView.{codes_of};
 ghost use Rattle.machine.specs.StartView.{meaning_of};
 ghost use Rattle.evaluation.specs.Worlds.{path_at};
 ghost use Rattle.evaluation.specs.Runs.{program_at, state_of_file};

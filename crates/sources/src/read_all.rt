@@ -2,7 +2,7 @@
 ghost use Rattle.std.specs.Prelude.{◌≡◌, ◌<◌, IfOk, length, map};
 ghost use Rattle.meaning.specs.StatementCode.{code_of};
 ghost use Rattle.evaluation.specs.Workspaces.{linked_files};
-ghost use Rattle.machine.specs.LinkedView.{codes_of};
+ghost use Rattle.call_stack.specs.LinkedView.{codes_of};
 ghost use Rattle.sources.specs.Kept.{kept_of};
 ghost use Rattle.sources.specs.Done.{AreDone, IsDoneAt};
 

@@ -7,7 +7,7 @@ ghost use Rattle.meaning.specs.StatementCode.{code_of};
 ghost use Rattle.load_graph.specs.Paths.{ArePaths};
 ghost use Rattle.evaluation.specs.Runs.{program_at};
 ghost use Rattle.evaluation.specs.Workspaces.{linked_files, read_file};
-ghost use Rattle.machine.specs.LinkedView.{codes_of};
+ghost use Rattle.call_stack.specs.LinkedView.{codes_of};
 ghost use Rattle.sources.specs.Kept.{as_read};
 
 use crate::files::Files;
@@ -45,7 +45,7 @@ impl Drop for Sources {
 impl Model for Sources {
     ghost use Rattle.std.specs.Prelude.{List};
     ghost use Rattle.workspace.specs.Workspaces.{Pair};
-    ghost use Rattle.machine.specs.LinkedView.{codes_of};
+    ghost use Rattle.call_stack.specs.LinkedView.{codes_of};
     ghost use Rattle.sources.specs.Kept.{AreRead};
 
     ghost Value = { List Pair };

@@ -5,7 +5,7 @@ ghost use Rattle.meaning.specs.Calls.{function_meaning};
 ghost use Rattle.meaning.specs.StatementCode.{code_of};
 ghost use Rattle.operations.specs.Instances.{default_info};
 ghost use Rattle.language.specs.Language.{language, function_id};
-ghost use Rattle.machine.specs.LinkedView.{codes_of};
+ghost use Rattle.call_stack.specs.LinkedView.{codes_of};
 ghost use Rattle.analysis.specs.Seen.{dependencies_seen};
 ghost use Rattle.evaluation.specs.Runs.{state_of_target, target_after};
 ghost use Rattle.implementations.specs.Implementations.{implementation_place, target_world};

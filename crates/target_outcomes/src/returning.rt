@@ -5,7 +5,7 @@ ghost use Rattle.meaning.specs.StatementCode.{code_of};
 ghost use Rattle.values.specs.Ticking.{Count, FaultOr};
 ghost use Rattle.visits.specs.Freeze.{freeze_at};
 ghost use Rattle.language.specs.Language.{function_id};
-ghost use Rattle.machine.specs.LinkedView.{codes_of};
+ghost use Rattle.call_stack.specs.LinkedView.{codes_of};
 ghost use Rattle.frames.specs.Answers.{id_seen};
 ghost use Rattle.evaluation.specs.Worlds.{path_at};
 ghost use Rattle.evaluation.specs.Runs.{implemented_with};

@@ -2,10 +2,10 @@ use Rattle.std.proofs.Common.{◌∙◌, [], Ok, sym, ap, subst}
 use Rattle.meaning.specs.Machine.{more, over, start}
 use Rattle.frames.specs.Answers.{callee_seen}
 use Rattle.frames.specs.Seen.{Stops}
-use Rattle.machine.specs.ActiveView.{ids_seen}
-use Rattle.machine.specs.CallView.{arguments_seen, entered, here_at}
-use Rattle.machine.specs.LinkedView.{codes_of}
-use Rattle.machine.specs.RunView.{config_of}
+use Rattle.call_stack.specs.ActiveView.{ids_seen}
+use Rattle.call_stack.specs.CallView.{arguments_seen, entered, here_at}
+use Rattle.call_stack.specs.LinkedView.{codes_of}
+use Rattle.call_stack.specs.RunView.{config_of}
 use Rattle.machine.proofs.executing.begin_call.Goals as goal
 
 pub returns-in-Ok-Value : goal.returns-in-Ok-Value

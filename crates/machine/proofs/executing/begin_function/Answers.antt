@@ -4,10 +4,10 @@ use Rattle.meaning.specs.Instructions.{code_at}
 use Rattle.meaning.specs.Machine.{more, starts}
 use Rattle.frames.specs.Answers.{id_seen}
 use Rattle.frames.specs.Seen.{Stops}
-use Rattle.machine.specs.ActiveView.{ids_seen}
-use Rattle.machine.specs.CallView.{arguments_seen, here_at}
-use Rattle.machine.specs.LinkedView.{codes_of}
-use Rattle.machine.specs.RunView.{config_of}
+use Rattle.call_stack.specs.ActiveView.{ids_seen}
+use Rattle.call_stack.specs.CallView.{arguments_seen, here_at}
+use Rattle.call_stack.specs.LinkedView.{codes_of}
+use Rattle.call_stack.specs.RunView.{config_of}
 use Rattle.machine.proofs.executing.begin_function.Goals as goal
 
 pub returns-in-Ok : goal.returns-in-Ok

@@ -4,9 +4,9 @@ use Rattle.meaning.specs.Correct.{top_from}
 use Rattle.meaning.specs.Machine.{continuing, frame_of, more}
 use Rattle.meaning.specs.Operations.{FunctionId}
 use Rattle.frames.specs.Seen.{seen}
-use Rattle.machine.specs.ActiveView.{ids_seen}
-use Rattle.machine.specs.LinkedView.{codes_of}
-use Rattle.machine.specs.RunView.{config_of}
+use Rattle.call_stack.specs.ActiveView.{ids_seen}
+use Rattle.call_stack.specs.LinkedView.{codes_of}
+use Rattle.call_stack.specs.RunView.{config_of}
 use Rattle.machine.proofs.executing.begin_top.Goals as goal
 
 pub returns : goal.returns

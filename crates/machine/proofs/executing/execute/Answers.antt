@@ -1,4 +1,4 @@
-use Rattle.machine.specs.LinkedView.{codes_of}
+use Rattle.call_stack.specs.LinkedView.{codes_of}
 use Rattle.machine.proofs.Loop.{answers_meant, of_files}
 use Rattle.machine.proofs.executing.execute.Goals as goal
 

@@ -2,9 +2,9 @@ use Rattle.std.proofs.Common.{◌∙◌, ap, Ok}
 use Rattle.std.specs.Prelude.{map}
 use Rattle.meaning.specs.Machine.{more, over, stuck}
 use Rattle.frames.specs.Seen.{seen, shown}
-use Rattle.machine.specs.ActiveView.{ids_seen}
-use Rattle.machine.specs.LinkedView.{codes_of}
-use Rattle.machine.specs.RunView.{config_of}
+use Rattle.call_stack.specs.ActiveView.{ids_seen}
+use Rattle.call_stack.specs.LinkedView.{codes_of}
+use Rattle.call_stack.specs.RunView.{config_of}
 use Rattle.machine.specs.StartView.{start_of, started}
 use Rattle.machine.proofs.Loop.{came_break, came_first, came_on, came_over, counted, falls, never_stuck}
 use Rattle.machine.proofs.executing.run.Goals as goal

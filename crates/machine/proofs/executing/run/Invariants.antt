@@ -1,6 +1,6 @@
 use Rattle.meaning.specs.Machine.{more}
-use Rattle.machine.specs.LinkedView.{codes_of}
-use Rattle.machine.specs.RunView.{config_of}
+use Rattle.call_stack.specs.LinkedView.{codes_of}
+use Rattle.call_stack.specs.RunView.{config_of}
 use Rattle.machine.specs.StartView.{start_of}
 use Rattle.machine.proofs.Loop.{Came, counted, steps_left}
 use Rattle.machine.proofs.executing.run.Given as goal

@@ -7,7 +7,7 @@ use Rattle.language.specs.Language.{language, function_id}
 use Rattle.language.specs.declared.whole.Whole.{Whole}
 use Rattle.loading.specs.Loads.{Path}
 use Rattle.loading.specs.declared.faults.Placed.{Placed}
-use Rattle.machine.specs.CallView.{arguments_seen}
+use Rattle.call_stack.specs.CallView.{arguments_seen}
 use Rattle.running.specs.Ran.{ran}
 use Rattle.running.specs.Target.{context_alone}
 use Rattle.running.proofs.implementing.call.Goals as goal

@@ -1,6 +1,6 @@
 use Rattle.std.proofs.Common.{◌≡◌, ◌∙◌, ◌∷◌, ◌++◌, [], ap, sym, map, append_assoc, arith}
 use Rattle.std.proofs.lemmas.List.{append-nil, nil_from_length}
-use Rattle.machine.specs.LinkedView.{codes_of}
+use Rattle.call_stack.specs.LinkedView.{codes_of}
 use Rattle.sources.specs.declared.kept.FileDone.{FileDone}
 use Rattle.sources.proofs.Done.{kept_agree, codes_agree}
 use Rattle.sources.proofs.read_all.linked.Goals as goal

@@ -1,7 +1,7 @@
 use Rattle.std.proofs.Common.{◌≡◌, ◌++◌, map}
 use Rattle.meaning.specs.StatementCode.{code_of}
 use Rattle.evaluation.specs.Workspaces.{linked_files}
-use Rattle.machine.specs.LinkedView.{codes_of}
+use Rattle.call_stack.specs.LinkedView.{codes_of}
 use Rattle.sources.specs.Kept.{kept_of}
 use Rattle.sources.specs.declared.kept.FileDone.{FileDone}
 use Rattle.sources.proofs.read_all.linked.Given as goal

@@ -1,7 +1,7 @@
 use Rattle.std.proofs.Common.{◌∙◌, ap}
 use Rattle.meaning.specs.Instructions.{code_line}
 use Rattle.language.specs.Language.{function_id}
-use Rattle.machine.specs.LinkedView.{codes_of}
+use Rattle.call_stack.specs.LinkedView.{codes_of}
 use Rattle.target_outcomes.proofs.returning.def_line.Goals as goal
 
 pub returns : goal.returns

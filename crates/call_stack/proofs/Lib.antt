@@ -1,0 +1,5 @@
+pub mod Lists
+pub mod Named
+pub mod Parameters
+pub mod CallSteps
+pub mod Moving

@@ -1,0 +1,104 @@
+//! The functions that are active.
+
+ghost use Rattle.std.specs.Prelude.{◌≡◌, [], ◌∷◌, length, map, IfOk};
+ghost use Rattle.std.specs.List.{list_any};
+ghost use Rattle.meaning.specs.Entry.{same_function};
+ghost use Rattle.meaning.specs.Machine.{outer};
+ghost use Rattle.frames.specs.Answers.{id_seen};
+ghost use Rattle.call_stack.specs.ActiveView.{ids_seen};
+
+use frames::{Frame, FunctionId, Stack};
+use std::alloc::{AllocError, Global};
+use std::marker::Model;
+
+/// The functions that are active; the list that a clause sees has the innermost first. The frames of those that have ended
+/// stand beside them, so that the next call takes their memory.
+#[derive(Drop)]
+pub struct Active<'a, T> {
+    functions: Vec<FunctionId>,
+    ended: Stack<Frame<'a, T>>,
+}
+
+impl<'a, T> Model for Active<'a, T> {
+    ghost use Rattle.std.specs.Prelude.{List, reverse};
+    ghost use Rattle.frames.specs.declared.frame.FunctionId.{FunctionId};
+
+    ghost Value = { List FunctionId };
+
+    ghost view = { λ a. reverse a.functions.items };
+}
+
+/// Whether a function is one of these.
+#[inline(always)]
+fn is_among(function: FunctionId, functions: &[FunctionId]) -> bool
+    ensures { result ≡ list_any (λ g. same_function (id_seen function) (id_seen g)) functions.now }
+{
+    functions.iter().any(|other| function == *other)
+}
+
+impl<'a, T: Drop> Active<'a, T> {
+    /// None is active.
+    pub fn new(alloc: Global) -> Active<'a, T>
+        ensures { result ≡ [] }
+    {
+        Active {
+            functions: Vec::new(alloc),
+            ended: Stack::new(alloc),
+        }
+    }
+
+    /// How many are active.
+    #[inline(always)]
+    pub(crate) fn len(&self) -> usize
+        ensures { result ≡ length (ids_seen self.now) }
+    {
+        self.functions.len()
+    }
+
+    /// Whether a function is active.
+    #[inline(always)]
+    pub(crate) fn contains(&self, function: FunctionId) -> bool
+        ensures { result ≡ list_any (same_function (id_seen function)) (ids_seen self.now) }
+    {
+        is_among(function, self.functions.as_slice())
+    }
+
+    /// A function is active inside of the others.
+    #[inline(always)]
+    pub(crate) fn enter(&mut self, function: FunctionId) -> Result<(), AllocError>
+        ensures { IfOk result (λ _. self.new ≡ function ∷ self.old) }
+    {
+        self.functions.push(function)?;
+        Ok(())
+    }
+
+    /// The innermost one is left.
+    #[inline(always)]
+    pub(crate) fn leave(&mut self)
+        ensures { ids_seen self.new ≡ outer (ids_seen self.old) }
+    {
+        let _left = self.functions.pop();
+    }
+
+    /// A frame for the next call: the memory of one that has ended, or of none.
+    #[inline(always)]
+    pub(crate) fn spare(&mut self, alloc: Global) -> Frame<'a, T>
+        ensures { self.new ≡ self.old }
+    {
+        match self.ended.pop() {
+            Some(frame) => frame,
+            None => Frame::new(alloc),
+        }
+    }
+
+    /// What is in the frame of a function that has ended is let go, and its memory is kept for the next call, unless memory for
+    /// that is refused.
+    #[inline(always)]
+    pub(crate) fn keep(&mut self, frame: Frame<'a, T>)
+        ensures { self.new ≡ self.old }
+    {
+        let mut frame = frame;
+        frame.let_go();
+        let _kept = self.ended.push(frame);
+    }
+}

@@ -1,0 +1,196 @@
+//! Calls.
+
+ghost use Rattle.std.specs.Prelude.{◌≡◌, List, Some, option_map};
+ghost use Rattle.values.specs.declared.value.Value as held;
+ghost use Rattle.meaning.specs.Entry.{called};
+ghost use Rattle.meaning.specs.Instructions.{Codes, code_at};
+ghost use Rattle.meaning.specs.Machine as machine;
+ghost use Rattle.frames.specs.Answers.{id_seen, callee_seen};
+ghost use Rattle.frames.specs.Seen.{seen};
+ghost use Rattle.call_stack.specs.ActiveView.{ids_seen};
+ghost use Rattle.call_stack.specs.CallView.{Begins, Enters, arguments_seen, here_at};
+ghost use Rattle.call_stack.specs.LinkedView.{codes_of};
+
+use crate::active::Active;
+use crate::filling::slots_at_entry;
+use crate::linked::Linked;
+use frames::{Callee, Frame, FunctionId, Operate, Refusal, Slots, Stack, Stop, refused, stop_at};
+use operands::Operand;
+use plain::Text;
+use std::mem::replace;
+
+/// The arguments of a call: those by position, the first at the top, and those by name with their names, the first at the
+/// top.
+#[derive(Drop)]
+pub struct Arguments<'a> {
+    pub items: Stack<Operand<'a>>,
+    pub names: &'a [Text],
+    pub named: Stack<Operand<'a>>,
+}
+
+/// Where a call stands: the number of its file, and its line.
+#[derive(Clone, Copy)]
+pub struct Place {
+    pub file: usize,
+    pub line: usize,
+}
+
+/// What a call comes to: the value of what isn't written in Starlark, or the frame of a function that is.
+#[derive(Drop)]
+pub enum Called<'a, T> {
+    Value(Operand<'a>),
+    Frame(Frame<'a, T>),
+}
+
+/// A function may be active once, and 128 functions at most.
+const MOST_ACTIVE: usize = 128;
+
+/// A frame at the first instruction of a function, in the memory of one that has ended.
+#[inline(always)]
+pub fn frame_at_entry<'a, T: Drop>(
+    ended: Frame<'a, T>,
+    function: FunctionId,
+    slots: Slots<'a>,
+) -> Frame<'a, T>
+    ensures { (rest : T → List held.Value) → seen rest result ≡ machine.frame_of (id_seen
+        function) slots.entry }
+{
+    let Frame {
+        function: _,
+        place: _,
+        slots: _,
+        mut values,
+        mut callees,
+        walk: _,
+        mut outer,
+    } = ended;
+    values.clear();
+    callees.clear();
+    outer.clear();
+    Frame {
+        function,
+        place: 0,
+        slots,
+        values,
+        callees,
+        walk: None,
+        outer,
+    }
+}
+
+/// A function whose arguments fit becomes active, if it isn't yet and if not too many are, with the tick of its call.
+#[inline(always)]
+fn enter<'a, W: Operate<'a>>(
+    world: &W,
+    place: Place,
+    function: FunctionId,
+    slots: Slots<'a>,
+    ended: Frame<'a, W::Walk>,
+    active: &mut Active<'a, W::Walk>,
+    state: &mut W::State,
+) -> Result<Frame<'a, W::Walk>, Stop>
+    ensures { (codes : Codes) → Begins W.rest (λ below. machine.starting (W.operations world.now)
+        codes
+        (here_at place (ids_seen active.old)) (id_seen function) below state.old (Some slots.entry))
+        result
+        (ids_seen active.new) state.new }
+{
+    if active.contains(function) {
+        return Err(refused(world, Refusal::Recursion, place.file, place.line));
+    }
+    if active.len() >= MOST_ACTIVE {
+        return Err(refused(world, Refusal::Deep, place.file, place.line));
+    }
+    if let Err(broken) = world.tick(state) {
+        return Err(stop_at(broken, place.file, place.line));
+    }
+    active.enter(function)?;
+    Ok(frame_at_entry(ended, function, slots))
+}
+
+/// A function written in Starlark is called: the tests of the call, its tick, and a new frame.
+#[inline(always)]
+pub fn call_function<'a, W: Operate<'a>>(
+    world: &W,
+    linked: &'a Linked,
+    place: Place,
+    function: FunctionId,
+    arguments: Arguments<'a>,
+    active: &mut Active<'a, W::Walk>,
+    state: &mut W::State,
+) -> Result<Frame<'a, W::Walk>, Stop>
+    ensures { Begins W.rest (λ below. machine.starts (W.operations world.now) (codes_of linked.now)
+        (here_at place (ids_seen active.old)) (id_seen function) (arguments_seen arguments.entry)
+        below state.old
+        (code_at (codes_of linked.now) (id_seen function))) result (ids_seen active.new) state.new }
+{
+    let Some(code) = linked.function(function) else {
+        return Err(refused(world, Refusal::WrongType, place.file, place.line));
+    };
+    let Arguments {
+        items,
+        names,
+        named,
+    } = arguments;
+    let mut ended = active.spare(world.alloc());
+    let mut empty = replace(&mut ended.slots, Slots::new(world.alloc()));
+    empty.let_go();
+    let defaults = world.defaults(state, function);
+    let entry = slots_at_entry(
+        empty,
+        code.params(),
+        code.slots(),
+        defaults,
+        items,
+        names,
+        named,
+    )?;
+    let Some(slots) = entry else {
+        return Err(refused(world, Refusal::Arity, place.file, place.line));
+    };
+    enter(world, place, function, slots, ended, active, state)
+}
+
+/// Which function written in Starlark is called, if one is.
+#[inline(always)]
+fn function_of<'a, W: Operate<'a>>(world: &W, callee: &Callee) -> Option<FunctionId>
+    ensures { option_map id_seen result ≡ called (W.operations world.now) (callee_seen callee.now) }
+{
+    match callee {
+        Callee::Plain(value) => world.function(value.item()),
+        Callee::Method(_, _) => None,
+    }
+}
+
+/// A call: of a function written in Starlark, which gives its frame, or of something else, which gives its value.
+#[inline(always)]
+pub fn call<'a, W: Operate<'a>>(
+    world: &W,
+    linked: &'a Linked,
+    place: Place,
+    callee: &Callee<'a>,
+    arguments: Arguments<'a>,
+    active: &mut Active<'a, W::Walk>,
+    state: &mut W::State,
+) -> Result<Called<'a, W::Walk>, Stop>
+    ensures { Enters W.rest (λ below. machine.start (W.operations world.now) (codes_of linked.now)
+        (here_at place (ids_seen active.old)) (callee_seen callee.now) (arguments_seen
+        arguments.entry) below state.old) result
+        (ids_seen active.new) state.new }
+{
+    if let Some(function) = function_of(world, callee) {
+        return match call_function(world, linked, place, function, arguments, active, state) {
+            Ok(frame) => Ok(Called::Frame(frame)),
+            Err(stop) => Err(stop),
+        };
+    }
+    let Arguments {
+        items,
+        names,
+        named,
+    } = arguments;
+    match world.call(state, callee, items, names, named) {
+        Ok(value) => Ok(Called::Value(value)),
+        Err(broken) => Err(stop_at(broken, place.file, place.line)),
+    }
+}

@@ -1,0 +1,187 @@
+//! What the parameters of a function get.
+
+ghost use Rattle.std.specs.Prelude.{◌≡◌, ◌++◌, [], None, position, replicate, slice_get, option_copied, option_map, bytes_eq, IfOk};
+ghost use Rattle.std.specs.List.{list_any, list_all};
+ghost use Rattle.std.specs.Map.{lookup};
+ghost use Rattle.meaning.specs.Entry.{all_known, defaults_of, entry, filled, paired};
+ghost use Rattle.frames.specs.Answers.{given};
+ghost use Rattle.operands.specs.Lying.{stored_value};
+ghost use Rattle.frames.specs.Kept.{defaults_seen};
+ghost use Rattle.call_stack.specs.Filled.{default_at, got};
+
+use frames::{Defaults, Slots, Stack};
+use operands::{Operand, Stored};
+use plain::Text;
+use std::alloc::{AllocError, Global};
+
+/// The place of a name.
+fn place_of(name: &Text, names: &[Text]) -> Option<usize>
+    ensures { result ≡ position (bytes_eq name.now) names.now }
+{
+    names.iter().position(|other| *name == *other)
+}
+
+/// The value of an argument by its name, if there is one of this name.
+fn named_value<'a, 'b>(
+    param: &Text,
+    names: &[Text],
+    named: &'b [Operand<'a>],
+) -> Option<&'b Operand<'a>>
+    ensures { option_copied result ≡ lookup (bytes_eq param.now) (paired names.now named.now) }
+{
+    match place_of(param, names) {
+        Some(index) => value_at(named, index),
+        None => None,
+    }
+}
+
+/// Whether a name is that of a parameter.
+fn is_param(params: &[Text], name: &Text) -> bool
+    ensures { result ≡ list_any (bytes_eq name.now) params.now }
+{
+    params.iter().any(|param| *name == *param)
+}
+
+/// Whether each name is that of a parameter.
+fn are_params(params: &[Text], names: &[Text]) -> bool
+    ensures { result ≡ list_all (λ n. list_any (bytes_eq n) params.now) names.now }
+{
+    names.iter().all(|name| is_param(params, name))
+}
+
+/// Whether each argument by name is one of a parameter.
+fn are_known(params: &[Text], names: &[Text], named: &[Operand<'_>]) -> bool
+    ensures { result ≡ all_known params.now (paired names.now named.now) }
+{
+    let count = names.len().min(named.len());
+    are_params(params, &names[..count])
+}
+
+/// What one parameter gets, if it gets something.
+fn given_to<'a>(
+    param: &Text,
+    item: Option<Operand<'a>>,
+    names: &[Text],
+    named: &[Operand<'a>],
+    default: Option<Stored<'a, '_>>,
+) -> Result<Option<Operand<'a>>, AllocError>
+    ensures { IfOk result (λ o. o ≡ got param.now item.entry (paired names.now named.now)
+        (option_map stored_value default.entry)) }
+{
+    let by_name = named_value(param, names, named);
+    match item {
+        Some(value) => match by_name {
+            Some(_) => Ok(None),
+            None => Ok(Some(value)),
+        },
+        None => match by_name {
+            Some(value) => Ok(Some(value.share()?)),
+            None => match default {
+                Some(value) => Ok(Some(value.operand()?)),
+                None => Ok(None),
+            },
+        },
+    }
+}
+
+/// The value at a place.
+fn value_at<T>(values: &[T], index: usize) -> Option<&T>
+    ensures { option_copied result ≡ slice_get values.now index }
+{
+    values.get(index)
+}
+
+/// The default of a parameter by its place, where so many parameters have none.
+fn default_of<'a, 'b>(
+    defaults: Defaults<'a, 'b>,
+    without: usize,
+    index: usize,
+) -> Option<Stored<'a, 'b>>
+    ensures { option_map stored_value result
+        ≡ default_at without index (defaults_seen defaults.entry) }
+{
+    if index < without {
+        None
+    } else {
+        defaults.get(index - without)
+    }
+}
+
+/// What the parameters get, in their order, in slots that have none yet; None where the arguments don't fit them.
+fn fill<'a>(
+    empty: Slots<'a>,
+    params: &[Text],
+    defaults: Defaults<'a, '_>,
+    items: Stack<Operand<'a>>,
+    names: &[Text],
+    named: &[Operand<'a>],
+) -> Result<Option<Slots<'a>>, AllocError>
+    requires { empty ≡ [] }
+    ensures { IfOk result (λ o. o ≡ filled params.now items.entry (paired names.now named.now)
+        (defaults_of params.now (defaults_seen defaults.entry))) }
+{
+    let mut items = items;
+    let mut slots = empty;
+    let without = params.len().saturating_sub(defaults.len());
+    for (index, param) in params.iter().enumerate() {
+        let default = default_of(defaults, without, index);
+        match given_to(param, items.pop(), names, named, default)? {
+            Some(value) => slots.push(Some(value))?,
+            None => return Ok(None),
+        }
+    }
+    if items.len() > 0 {
+        return Ok(None);
+    }
+    Ok(Some(slots))
+}
+
+/// So many slots more, in which nothing is set.
+fn pad(slots: &mut Slots<'_>, count: usize) -> Result<(), AllocError>
+    ensures { IfOk result (λ _. slots.new ≡ slots.old ++ replicate count None) }
+{
+    for _ in 0..count {
+        slots.push(None)?;
+    }
+    Ok(())
+}
+
+/// As many slots, in which nothing is set.
+pub fn unset<'a>(alloc: Global, count: usize) -> Result<Slots<'a>, AllocError>
+    ensures { IfOk result (λ slots. slots ≡ replicate count None) }
+{
+    let mut slots = Slots::new(alloc);
+    slots.reserve(count)?;
+    pad(&mut slots, count)?;
+    Ok(slots)
+}
+
+/// The slots at the entry of a function, in slots that have none yet; None where the arguments don't fit its parameters.
+#[tactic(auto, unfolding(meaning::specs::Entry::entry))]
+pub(crate) fn slots_at_entry<'a>(
+    empty: Slots<'a>,
+    params: &[Text],
+    count: usize,
+    defaults: Defaults<'a, '_>,
+    items: Stack<Operand<'a>>,
+    names: &[Text],
+    named: Stack<Operand<'a>>,
+) -> Result<Option<Slots<'a>>, AllocError>
+    requires { empty ≡ [] }
+    ensures { IfOk result (λ o. o ≡ entry params.now count (defaults_seen defaults.entry)
+        (given items.entry names.now named.entry)) }
+{
+    let named = named.into_vec();
+    if !are_known(params, names, named.as_slice()) {
+        return Ok(None);
+    }
+    let mut empty = empty;
+    empty.reserve(count)?;
+    match fill(empty, params, defaults, items, names, named.as_slice())? {
+        None => Ok(None),
+        Some(mut slots) => {
+            pad(&mut slots, count.saturating_sub(params.len()))?;
+            Ok(Some(slots))
+        }
+    }
+}

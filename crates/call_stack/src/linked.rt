@@ -1,0 +1,79 @@
+//! Codes that are linked.
+
+ghost use Rattle.std.specs.Prelude.{◌≡◌, [], ◌∷◌, ◌++◌, IfOk, IfSome, ◌<◌, ◌^◌, option_copied, option_map};
+ghost use Rattle.meaning.specs.Linked.{AreFileCodes};
+
+use code::{Code, FunctionCode, Lined};
+use frames::FunctionId;
+use std::alloc::{AllocError, Global};
+
+/// The codes of linked files, each compiled from a file of its own. A file's number is its place among them.
+#[derive(Drop)]
+pub struct Linked {
+    files: Vec<Code>,
+    pub ghost compiled: { ∥ AreFileCodes files.items ∥₁ },
+}
+
+impl Linked {
+    ghost use Rattle.meaning.specs.Instructions.{code_at, code_line};
+    ghost use Rattle.meaning.specs.Performing.{place};
+    ghost use Rattle.code.specs.View.{lined_seen};
+    ghost use Rattle.frames.specs.Answers.{id_seen};
+    ghost use Rattle.call_stack.specs.LinkedView.{codes_of};
+
+    /// No files.
+    pub fn new(alloc: Global) -> Linked
+        ensures { codes_of result ≡ [] }
+    {
+        Linked {
+            files: Vec::new(alloc),
+        }
+    }
+
+    /// One file more: its number is how many there were.
+    ///
+    /// # Errors
+    ///
+    /// Memory was refused.
+    pub fn add(&mut self, code: Code) -> Result<(), AllocError>
+        ensures { IfOk result (λ _. codes_of self.new ≡ codes_of self.old ++ code ∷ []) }
+    {
+        let _compiled = code.functions();
+        self.files.push(code)?;
+        Ok(())
+    }
+
+    /// The code of a function; None where there is none.
+    #[inline(always)]
+    pub fn function(&self, function: FunctionId) -> Option<&FunctionCode>
+        ensures { option_copied result ≡ code_at (codes_of self.now) (id_seen function) }
+    {
+        match self.files.get(function.file) {
+            Some(code) => code.functions().get(function.number),
+            None => None,
+        }
+    }
+
+    /// The line of a function's `def`; a file's top level has none.
+    pub fn def_line(&self, function: FunctionId) -> Option<usize>
+        ensures { result ≡ code_line (codes_of self.now) (id_seen function) }
+    {
+        match self.function(function) {
+            Some(code) => code.line(),
+            None => None,
+        }
+    }
+
+    /// The instruction at a place of a function, with its line.
+    #[inline(always)]
+    pub fn instruction(&self, function: FunctionId, at: usize) -> Option<&Lined>
+        ensures there { option_map lined_seen (option_copied result)
+            ≡ place (codes_of self.now) (id_seen function) at }
+        ensures short { IfSome result (λ _. at < 2 ^ 63) }
+    {
+        match self.function(function) {
+            Some(code) => code.instructions().get(at),
+            None => None,
+        }
+    }
+}

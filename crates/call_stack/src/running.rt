@@ -1,0 +1,319 @@
+//! What runs, and what calls and the ends of functions do to it.
+
+ghost use Rattle.std.specs.Prelude.{◌≡◌, ◌<◌, ◌^◌, [], ◌∷◌, List, length, map, IfOk};
+ghost use Rattle.values.specs.declared.value.Value as held;
+ghost use Rattle.meaning.specs.Entry.{paired};
+ghost use Rattle.meaning.specs.Instructions as instr;
+ghost use Rattle.meaning.specs.Machine as machine;
+ghost use Rattle.frames.specs.Answers.{Says, callee_seen, id_seen};
+ghost use Rattle.frames.specs.Seen.{here_of, seen, walk_seen, walks_seen};
+ghost use Rattle.call_stack.specs.ActiveView.{ids_seen};
+ghost use Rattle.call_stack.specs.CallView.{arguments_seen, entered};
+ghost use Rattle.call_stack.specs.LinkedView.{codes_of};
+ghost use Rattle.call_stack.specs.RunView.{Calling, Does, Moves, asked};
+
+use crate::active::Active;
+use crate::calling::{Arguments, Called, Place, call};
+use crate::linked::Linked;
+use code::Defined;
+use frames::{Callee, Frame, FunctionId, Operate, Stack, Step, Stop, Walk, stop_at, take};
+use operands::Operand;
+use plain::Text;
+use std::alloc::AllocError;
+use std::mem::replace;
+use values::{Broken, Value};
+
+/// A run that goes on: the frame of the function that runs, those of its callers, and the functions that are active.
+#[derive(Drop)]
+pub struct Running<'a, T> {
+    pub top: Frame<'a, T>,
+    pub below: Stack<Frame<'a, T>>,
+    pub active: Active<'a, T>,
+}
+
+/// What an instruction calls, and with which arguments.
+#[derive(Drop)]
+pub(crate) struct Asked<'a> {
+    pub(crate) callee: Callee<'a>,
+    pub(crate) arguments: Arguments<'a>,
+}
+
+/// What an instruction calls is taken, with its arguments: the values of the names are at the top, those by position below
+/// them.
+#[tactic(auto, using(frames::proofs::Popping::pops_popped))]
+#[inline(always)]
+fn take_call<'a, W: Operate<'a>>(
+    world: &W,
+    count: usize,
+    names: &'a [Text],
+    values: &mut Stack<Operand<'a>>,
+    callees: &mut Stack<Callee<'a>>,
+) -> Result<Option<Asked<'a>>, AllocError>
+    ensures { (go : Calling W.State) → IfOk result (λ o. machine.pops (length names.now) []
+        values.old
+        (λ ws os. machine.pops count [] os (λ vs os. machine.on_top (map callee_seen callees.old)
+        (λ g gs. go g (record { items = vs; named = paired names.now ws }) os gs)))
+        ≡ asked o values.new callees.new go) }
+{
+    let mut named = Stack::new(world.alloc());
+    if !take(names.len(), values, &mut named)? {
+        return Ok(None);
+    }
+    let mut items = Stack::new(world.alloc());
+    if !take(count, values, &mut items)? {
+        return Ok(None);
+    }
+    match callees.pop() {
+        Some(callee) => Ok(Some(Asked {
+            callee,
+            arguments: Arguments {
+                items,
+                names,
+                named,
+            },
+        })),
+        None => Ok(None),
+    }
+}
+
+/// The run goes on with what a call came to.
+#[inline(always)]
+fn go_on<'a, W: Operate<'a>>(
+    _world: &W,
+    called: Called<'a, W::Walk>,
+    r: &mut Running<'a, W::Walk>,
+) -> Result<Step, Stop>
+    ensures { (s : W.State) → Moves W.rest
+        (entered W.rest (seen W.rest r.old.top ∷ map (seen W.rest) r.old.below) (ids_seen
+        r.old.active) called.entry s) result
+        r.new s }
+{
+    match called {
+        Called::Value(value) => r.top.values.push(value)?,
+        Called::Frame(frame) => {
+            let caller = replace(&mut r.top, frame);
+            r.below.push(caller)?;
+        }
+    }
+    Ok(Step::More)
+}
+
+/// The innermost function ends with a value, which its caller gets; without a caller the run is over.
+#[inline(always)]
+fn leave_with<'a, W: Operate<'a>>(
+    _world: &W,
+    value: Operand<'a>,
+    r: &mut Running<'a, W::Walk>,
+) -> Result<Step, Stop>
+    ensures { (s : W.State) → Moves W.rest
+        (machine.returning value.entry (map (seen W.rest) r.old.below) (machine.outer (ids_seen
+        r.old.active)) s) result r.new s }
+{
+    r.active.leave();
+    match r.below.pop() {
+        None => Ok(Step::Over(value.into_value()?)),
+        Some(caller) => {
+            let ended = replace(&mut r.top, caller);
+            r.active.keep(ended);
+            r.top.values.push(value)?;
+            Ok(Step::More)
+        }
+    }
+}
+
+/// Walks end, the first one first.
+fn end_outer<'a, W: Operate<'a>>(
+    world: &W,
+    walks: &mut Stack<Walk<'a, W::Walk>>,
+    state: &mut W::State,
+)
+    ensures { state.new ≡ machine.all_ended (W.operations world.now) (map (walk_seen W.rest)
+        walks.old) state.old }
+{
+    while let Some(walk) = walks.pop() {
+        world.end(state, walk.of.item());
+    }
+}
+
+/// All walks of a frame end, the innermost first.
+fn end_walks<'a, W: Operate<'a>>(
+    world: &W,
+    walk: Option<Walk<'a, W::Walk>>,
+    outer: &mut Stack<Walk<'a, W::Walk>>,
+    state: &mut W::State,
+)
+    ensures { state.new ≡ machine.all_ended (W.operations world.now) (walks_seen W.rest
+        walk.entry outer.old) state.old }
+{
+    if let Some(walk) = walk {
+        world.end(state, walk.of.item());
+        end_outer(world, outer, state);
+    }
+}
+
+/// A call, of what an instruction asks for.
+#[inline(always)]
+pub(crate) fn call_asked<'a, W: Operate<'a>>(
+    world: &W,
+    linked: &'a Linked,
+    line: usize,
+    asked: Asked<'a>,
+    r: &mut Running<'a, W::Walk>,
+    state: &mut W::State,
+) -> Result<Step, Stop>
+    ensures { Moves W.rest (machine.start (W.operations world.now) (codes_of linked.now)
+        (here_of r.old.top line (ids_seen r.old.active)) (callee_seen asked.entry.callee)
+        (arguments_seen asked.entry.arguments)
+        (seen W.rest r.old.top ∷ map (seen W.rest) r.old.below) state.old) result r.new state.new }
+{
+    let Asked { callee, arguments } = asked;
+    let place = Place {
+        file: r.top.function.file,
+        line,
+    };
+    match call(
+        world,
+        linked,
+        place,
+        &callee,
+        arguments,
+        &mut r.active,
+        state,
+    ) {
+        Ok(called) => go_on(world, called, r),
+        Err(stop) => Err(stop),
+    }
+}
+
+/// A call with so many values by position, and those of these names behind them.
+#[inline(never)]
+pub fn call_with<'a, W: Operate<'a>>(
+    world: &W,
+    linked: &'a Linked,
+    line: usize,
+    count: usize,
+    names: &'a [Text],
+    r: &mut Running<'a, W::Walk>,
+    state: &mut W::State,
+) -> Result<Step, Stop>
+    requires { r.old.top.place < 2 ^ 63 }
+    ensures { Does W.rest (W.operations world.now) (codes_of linked.now) line (instr.call count
+        names.now) r.old state.old
+        result r.new state.new }
+{
+    let top = &mut r.top;
+    let Some(asked) = take_call(world, count, names, &mut top.values, &mut top.callees)? else {
+        return Ok(Step::Stuck);
+    };
+    r.top.place += 1;
+    call_asked(world, linked, line, asked, r, state)
+}
+
+/// A function gives the top back, when its walks have ended.
+#[inline(never)]
+pub fn give_back<'a, W: Operate<'a>>(
+    world: &W,
+    line: usize,
+    r: &mut Running<'a, W::Walk>,
+    state: &mut W::State,
+) -> Result<Step, Stop>
+    ensures { (codes : instr.Codes) → Does W.rest (W.operations world.now) codes line
+        instr.give_back r.old state.old result
+        r.new state.new }
+{
+    let Some(value) = r.top.values.pop() else {
+        return Ok(Step::Stuck);
+    };
+    let walk = r.top.walk.take();
+    end_walks(world, walk, &mut r.top.outer, state);
+    leave_with(world, value, r)
+}
+
+/// To the next turn of the innermost walk; without a walk the function ends.
+#[inline(always)]
+pub fn again<'a, W: Operate<'a>>(
+    world: &W,
+    line: usize,
+    r: &mut Running<'a, W::Walk>,
+) -> Result<Step, Stop>
+    ensures { (codes : instr.Codes) (s : W.State) → Does W.rest (W.operations world.now) codes
+        line instr.again r.old s result
+        r.new s }
+{
+    if r.top.walk.is_none() {
+        leave_with(world, Operand::own(world.none()), r)
+    } else {
+        frames::again(world, line, &mut r.top)
+    }
+}
+
+/// Out of the innermost walk; without a walk the function ends.
+pub fn stop_walk<'a, W: Operate<'a>>(
+    world: &W,
+    line: usize,
+    r: &mut Running<'a, W::Walk>,
+    state: &mut W::State,
+) -> Result<Step, Stop>
+    ensures { (codes : instr.Codes) → Does W.rest (W.operations world.now) codes line
+        instr.stop_walk r.old state.old result
+        r.new state.new }
+{
+    if r.top.walk.is_none() {
+        leave_with(world, Operand::own(world.none()), r)
+    } else {
+        frames::stop_walk(world, line, &mut r.top, state)
+    }
+}
+
+/// The function that a `def` makes, with the name that it has in the linked code.
+fn made<'a, W: Operate<'a>>(
+    world: &W,
+    linked: &'a Linked,
+    function: FunctionId,
+    defaults: Stack<Operand<'a>>,
+    state: &mut W::State,
+) -> Result<Value, Broken>
+    ensures { Says ((W.operations world.now).define (id_seen function) (instr.code_name (codes_of
+        linked.now) (id_seen function))
+        defaults.entry state.old) result state.new }
+{
+    match linked.function(function) {
+        Some(code) => world.define(state, function, code.name(), defaults),
+        None => {
+            let name = Text::new(world.alloc(), "")?;
+            world.define(state, function, &name, defaults)
+        }
+    }
+}
+
+/// A function is made, with so many defaults.
+#[tactic(auto, using(frames::proofs::Popping::pops_popped))]
+pub fn define<'a, W: Operate<'a>>(
+    world: &W,
+    linked: &'a Linked,
+    line: usize,
+    defined: Defined,
+    r: &mut Running<'a, W::Walk>,
+    state: &mut W::State,
+) -> Result<Step, Stop>
+    requires { r.old.top.place < 2 ^ 63 }
+    ensures { Does W.rest (W.operations world.now) (codes_of linked.now) line (instr.define
+        defined.function defined.defaults)
+        r.old state.old result r.new state.new }
+{
+    let mut defaults = Stack::new(world.alloc());
+    if !take(defined.defaults, &mut r.top.values, &mut defaults)? {
+        return Ok(Step::Stuck);
+    }
+    let function = FunctionId {
+        file: r.top.function.file,
+        number: defined.function,
+    };
+    let value = match made(world, linked, function, defaults, state) {
+        Ok(value) => value,
+        Err(broken) => return Err(stop_at(broken, r.top.function.file, line)),
+    };
+    r.top.values.push(Operand::own(value))?;
+    r.top.place += 1;
+    Ok(Step::More)
+}

@@ -1,6 +1,0 @@
-use Rattle.std.proofs.Common.{◌∙◌, sym}
-use Rattle.machine.proofs.Named.{known_taken}
-use Rattle.machine.proofs.filling.are_known.Goals as goal
-
-pub returns : goal.returns
-returns c = c.are_params.ensures ∙ sym (known_taken c.args.params.now c.args.names.now c.args.named.now c.min-count.result c.min-count.ensures)
