@@ -2,7 +2,7 @@
 
 use evaluation::TopNames;
 use language_calls::DefaultInfo;
-use machine::Linked;
+use call_stack::Linked;
 use plain::{Shared, Text};
 use std::alloc::Global;
 

@@ -8,7 +8,7 @@ ghost use Rattle.sources.specs.Done.{AreDone, IsDoneAt};
 
 use crate::files::PathAndText;
 use crate::kept::{FileDone, Kept, read_file};
-use machine::Linked;
+use call_stack::Linked;
 use parallel::map_places;
 use std::alloc::{AllocError, Global};
 use std::thread::Threads;

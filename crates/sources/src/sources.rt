@@ -17,7 +17,7 @@ use crate::shares::statements;
 use evaluation::TopNames;
 use lexer::FaultKind;
 use loading::FileRead;
-use machine::Linked;
+use call_stack::Linked;
 use plain::{Shared, Text};
 use std::alloc::{AllocError, Global};
 use std::marker::Model;

@@ -16,7 +16,7 @@ use contexts::Work;
 use frames::FunctionId;
 use language::Whole;
 use loading::Placed;
-use machine::Linked;
+use call_stack::Linked;
 use operations::State;
 use plain::Text;
 use std::alloc::{AllocError, Global};
