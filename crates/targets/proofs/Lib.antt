@@ -11,3 +11,4 @@ pub mod Reading
 mod EachMade
 mod TextLists
 pub mod TextDicts
+pub mod Crossing
