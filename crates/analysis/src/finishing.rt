@@ -193,7 +193,7 @@ fn missing_default_info(
 fn no_files(alloc: Global, label: &Label) -> Result<Depset, AllocError>
     ensures { IfOk result (λ d. d ≡ first_depset (label_text label.now) []) }
 {
-    let owner = Text::new(alloc, label.text())?;
+    let owner = label.shared_text().share()?;
     let id = Id { owner, serial: 0 };
     match Depset::new(alloc, id, Order::Default, Vec::new(alloc), Vec::new(alloc)) {
         Ok(depset) => Ok(depset),

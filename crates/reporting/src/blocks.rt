@@ -48,11 +48,7 @@ fn own_actions<'a>(
 }
 
 /// Takes the actions of a node.
-fn own_node<'a>(
-    alloc: Global,
-    owned: &mut Vec<Owned<'a>>,
-    node: &Node<'a>,
-) -> Result<(), AllocError>
+fn own_node<'a>(owned: &mut Vec<Owned<'a>>, node: &Node<'a>) -> Result<(), AllocError>
     ensures { OnOk result
         (owned.new.items ≡ owned.old.items ++ node_actions (node_seen node.now)) }
 {
@@ -60,8 +56,7 @@ fn own_node<'a>(
     if actions.is_empty() {
         return Ok(());
     }
-    let text = Text::new(alloc, node.label.text())?;
-    own_actions(owned, &text, actions)
+    own_actions(owned, node.label.shared_text(), actions)
 }
 
 /// The actions of nodes, with their owners.
@@ -70,7 +65,7 @@ fn owned_actions<'a>(alloc: Global, nodes: &[Node<'a>]) -> Result<Vec<Owned<'a>>
 {
     let mut owned = Vec::new(alloc);
     for node in nodes {
-        own_node(alloc, &mut owned, node)?;
+        own_node(&mut owned, node)?;
     }
     Ok(owned)
 }

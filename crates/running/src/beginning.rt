@@ -102,7 +102,7 @@ fn state_of_target<'a>(
     Ok(State {
         heap: Heap::new(alloc),
         ticks: Ticks::new(limit),
-        owner: Text::new(alloc, label.text())?,
+        owner: label.shared_text().share()?,
         depsets: 0,
         file: number_past(paths)?,
         globals: unbound(alloc, 0)?,
