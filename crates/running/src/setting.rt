@@ -1,8 +1,8 @@
 //! What runs.
 
+use call_stack::Linked;
 use evaluation::TopNames;
 use language_calls::DefaultInfo;
-use call_stack::Linked;
 use plain::{Shared, Text};
 use std::alloc::Global;
 
