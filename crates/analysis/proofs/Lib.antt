@@ -1,4 +1,5 @@
 pub mod Notes
+pub mod Keyed
 pub mod Finding
 pub mod Making
 pub mod Returning

@@ -1,4 +1,4 @@
--- Labels that are noted, in a list and in a set.
+-- Labels by their parts.
 use Rattle.std.proofs.Common.{◌≡◌, ◌∙◌, ℕ, Bool, true, false, ◌&&◌, ◌||◌, List, [], ◌∷◌, ◌++◌, ap, sym, refl, cond}
 use Rattle.std.proofs.lemmas.Cmp.{nat_list_eq_equiv}
 use Rattle.std.proofs.lemmas.List.Folds.{list_any-append}
@@ -37,24 +37,6 @@ at_label k q =
     at : (x y : List ℕ) → is_at (slice_cmp nat_cmp x) y ≡ bytes_eq y x
     at x y = sym (texts_ties x y) ∙ nat_list_eq_equiv.symm x y
 
-pub noted_none : (seen : BTreeSet Parts) → seen.keys ≡ [] → IsNoted [] seen
-noted_none seen none = λ q. ap (list_any (is_at (parts_cmp q))) none
-
-either : (a b : Bool) → cond a true b ≡ (b || (a || false))
-either true true = refl
-either true false = refl
-either false true = refl
-either false false = refl
-
-pub noted_last : (ls : List LabelParts) (olds news : BTreeSet Parts) (k : Parts) → IsNoted ls olds → Updates parts_cmp olds news k true → IsNoted (ls ++ parts_label k ∷ []) news
-noted_last ls olds news k h more = λ q.
-    more.0 q ∙ rw (at_label k q, h q) (either (same_label (parts_label q) (parts_label k)) (list_any (same_label (parts_label q)) ls))
-    ∙ sym (list_any-append (same_label (parts_label q)) ls (parts_label k ∷ []))
-
 -- package and name of a label are its parts
 pub parts_are : (k : Parts) (a b l : LabelParts) → k.1.now ≡ a.«package» → k.0.now ≡ b.name → a ≡ l → b ≡ l → parts_label k ≡ l
 parts_are k a b l p n x y = λ i. record { «package» = (p ∙ ap (λ (m : LabelParts). m.«package») x) i; name = (n ∙ ap (λ (m : LabelParts). m.name) y) i }
-
--- a label that is there isn't put again
-pub kept_present : (ls : List LabelParts) (l : LabelParts) → list_any (same_label l) ls ≡ true → ls ≡ keep same_label ls l
-kept_present ls l h = sym (ap (λ b. cond b ls (ls ++ l ∷ [])) h)

@@ -1,3 +1,4 @@
+pub mod Keyed
 pub mod Noted
 pub mod Seen
 pub mod Made

@@ -4,16 +4,14 @@ ghost use Rattle.depsets.specs.Keys.{keep, keep_all};
 ghost use Rattle.targets.specs.Attributes.{labels_in};
 ghost use Rattle.targets.specs.RuleCalls.{same_label};
 ghost use Rattle.targets.specs.Resolving.{dependencies};
-ghost use Rattle.analysis.specs.Noted.{IsNoted};
+ghost use Rattle.analysis.specs.Keyed.{IsNoted};
 
+use crate::label_keys::{LabelKey, label_key};
 use plain::Shared;
 use std::alloc::{AllocError, Global};
 use std::collections::BTreeSet;
 use targets::{AttributeValue, Sequence, Target};
 use workspace::Label;
-
-/// Name and package of a label, by which it is found: in one package the first alone is looked at.
-type Parts<'a> = (&'a str, &'a str);
 
 /// The dependencies of a target: the labels that it has for its attributes, in order, each at its first place alone.
 ///
@@ -32,7 +30,7 @@ pub fn dependencies(alloc: Global, target: &Target) -> Result<Sequence<Shared<La
 /// Notes the labels of a value.
 fn note_value<'a>(
     value: &'a AttributeValue,
-    seen: &mut BTreeSet<Parts<'a>>,
+    seen: &mut BTreeSet<LabelKey<'a>>,
     labels: &mut Sequence<Shared<Label>>,
 ) -> Result<(), AllocError>
     requires { IsNoted labels.old seen.old }
@@ -53,7 +51,7 @@ fn note_value<'a>(
 /// Notes labels, in order.
 fn note_all<'a>(
     all: &'a [Shared<Label>],
-    seen: &mut BTreeSet<Parts<'a>>,
+    seen: &mut BTreeSet<LabelKey<'a>>,
     labels: &mut Sequence<Shared<Label>>,
 ) -> Result<(), AllocError>
     requires { IsNoted labels.old seen.old }
@@ -69,14 +67,14 @@ fn note_all<'a>(
 /// Notes a label, unless it is noted.
 fn note<'a>(
     label: &'a Shared<Label>,
-    seen: &mut BTreeSet<Parts<'a>>,
+    seen: &mut BTreeSet<LabelKey<'a>>,
     labels: &mut Sequence<Shared<Label>>,
 ) -> Result<(), AllocError>
     requires { IsNoted labels.old seen.old }
     ensures labels { OnOk result (labels.new ≡ keep same_label labels.old label.now) }
     ensures noted { OnOk result (IsNoted labels.new seen.new) }
 {
-    let is_new = seen.insert((label.get().name(), label.get().package()))?;
+    let is_new = seen.insert(label_key(label.get()))?;
     if is_new {
         labels.push(label.share()?)?;
     }

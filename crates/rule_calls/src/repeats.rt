@@ -4,6 +4,7 @@ ghost use Rattle.std.specs.List.{list_any};
 ghost use Rattle.targets.specs.RuleCalls.{is_given, repeats, repeats_label, repeats_given};
 
 use crate::given::ByName;
+use analysis::label_key;
 use plain::Shared;
 use std::alloc::{AllocError, Global};
 use std::collections::BTreeSet;
@@ -64,7 +65,7 @@ fn repeats(alloc: Global, labels: &[Shared<Label>]) -> Result<bool, AllocError>
 {
     let mut seen = BTreeSet::new(alloc);
     for label in labels {
-        let is_new = seen.insert((label.get().name(), label.get().package()))?;
+        let is_new = seen.insert(label_key(label.get()))?;
         if !is_new {
             return Ok(true);
         }

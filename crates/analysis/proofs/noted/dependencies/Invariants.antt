@@ -4,7 +4,7 @@ use Rattle.depsets.specs.Keys.{keep_all}
 use Rattle.targets.specs.Attributes.{labels_in}
 use Rattle.targets.specs.RuleCalls.{same_label}
 use Rattle.targets.specs.Resolving.{dependencies}
-use Rattle.analysis.specs.Noted.{IsNoted}
+use Rattle.analysis.specs.Keyed.{IsNoted}
 use Rattle.analysis.proofs.noted.dependencies.Given as goal
 
 abbrev pub invariant-loop-value : goal.invariant-loop-value

@@ -1,7 +1,7 @@
 use Rattle.std.proofs.Common.{◌≡◌, drop}
 use Rattle.depsets.specs.Keys.{keep_all}
 use Rattle.targets.specs.RuleCalls.{same_label}
-use Rattle.analysis.specs.Noted.{IsNoted}
+use Rattle.analysis.specs.Keyed.{IsNoted}
 use Rattle.analysis.proofs.noted.note_all.Given as goal
 
 abbrev pub invariant-loop-label : goal.invariant-loop-label

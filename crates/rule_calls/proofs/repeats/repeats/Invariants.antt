@@ -1,5 +1,5 @@
 use Rattle.std.proofs.Common.{◌≡◌, false, take}
-use Rattle.analysis.specs.Noted.{IsNoted}
+use Rattle.analysis.specs.Keyed.{IsNoted}
 use Rattle.targets.specs.RuleCalls.{repeats}
 use Rattle.rule_calls.proofs.repeats.repeats.Given as goal
 

@@ -1,0 +1,56 @@
+-- Labels that are noted, in a list and in a set of keys.
+use Rattle.std.proofs.Common.{◌≡◌, ◌∙◌, ℕ, Bool, true, false, ◌&&◌, ◌||◌, List, [], ◌∷◌, ◌++◌, ap, sym, refl, cond}
+use Rattle.std.proofs.lemmas.List.Folds.{list_any-append}
+use Rattle.std.specs.BTreeMap.{is_at}
+use Rattle.std.specs.BTreeSet.{BTreeSet, Updates}
+use Rattle.std.specs.Cmp.{nat_cmp_is}
+use Rattle.std.specs.Cmp.Lexicographic.{slice_cmp}
+use Rattle.std.specs.List.{list_any}
+use Rattle.std.specs.Ordering.{nat_cmp, ordering_then}
+use Rattle.std.specs.declared.cmp.Ordering.{Ordering}
+use Rattle.std.specs.declared.cmp.Ordering.TheVariants.{Equal}
+use Rattle.depsets.specs.Keys.{keep}
+use Rattle.workspace.specs.Labels.{LabelParts, label_text}
+use Rattle.targets.proofs.Facts.{same_label-same}
+use Rattle.targets.specs.RuleCalls.{same_label}
+use Rattle.analysis.specs.Keyed.{Key, key_label, key_cmp, digest, IsKey, IsNoted}
+use Rattle.analysis.proofs.Notes.{both_at, at_label}
+
+-- a test that follows from another says no more beside it
+implied : (a b : Bool) → (b ≡ true → a ≡ true) → (a && b) ≡ b
+implied true b h = refl
+implied false true h = h refl
+implied false false h = refl
+
+same_digest : (m n : ℕ) → n ≡ m → is_at (λ (u : ℕ). nat_cmp m n) 0 ≡ true
+same_digest m n e =
+    ap (λ (d : ℕ). is_at (λ (u : ℕ). nat_cmp m d) 0) e
+    ∙ ap (λ (o : Ordering). is_at (λ (u : ℕ). o) 0) (sym (nat_cmp_is m m Equal refl))
+
+-- the order of keys tells labels as their test does
+pub at_key : (k q : Key) → IsKey k → IsKey q → is_at (key_cmp k) q ≡ same_label (key_label q) (key_label k)
+at_key k q of_k of_q =
+    let same = at_label (k.1, k.2) (q.1, q.2) in
+    let tests = both_at (nat_cmp k.0 q.0) (ordering_then (slice_cmp nat_cmp k.1.now q.1.now) (slice_cmp nat_cmp k.2.now q.2.now)) in
+    tests ∙ ap (λ (b : Bool). is_at (λ (u : ℕ). nat_cmp k.0 q.0) 0 && b) same
+    ∙ implied (is_at (λ (u : ℕ). nat_cmp k.0 q.0) 0) (same_label (key_label q) (key_label k))
+    (λ h. same_digest k.0 q.0
+    (of_q ∙ ap (λ (l : LabelParts). digest (label_text l)) (same_label-same (key_label q) (key_label k) h) ∙ sym of_k))
+
+pub noted_none : (seen : BTreeSet Key) → seen.keys ≡ [] → IsNoted [] seen
+noted_none seen none = λ q _. ap (list_any (is_at (key_cmp q))) none
+
+either : (a b : Bool) → cond a true b ≡ (b || (a || false))
+either true true = refl
+either true false = refl
+either false true = refl
+either false false = refl
+
+pub noted_last : (ls : List LabelKey) (olds news : BTreeSet Key) (k : Key) → IsKey k → IsNoted ls olds → Updates key_cmp olds news k true → IsNoted (ls ++ key_label k ∷ []) news
+noted_last ls olds news k of_k h more = λ q of_q.
+    more.0 q ∙ rw (at_key k q of_k of_q, h q of_q) (either (same_label (key_label q) (key_label k)) (list_any (same_label (key_label q)) ls))
+    ∙ sym (list_any-append (same_label (key_label q)) ls (key_label k ∷ []))
+
+-- a label that is there isn't put again
+pub kept_present : (ls : List LabelParts) (l : LabelParts) → list_any (same_label l) ls ≡ true → ls ≡ keep same_label ls l
+kept_present ls l h = sym (ap (λ b. cond b ls (ls ++ l ∷ [])) h)
