@@ -27,13 +27,26 @@ same_digest m n e =
     ap (λ (d : ℕ). is_at (λ (u : ℕ). nat_cmp m d) 0) e
     ∙ ap (λ (o : Ordering). is_at (λ (u : ℕ). o) 0) (sym (nat_cmp_is m m Equal refl))
 
+grouped : (a b c : Bool) → ((a && b) && c) ≡ (a && (b && c))
+grouped true b c = refl
+grouped false b c = refl
+
+abbrev is_equal : Ordering → Bool
+is_equal o = is_at (λ (u : ℕ). o) 0
+
 -- the order of keys tells labels as their test does
 pub at_key : (k q : Key) → IsKey k → IsKey q → is_at (key_cmp k) q ≡ same_label (key_label q) (key_label k)
 at_key k q of_k of_q =
-    let same = at_label (k.1, k.2) (q.1, q.2) in
-    let tests = both_at (nat_cmp k.0 q.0) (ordering_then (slice_cmp nat_cmp k.1.now q.1.now) (slice_cmp nat_cmp k.2.now q.2.now)) in
-    tests ∙ ap (λ (b : Bool). is_at (λ (u : ℕ). nat_cmp k.0 q.0) 0 && b) same
-    ∙ implied (is_at (λ (u : ℕ). nat_cmp k.0 q.0) 0) (same_label (key_label q) (key_label k))
+    let digests = nat_cmp k.0 q.0 in
+    let names = slice_cmp nat_cmp k.1.now q.1.now in
+    let packages = slice_cmp nat_cmp k.2.now q.2.now in
+    let same : (is_equal names && is_equal packages) ≡ same_label (key_label q) (key_label k) =
+    sym (both_at names packages) ∙ at_label (k.1, k.2) (q.1, q.2) in
+    both_at (ordering_then digests names) packages
+    ∙ ap (λ (b : Bool). b && is_equal packages) (both_at digests names)
+    ∙ grouped (is_equal digests) (is_equal names) (is_equal packages)
+    ∙ ap (λ (b : Bool). is_equal digests && b) same
+    ∙ implied (is_equal digests) (same_label (key_label q) (key_label k))
     (λ h. same_digest k.0 q.0
     (of_q ∙ ap (λ (l : LabelParts). digest (label_text l)) (same_label-same (key_label q) (key_label k) h) ∙ sym of_k))
 
@@ -46,7 +59,7 @@ either true false = refl
 either false true = refl
 either false false = refl
 
-pub noted_last : (ls : List LabelKey) (olds news : BTreeSet Key) (k : Key) → IsKey k → IsNoted ls olds → Updates key_cmp olds news k true → IsNoted (ls ++ key_label k ∷ []) news
+pub noted_last : (ls : List LabelParts) (olds news : BTreeSet Key) (k : Key) → IsKey k → IsNoted ls olds → Updates key_cmp olds news k true → IsNoted (ls ++ key_label k ∷ []) news
 noted_last ls olds news k of_k h more = λ q of_q.
     more.0 q ∙ rw (at_key k q of_k of_q, h q of_q) (either (same_label (key_label q) (key_label k)) (list_any (same_label (key_label q)) ls))
     ∙ sym (list_any-append (same_label (key_label q)) ls (key_label k ∷ []))

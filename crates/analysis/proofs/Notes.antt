@@ -13,7 +13,7 @@ use Rattle.std.specs.declared.cmp.Ordering.TheVariants.{Less, Equal, Greater}
 use Rattle.depsets.specs.Keys.{keep}
 use Rattle.workspace.specs.Labels.{LabelParts}
 use Rattle.targets.specs.RuleCalls.{same_label}
-use Rattle.analysis.specs.Noted.{Parts, parts_label, parts_cmp, IsNoted}
+use Rattle.analysis.specs.Noted.{Parts, parts_label, parts_cmp}
 
 -- a pair compares as equal where both parts do
 pub both_at : (a b : Ordering) → is_at (λ (u : ℕ). ordering_then a b) 0 ≡ (is_at (λ (u : ℕ). a) 0 && is_at (λ (u : ℕ). b) 0)

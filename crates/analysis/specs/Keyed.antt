@@ -1,6 +1,6 @@
 -- Labels as keys by which they are looked up: a digest of the text first, so that texts are compared only where digests are equal.
 -- It says nothing of what is found. (This project's own.)
-use Rattle.std.specs.Prelude.{◌≡◌, ◌×◌, ◌+◌, ◌*◌, ◌%◌, ◌^◌, ℕ, List, [], ◌∷◌}
+use Rattle.std.specs.Prelude.{◌≡◌, ◌+◌, ◌*◌, ◌%◌, ◌^◌, ℕ, List, fold}
 use Rattle.std.specs.List.{list_any}
 use Rattle.std.specs.Borrow.{Bor}
 use Rattle.std.specs.BTreeSet.{BTreeSet, contains}
@@ -10,13 +10,13 @@ use Rattle.std.specs.declared.cmp.Ordering.{Ordering}
 use Rattle.workspace.specs.Labels.{LabelParts, label_text}
 use Rattle.targets.specs.RuleCalls.{same_label}
 
--- the digest of a text behind what has a digest
-pub digest_from : ℕ → List ℕ → ℕ
-digest_from d [] = d
-digest_from d (b ∷ bs) = digest_from ((d * 31 % 2 ^ 64 + b) % 2 ^ 64) bs
+-- 31 times what stands before a byte, and the byte
+abbrev pub digest_step : ℕ → ℕ → ℕ
+digest_step d b = (d * 31 % 2 ^ 64 + b) % 2 ^ 64
 
+-- the digest of a text
 abbrev pub digest : List ℕ → ℕ
-digest text = digest_from 0 text
+digest text = fold digest_step 0 text
 
 -- a digest, a name and a package, where they lie
 abbrev pub Key : Type 0
@@ -34,8 +34,8 @@ IsKeyOf k l = (key_label k ≡ l) × IsKey k
 
 -- by digest, then by name, and then by package
 abbrev pub key_cmp : Key → Key → Ordering
-key_cmp p q = ordering_then (nat_cmp p.0 q.0)
-    (ordering_then (slice_cmp nat_cmp p.1.now q.1.now) (slice_cmp nat_cmp p.2.now q.2.now))
+key_cmp p q = ordering_then (ordering_then (nat_cmp p.0 q.0) (slice_cmp nat_cmp p.1.now q.1.now))
+    (slice_cmp nat_cmp p.2.now q.2.now)
 
 -- the set has just these labels
 abbrev pub IsNoted : List LabelParts → BTreeSet Key → Type 0
