@@ -10,9 +10,10 @@ use Rattle.values.specs.contracts.value.Value as Value
 use Rattle.values.specs.contracts.cells.Items as Items
 use Rattle.values.specs.contracts.cells.Fields as Fields
 use Rattle.operations.specs.contracts.state.Defaults as Defaults
+use Rattle.targets.proofs.Crossing.{attribute_send, attribute_sync, rule_send, rule_sync}
 use Rattle.evaluation.specs.contracts.handed.Globals as Globals
 use Rattle.evaluation.specs.contracts.handed.Module as Module
-use Rattle.evaluation.proofs.made.Made.TheSendSync as made
+use Rattle.evaluation.specs.contracts.made.Made as Made
 use Rattle.evaluation.proofs.names.TopNames.TheSendSync as names
 use Rattle.modules.proofs.loaded.Modules.TheSendSync as modules
 use Rattle.language_calls.specs.contracts.bound.DefaultInfo as DefaultInfo
@@ -43,8 +44,11 @@ defaults_sync = search (items_sync, std.crosses, sendable) depth 60 fits 20000
 pub globals_sync : IsSync Globals.the_row
 globals_sync = search (frozen_sync, std.crosses, sendable) depth 60 fits 20000
 
+pub made_sync : IsSync (Made.the_field).row
+made_sync = search (rule_send, rule_sync, attribute_send, attribute_sync, std.crosses, sendable) depth 60 fits 20000
+
 pub module_sync : IsSync (Module.the_field).row
-module_sync = search (globals_sync, fields_sync, defaults_sync, made.the_field_sync, names.the_send, names.the_sync, std.crosses, sendable) depth 60 fits 20000
+module_sync = search (globals_sync, fields_sync, defaults_sync, made_sync, names.the_send, names.the_sync, std.crosses, sendable) depth 60 fits 20000
 
 -- ---- files
 
