@@ -1,4 +1,3 @@
 mod Small
 mod FieldRows
 mod ActionRows
-pub mod Same

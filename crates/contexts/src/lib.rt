@@ -5,10 +5,8 @@
 //! language has its meaning in the call of an implementation. The types here are what an implementation has done so far.
 #![tactic(auto)]
 
-mod label_texts;
 mod method;
 mod work;
 
-pub use label_texts::text_of_label;
 pub use method::ActionMethod;
 pub use work::{DeclaredFiles, Work};

@@ -24,7 +24,6 @@ use workspace::Label;
 /// that it registers.
 #[derive(Drop)]
 pub struct ImplementationPlace<'a, 'b> {
-    pub label: &'a Label,
     pub context: &'a TargetContext<'b>,
     pub mnemonics: &'a Mnemonics,
 }
@@ -36,8 +35,8 @@ impl<'a, 'b> Works for ImplementationPlace<'a, 'b> {
 impl<'a, 'b> Place<'a> for ImplementationPlace<'a, 'b> {
     ghost use Rattle.implementations.specs.Implementations.{implementation_place};
 
-    ghost place = { λ p. implementation_place p.label.now p.context.now.target.now
-        p.context.now.dependencies };
+    ghost place = { λ p. implementation_place p.context.now.label.now
+        p.context.now.target.now p.context.now.dependencies };
 
     fn call(
         &self,
@@ -63,7 +62,7 @@ impl<'a, 'b> Place<'a> for ImplementationPlace<'a, 'b> {
     ) -> Result<Value, Broken> {
         call_method(
             alloc,
-            self.label,
+            self.context.label,
             self.mnemonics,
             whole,
             owner,
@@ -75,18 +74,11 @@ impl<'a, 'b> Place<'a> for ImplementationPlace<'a, 'b> {
     fn field(
         &self,
         alloc: Global,
-        whole: &Whole<Work>,
+        _whole: &Whole<Work>,
         owner: &Leaf,
         name: &FieldName,
     ) -> Result<Operand<'a>, Broken> {
-        field(
-            alloc,
-            self.label,
-            &whole.state.owner,
-            self.context,
-            owner,
-            name,
-        )
+        field(alloc, self.context, owner, name)
     }
 
     fn item(
@@ -167,7 +159,6 @@ fn call_action(
     target_actions::call_method(
         alloc,
         label,
-        &state.owner,
         mnemonics,
         method,
         &state.heap,

@@ -11,13 +11,12 @@ use crate::registering::write;
 use crate::running::run;
 use contexts::{ActionMethod, Work};
 use operations::Arguments;
-use plain::Text;
 use std::alloc::Global;
 use values::{Broken, Heap, Value};
 use workspace::Label;
 
-/// What a method gives to the implementation of the target of a label, whose work it adds to. `owner` may be the label's text:
-/// then the Files share it.
+/// What a method gives to the implementation of the target of a label, whose work it adds to. Files that it declares share the
+/// label's text.
 ///
 /// # Errors
 ///
@@ -25,7 +24,6 @@ use workspace::Label;
 pub fn call_method(
     alloc: Global,
     label: &Label,
-    owner: &Text,
     mnemonics: &Mnemonics,
     method: ActionMethod,
     heap: &Heap,
@@ -37,7 +35,7 @@ pub fn call_method(
         (λ e. FaultOr (method_call label.now method heap.now (given arguments.now) work.old) e) }
 {
     match method {
-        ActionMethod::DeclareFile => declare_file(alloc, label, owner, heap, arguments, work),
+        ActionMethod::DeclareFile => declare_file(alloc, label, heap, arguments, work),
         ActionMethod::Write => write(alloc, mnemonics, heap, arguments, work),
         ActionMethod::Run => run(alloc, mnemonics, Program::Executable, heap, arguments, work),
         ActionMethod::RunShell => run(alloc, mnemonics, Program::Command, heap, arguments, work),

@@ -6,7 +6,7 @@ ghost use Rattle.workspace.specs.Labels.{LabelParts, label_path};
 ghost use Rattle.contexts.specs.Actions.{declare_file, declared, below, file_named};
 
 use calls::argument;
-use contexts::{Work, text_of_label};
+use contexts::Work;
 use depsets::FileRef;
 use operations::Arguments;
 use plain::{Shared, Text};
@@ -23,7 +23,6 @@ use workspace::{Label, is_label};
 pub(crate) fn declare_file(
     alloc: Global,
     label: &Label,
-    owner: &Text,
     heap: &Heap,
     arguments: &Arguments<'_, '_>,
     work: &mut Work,
@@ -37,7 +36,7 @@ pub(crate) fn declare_file(
         Err(broken) => return Err(broken),
     };
     match text_of(&heap.see_item(name.item())) {
-        Some(name) => declared(alloc, label, owner, name, work),
+        Some(name) => declared(alloc, label, name, work),
         None => Err(Broken::Kind(Kind::Wrong)),
     }
 }
@@ -46,7 +45,6 @@ pub(crate) fn declare_file(
 fn declared(
     alloc: Global,
     label: &Label,
-    owner: &Text,
     name: &Text,
     work: &mut Work,
 ) -> Result<Value, Broken>
@@ -56,7 +54,7 @@ fn declared(
     if !is_label(label.package(), name.as_str()) {
         return Err(Broken::Kind(Kind::Wrong));
     }
-    let file = file_named(alloc, label, owner, name)?;
+    let file = file_named(alloc, label, name)?;
     if work.files.has(&file) {
         return Err(Broken::Kind(Kind::Key));
     }
@@ -67,17 +65,16 @@ fn declared(
     Ok(Value::Leaf(Leaf::File(file)))
 }
 
-/// The File of a name that the target of a label declares.
+/// The File of a name that the target of a label declares: it shares the label's text.
 fn file_named(
     alloc: Global,
     label: &Label,
-    owner: &Text,
     name: &Text,
 ) -> Result<Shared<FileRef>, AllocError>
     ensures { IfOk result (λ f. f ≡ file_named label.now name.now) }
 {
     let path = path_below(alloc, label.package(), name)?;
-    let owner = text_of_label(alloc, label, owner)?;
+    let owner = label.shared_text().share()?;
     Shared::new(alloc, FileRef::new(path, owner))
 }
 

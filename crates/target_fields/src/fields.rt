@@ -4,37 +4,34 @@ ghost use Rattle.values.specs.Ticking.{FaultOr};
 ghost use Rattle.operations.specs.Items.{or_fault};
 ghost use Rattle.operations.specs.States.{Gives};
 ghost use Rattle.analysis.specs.Seen.{dependency_seen};
-ghost use Rattle.contexts.specs.Fields.{field, object_field, attr_field, files_field, files_or_name, labels_for, context_field, target_field, dependency_field, depset_value, label_value};
+ghost use Rattle.contexts.specs.Fields.{field, object_field, attr_field, files_field, files_or_name, labels_for, context_field, object_value, target_field, dependency_field, depset_value, label_value};
 ghost use Rattle.contexts.specs.Offered.{files_of};
 
 use crate::context::{TargetContext, value_for};
 use crate::dependencies::Dependencies;
 use crate::files::files_of;
 use crate::listings::files;
-use contexts::text_of_label;
 use field_names::{FieldName, KnownName};
 use operands::{Operand, owned};
 use plain::Text;
 use std::alloc::{AllocError, Global};
-use values::{Broken, Key, Kind, Leaf, Object, Value};
+use values::{Broken, Kind, Leaf, Object, Value};
 use workspace::Label;
 
-/// A field of a target or of an object, in the implementation of the target of a label. `text` may be the label's: then it is
-/// shared.
+/// A field of a target or of an object, in the implementation of a target. What the context has made of it is lent; `label` of a
+/// dependency and `ctx.files` are made at each read.
 ///
 /// # Errors
 ///
 /// `name`, where there is no such field; of `ctx.files` `large`, where there are too many Files for a list.
 pub fn field<'a, 'b>(
     alloc: Global,
-    label: &Label,
-    text: &Text,
     context: &'a TargetContext<'b>,
     owner: &Leaf,
     name: &FieldName,
 ) -> Result<Operand<'a>, Broken>
-    ensures { Gives (field context.now.target.now context.now.dependencies label.now owner.now
-        name.now) result }
+    ensures { Gives (field context.now.target.now context.now.dependencies
+        context.now.label.now owner.now name.now) result }
 {
     match owner {
         Leaf::Target(place) => {
@@ -42,12 +39,10 @@ pub fn field<'a, 'b>(
             or_name(value)
         }
         Leaf::Object(Object::Context) => {
-            let value = context_field(alloc, label, text, name)?;
-            own_or_name(value)
+            or_name(context_field(context, name))
         }
         Leaf::Object(Object::ContextAttr) => {
-            let value = attr_field(alloc, label, context, name)?;
-            or_name(value)
+            or_name(attr_field(context, name))
         }
         Leaf::Object(Object::ContextFiles) => owned(files_field(alloc, context, name)),
         _ => Err(Broken::Kind(Kind::Name)),
@@ -60,16 +55,6 @@ fn or_name<'a>(value: Option<Operand<'a>>) -> Result<Operand<'a>, Broken>
 {
     match value {
         Some(value) => Ok(value),
-        None => Err(Broken::Kind(Kind::Name)),
-    }
-}
-
-/// A value that was made, or `name`.
-fn own_or_name<'a>(value: Option<Value>) -> Result<Operand<'a>, Broken>
-    ensures { Gives (or_fault Kind.Name value) result }
-{
-    match value {
-        Some(value) => Ok(Operand::own(value)),
         None => Err(Broken::Kind(Kind::Name)),
     }
 }
@@ -96,7 +81,7 @@ fn target_field<'a, 'b>(
     }
 }
 
-/// A label as a value.
+/// A label as a value, with a text of its own: the label's is one that other threads read, so it isn't counted here.
 fn label_value(alloc: Global, label: &Label) -> Result<Value, AllocError>
     ensures { IfOk result (λ v. v ≡ label_value label.now) }
 {
@@ -104,53 +89,41 @@ fn label_value(alloc: Global, label: &Label) -> Result<Value, AllocError>
     Ok(Value::Leaf(Leaf::Label(text)))
 }
 
-/// The label of the target that is analysed, as a value.
-fn own_label(alloc: Global, label: &Label, text: &Text) -> Result<Value, AllocError>
-    ensures { IfOk result (λ v. v ≡ label_value label.now) }
-{
-    let text = text_of_label(alloc, label, text)?;
-    Ok(Value::Leaf(Leaf::Label(text)))
-}
-
-/// A field of `ctx`.
-fn context_field(
-    alloc: Global,
-    label: &Label,
-    text: &Text,
-    name: &FieldName,
-) -> Result<Option<Value>, AllocError>
-    ensures { IfOk result (λ v. v ≡ context_field label.now name.now) }
+/// A field of `ctx`: the label is lent.
+fn context_field<'a, 'b>(context: &'a TargetContext<'b>, name: &FieldName) -> Option<Operand<'a>>
+    ensures { result ≡ context_field context.now.label.now name.now }
 {
     if name.is(KnownName::Label) {
-        Ok(Some(own_label(alloc, label, text)?))
+        Some(Operand::lent(context.own_label()))
     } else if name.is(KnownName::Attr) {
-        Ok(Some(Value::Leaf(Leaf::Object(Object::ContextAttr))))
+        Some(object_value(Object::ContextAttr))
     } else if name.is(KnownName::Files) {
-        Ok(Some(Value::Leaf(Leaf::Object(Object::ContextFiles))))
+        Some(object_value(Object::ContextFiles))
     } else if name.is(KnownName::Actions) {
-        Ok(Some(Value::Leaf(Leaf::Object(Object::ContextActions))))
+        Some(object_value(Object::ContextActions))
     } else {
-        Ok(None)
+        None
     }
 }
 
-/// A field of `ctx.attr`: what the target has for an attribute is lent.
-fn attr_field<'a, 'b>(
-    alloc: Global,
-    label: &Label,
-    context: &'a TargetContext<'b>,
-    name: &FieldName,
-) -> Result<Option<Operand<'a>>, AllocError>
-    ensures { IfOk result (λ v. v ≡ attr_field context.now.target.now context.now.dependencies
-        label.now name.now) }
+/// An object as a value.
+fn object_value<'a>(object: Object) -> Operand<'a>
+    ensures { result ≡ object_value object }
+{
+    Operand::own(Value::Leaf(Leaf::Object(object)))
+}
+
+/// A field of `ctx.attr`: the name, and what the target has for an attribute, are lent.
+fn attr_field<'a, 'b>(context: &'a TargetContext<'b>, name: &FieldName) -> Option<Operand<'a>>
+    ensures { result ≡ attr_field context.now.target.now context.now.dependencies
+        context.now.label.now name.now }
 {
     if name.is(KnownName::Name) {
-        let name = Text::new(alloc, label.name())?;
-        return Ok(Some(Operand::own(Value::Key(Key::Text(name)))));
+        return Some(Operand::lent(context.own_name()));
     }
     match context.attribute(name) {
-        Some(item) => Ok(Some(Operand::lent(item))),
-        None => Ok(None),
+        Some(item) => Some(Operand::lent(item)),
+        None => None,
     }
 }
 

@@ -43,8 +43,8 @@ fn call<'a, 'b, L: Link<'a>>(
         → IfOk result (Implements (target_after setting.now.limit files setting.now.paths.now
         target_world function.now (function_meaning
         (language (L.linked setting.now.linked.now)
-        (implementation_place place.label.now place.context.now.target.now
-        place.context.now.dependencies)) files
+        (implementation_place place.context.now.label.now
+        place.context.now.target.now place.context.now.dependencies)) files
         (function_id function.now.id) context_alone
         (record {
           state = state_of_target setting.now.limit label.now
@@ -71,7 +71,7 @@ pub(crate) fn implement<'a>(
     files: &LoadedFiles,
     info: &'a Shared<Provider>,
     mnemonics: &Mnemonics,
-    label: &Label,
+    label: &'a Label,
     target: &'a Target,
     dependencies: &'a [Dependency<'a>],
 ) -> Result<Result<Implemented, Placed<Kind>>, AllocError>
@@ -80,9 +80,8 @@ pub(crate) fn implement<'a>(
         target.now (dependencies_seen dependencies.now))) }
 {
     modules::laws::modules_are_found_by_path::<usize, Module, FaultKind, Kind>();
-    let context = TargetContext::new(alloc, target, dependencies, info)?;
+    let context = TargetContext::new(alloc, label, target, dependencies, info)?;
     let place = ImplementationPlace {
-        label,
         context: &context,
         mnemonics,
     };

@@ -20,7 +20,7 @@ fn path_of(alloc: Global, label: &Label) -> Result<Text, AllocError>
     Text::from_string(format!(in alloc; "{package}/{name}")?)
 }
 
-/// The outcome of a label that names a source file: the File at its path, which the label owns.
+/// The outcome of a label that names a source file: the File at its path, which the label owns and whose text it shares.
 ///
 /// # Errors
 ///
@@ -32,7 +32,7 @@ pub fn source_outcome(alloc: Global, label: &Label) -> Result<Outcome, AllocErro
     })) }
 {
     let path = path_of(alloc, label)?;
-    let owner = Text::new(alloc, label.text())?;
+    let owner = label.shared_text().share()?;
     let file = Shared::new(alloc, FileRef::new(path, owner))?;
     Ok(Outcome::Source(file))
 }
