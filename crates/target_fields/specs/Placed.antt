@@ -4,7 +4,7 @@ use Rattle.std.specs.BTreeMap.{BTreeMap, get}
 use Rattle.workspace.specs.Labels.{LabelParts}
 use Rattle.targets.specs.Checks.{Dependency}
 use Rattle.targets.specs.RuleCalls.{same_label}
-use Rattle.analysis.specs.Noted.{Parts, parts_label, parts_cmp}
+use Rattle.analysis.specs.Keyed.{Key, key_label, key_cmp, IsKey}
 use Rattle.contexts.specs.Fields.{place_of}
 
 abbrev pub place_or : Option ℕ → ℕ → ℕ
@@ -12,13 +12,13 @@ place_or (Some i) n = i
 place_or None n = n
 
 -- the map has the first place of each label
-abbrev pub ArePlaced : List Dependency → BTreeMap Parts ℕ → Type 0
-ArePlaced ds places = (q : Parts) → place_or (get parts_cmp places q) (length ds) ≡ place_of ds (parts_label q)
+abbrev pub ArePlaced : List Dependency → BTreeMap Key ℕ → Type 0
+ArePlaced ds places = (q : Key) → IsKey q → place_or (get key_cmp places q) (length ds) ≡ place_of ds (key_label q)
 
 abbrev pub first_at : Bool → ℕ → Option ℕ → Option ℕ
 first_at true i o = Some i
 first_at false i o = o
 
 -- a label has this place now, and every other the place that it had
-abbrev pub HasFirst : LabelParts → ℕ → BTreeMap Parts ℕ → BTreeMap Parts ℕ → Type 0
-HasFirst l i olds news = (q : Parts) → get parts_cmp news q ≡ first_at (same_label (parts_label q) l) i (get parts_cmp olds q)
+abbrev pub HasFirst : LabelParts → ℕ → BTreeMap Key ℕ → BTreeMap Key ℕ → Type 0
+HasFirst l i olds news = (q : Key) → IsKey q → get key_cmp news q ≡ first_at (same_label (key_label q) l) i (get key_cmp olds q)

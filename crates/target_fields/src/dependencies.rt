@@ -1,12 +1,11 @@
 //! The dependencies of a target, as its implementation has them.
 ghost use Rattle.std.specs.Prelude.{◌≡◌, ◌<◌, IfOk, OnOk, length, option_map, slice_get, Some};
 ghost use Rattle.operations.specs.Instances.{default_info};
-ghost use Rattle.analysis.specs.Noted.{parts_cmp, parts_label};
 ghost use Rattle.analysis.specs.Seen.{dependency_seen, dependencies_seen};
 ghost use Rattle.contexts.specs.Fields.{place_of};
 ghost use Rattle.target_fields.specs.Placed.{ArePlaced, HasFirst};
 
-use analysis::Dependency;
+use analysis::{Dependency, LabelKey, label_key};
 use plain::Shared;
 use std::alloc::{AllocError, Global};
 use std::collections::BTreeMap;
@@ -14,15 +13,12 @@ use std::marker::Model;
 use values::Provider;
 use workspace::Label;
 
-/// Name and package of a label, by which it is found.
-type Parts<'a> = (&'a str, &'a str);
-
 /// The dependencies of a target with their outcomes, each found by its place and by its label; and `DefaultInfo`.
 #[derive(Drop)]
 pub struct Dependencies<'a> {
     all: &'a [Dependency<'a>],
     /// The first place of each label.
-    places: BTreeMap<Parts<'a>, usize>,
+    places: BTreeMap<LabelKey<'a>, usize>,
     info: &'a Shared<Provider>,
 }
 
@@ -78,7 +74,7 @@ impl<'a> Dependencies<'a> {
     pub(crate) fn place(&self, label: &'a Label) -> usize
         ensures { result ≡ place_of self.now label.now }
     {
-        match self.places.get(&(label.name(), label.package())) {
+        match self.places.get(&label_key(label)) {
             Some(place) => *place,
             None => self.all.len(),
         }
@@ -89,7 +85,7 @@ impl<'a> Dependencies<'a> {
 fn places<'a>(
     alloc: Global,
     all: &'a [Dependency<'a>],
-) -> Result<BTreeMap<Parts<'a>, usize>, AllocError>
+) -> Result<BTreeMap<LabelKey<'a>, usize>, AllocError>
     ensures { IfOk result (λ places. ArePlaced (dependencies_seen all.now) places) }
 {
     let mut places = BTreeMap::new(alloc);
@@ -113,10 +109,10 @@ fn dependency_at<'a>(all: &'a [Dependency<'a>], place: usize) -> &'a Dependency<
 fn put<'a>(
     label: &'a Label,
     place: usize,
-    places: &mut BTreeMap<Parts<'a>, usize>,
+    places: &mut BTreeMap<LabelKey<'a>, usize>,
 ) -> Result<(), AllocError>
     ensures { OnOk result (HasFirst label.now place places.old places.new) }
 {
-    places.insert((label.name(), label.package()), place)?;
+    places.insert(label_key(label), place)?;
     Ok(())
 }
