@@ -83,13 +83,12 @@ impl<'a, 'b> Place<'a> for ImplementationPlace<'a, 'b> {
 
     fn item(
         &self,
-        alloc: Global,
+        _alloc: Global,
         whole: &Whole<Work>,
         target: usize,
         provider: Item<'_>,
     ) -> Result<Operand<'a>, Broken> {
         item(
-            alloc,
             &whole.state.heap,
             &self.context.dependencies,
             target,

@@ -9,7 +9,7 @@ ghost use Rattle.contexts.specs.Offered.{files_of};
 
 use crate::context::{TargetContext, value_for};
 use crate::dependencies::Dependencies;
-use crate::files::files_of;
+use crate::files::files_in;
 use crate::listings::files;
 use field_names::{FieldName, KnownName};
 use operands::{Operand, owned};
@@ -75,7 +75,10 @@ fn target_field<'a, 'b>(
         let label = label_value(alloc, dependency.label.get())?;
         Ok(Some(Operand::own(label)))
     } else if name.is(KnownName::Files) {
-        files_of(alloc, dependency, dependencies.info().get())
+        Ok(files_in(
+            dependencies.instances(place),
+            dependencies.info().get(),
+        ))
     } else {
         Ok(None)
     }

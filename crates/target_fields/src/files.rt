@@ -1,64 +1,38 @@
 //! `files` of a target.
-ghost use Rattle.std.specs.Prelude.{◌≡◌, ◌∷◌, [], Some, None, IfOk, option_map, option_copied, codes};
+ghost use Rattle.std.specs.Prelude.{◌≡◌, ◌∷◌, [], Some, None, option_map, option_copied, codes};
 ghost use Rattle.values.specs.Seeing.{item_value, option_value};
 ghost use Rattle.values.specs.Shape.{value_of};
 ghost use Rattle.values.specs.View.{tree_of};
 ghost use Rattle.operations.specs.Fields.{field_in};
 ghost use Rattle.operations.specs.Instances.{default_info};
 ghost use Rattle.operations.specs.Reading.{leaf_depset};
-ghost use Rattle.analysis.specs.Seen.{dependency_seen};
 ghost use Rattle.contexts.specs.Fields.{depset_value};
-ghost use Rattle.contexts.specs.Offered.{files_of, files_in, tree_files, source_files, value_depset, instances};
+ghost use Rattle.contexts.specs.Offered.{files_in, instance_of, tree_files, value_depset};
 
-use crate::offered::{instance_of, source_files};
-use analysis::Dependency;
-use depsets::{Depset, FileRef};
+use crate::offered::instance_of;
+use depsets::Depset;
 use making::field;
 use operands::Operand;
-use plain::{Shared, Text};
-use std::alloc::{AllocError, Global};
-use targets::Outcome;
+use plain::Text;
 use values::{Frozen, Held, Item, Leaf, Provider, Seen, Value};
 
-/// The depset in `files` of a target's `DefaultInfo`, if there is one: that of a source file is made, and else it is lent.
-pub(crate) fn files_of<'a>(
-    alloc: Global,
-    dependency: &'a Dependency<'a>,
-    info: &Provider,
-) -> Result<Option<Operand<'a>>, AllocError>
+/// The depset in `files` of the `DefaultInfo` among instances, if there is one, where it lies.
+pub(crate) fn files_in<'a>(instances: &'a [Frozen], info: &Provider) -> Option<Operand<'a>>
     requires { info.now ≡ default_info }
-    ensures { IfOk result (λ v. v
-        ≡ option_map depset_value (files_of (dependency_seen dependency.now))) }
+    ensures { result ≡ option_map depset_value (files_in instances.now) }
 {
-    match dependency.outcome {
-        Outcome::Source(file) => Ok(Some(made_files(alloc, file)?)),
-        Outcome::Done(providers, _) => lent_files(alloc, providers.as_slice(), info),
-        Outcome::Failed(_) => Ok(None),
+    match (instance_of(instances, info), files_name(info)) {
+        (Some(instance), Some(files)) => tree_files(instance, files),
+        _ => None,
     }
 }
 
-/// The depset of a source file, as a value.
-fn made_files<'a>(alloc: Global, file: &Shared<FileRef>) -> Result<Operand<'a>, AllocError>
-    ensures { IfOk result (λ v. v ≡ depset_value (source_files file.now)) }
-{
-    let depset = source_files(alloc, file)?;
-    Ok(Operand::own(Value::Leaf(Leaf::Depset(depset))))
-}
-
-/// The depset in `files` of the `DefaultInfo` among instances.
-fn lent_files<'a>(
-    alloc: Global,
-    instances: &'a [Frozen],
-    info: &Provider,
-) -> Result<Option<Operand<'a>>, AllocError>
+/// The name of the field of `DefaultInfo`.
+fn files_name(info: &Provider) -> Option<&Text>
     requires { info.now ≡ default_info }
-    ensures { IfOk result (λ v. v ≡ option_map depset_value (files_in instances.now)) }
+    ensures { option_copied result ≡ Some (codes "files") }
 {
-    let Some(instance) = instance_of(instances, info) else {
-        return Ok(None);
-    };
-    let name = Text::new(alloc, "files")?;
-    Ok(tree_files(instance, &name))
+    info.fields.as_slice().first()
 }
 
 /// The depset in `files` of an instance, if there is one.

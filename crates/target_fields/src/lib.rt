@@ -12,6 +12,7 @@ mod fields;
 mod files;
 mod listings;
 mod offered;
+mod sources;
 
 pub use context::TargetContext;
 pub use dependencies::Dependencies;

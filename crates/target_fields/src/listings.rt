@@ -10,7 +10,7 @@ ghost use Rattle.contexts.specs.Offered.{value_depset};
 
 use crate::attributes::frozen_list;
 use crate::dependencies::Dependencies;
-use crate::files::{files_of, item_depset};
+use crate::files::{files_in, item_depset};
 use depsets::{Depset, Element, Elements};
 use plain::Shared;
 use std::alloc::{AllocError, Global};
@@ -96,10 +96,10 @@ fn put_files(
     ensures { OnOk result (trees.new.items ≡ trees.old.items
         ++ map element_tree (listed_files (slice_get dependencies.now place))) }
 {
-    let Some(dependency) = dependencies.at(place) else {
+    let Some(_) = dependencies.at(place) else {
         return Ok(());
     };
-    match files_of(alloc, dependency, dependencies.info().get())? {
+    match files_in(dependencies.instances(place), dependencies.info().get()) {
         Some(files) => put_value(alloc, files.item(), trees),
         None => Ok(()),
     }
