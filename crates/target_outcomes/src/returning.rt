@@ -12,11 +12,11 @@ ghost use Rattle.evaluation.specs.Runs.{implemented_with};
 ghost use Rattle.implementations.specs.Implementations.{target_world};
 ghost use Rattle.target_outcomes.specs.Seen.{defined_at, Implements};
 
+use call_stack::Linked;
 use contexts::Work;
 use frames::FunctionId;
 use language::Whole;
 use loading::Placed;
-use call_stack::Linked;
 use operations::State;
 use plain::Text;
 use std::alloc::{AllocError, Global};
