@@ -42,12 +42,7 @@ pub(crate) fn declare_file(
 }
 
 /// The File of a name, which is declared; or `type` and then `key`.
-fn declared(
-    alloc: Global,
-    label: &Label,
-    name: &Text,
-    work: &mut Work,
-) -> Result<Value, Broken>
+fn declared(alloc: Global, label: &Label, name: &Text, work: &mut Work) -> Result<Value, Broken>
     ensures { MatchResult result (λ v. declared label.now work.old name.now ≡ Ok (v, work.new))
         (λ e. FaultOr (declared label.now work.old name.now) e) }
 {
@@ -66,11 +61,7 @@ fn declared(
 }
 
 /// The File of a name that the target of a label declares: it shares the label's text.
-fn file_named(
-    alloc: Global,
-    label: &Label,
-    name: &Text,
-) -> Result<Shared<FileRef>, AllocError>
+fn file_named(alloc: Global, label: &Label, name: &Text) -> Result<Shared<FileRef>, AllocError>
     ensures { IfOk result (λ f. f ≡ file_named label.now name.now) }
 {
     let path = path_below(alloc, label.package(), name)?;

@@ -38,12 +38,8 @@ pub fn field<'a, 'b>(
             let value = target_field(alloc, &context.dependencies, *place, name)?;
             or_name(value)
         }
-        Leaf::Object(Object::Context) => {
-            or_name(context_field(context, name))
-        }
-        Leaf::Object(Object::ContextAttr) => {
-            or_name(attr_field(context, name))
-        }
+        Leaf::Object(Object::Context) => { or_name(context_field(context, name)) }
+        Leaf::Object(Object::ContextAttr) => { or_name(attr_field(context, name)) }
         Leaf::Object(Object::ContextFiles) => owned(files_field(alloc, context, name)),
         _ => Err(Broken::Kind(Kind::Name)),
     }
@@ -75,10 +71,7 @@ fn target_field<'a, 'b>(
         let label = label_value(alloc, dependency.label.get())?;
         Ok(Some(Operand::own(label)))
     } else if name.is(KnownName::Files) {
-        Ok(files_in(
-            dependencies.instances(place),
-            dependencies.info().get(),
-        ))
+        Ok(files_in(dependencies.instances(place), dependencies.info().get()))
     } else {
         Ok(None)
     }
