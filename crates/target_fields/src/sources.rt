@@ -71,7 +71,8 @@ fn made_info(
     let mut fields = Vec::new(alloc);
     let files = source_files(alloc, file)?;
     fields.push(Some(Frozen::of_leaf(Leaf::Depset(files))))?;
-    Branch::instance(alloc, info.share()?, fields)
+    let instance = Branch::instance(alloc, info.share()?, fields)?;
+    Ok(Frozen::of_branch(instance))
 }
 
 /// The depset of a source file, with serial 0: it has the File alone.
