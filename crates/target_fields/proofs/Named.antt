@@ -1,5 +1,5 @@
 -- What a target has for the attribute of a name, by the attribute's place.
-use Rattle.std.proofs.Common.{◌≡◌, ◌∙◌, ℕ, ◌+◌, Bool, true, false, suc, List, [], ◌∷◌, map, slice_get, Option, Some, None, if◌then◌else◌, ap, refl, arith}
+use Rattle.std.proofs.Common.{◌≡◌, ◌∙◌, ℕ, ◌+◌, Bool, true, false, suc, List, [], ◌∷◌, map, Option, Some, None, if◌then◌else◌, ap, refl, arith}
 use Rattle.std.proofs.lemmas.Option.{slice_get-map}
 use Rattle.std.specs.Prelude.{option_map}
 use Rattle.std.specs.Str.{bytes_eq}

@@ -69,14 +69,14 @@ impl<'a> TargetContext<'a> {
 
     /// `ctx.label`.
     pub(crate) fn own_label(&self) -> Item<'_>
-        ensures { item_value result.entry ≡ label_value self.now.label.now }
+        ensures { item_value result ≡ label_value self.now.label.now }
     {
         Item::Value(&self.own_label)
     }
 
     /// `ctx.attr.name`.
     pub(crate) fn own_name(&self) -> Item<'_>
-        ensures { item_value result.entry ≡ text self.now.label.now.name }
+        ensures { item_value result ≡ text self.now.label.now.name }
     {
         Item::Value(&self.own_name)
     }
