@@ -1,8 +1,9 @@
 //! What an implementation reads: fields of the targets that it depends on, of `ctx` and of its parts, and the instances of
 //! providers that targets offer.
 //!
-//! Each call gives what its definition in `contexts` says, or answers that memory was refused. Nothing of a dependency is copied:
-//! its depsets and instances are lent where they lie, and so is what [`TargetContext`] made once of a target's attributes.
+//! Each call gives what its definition in `contexts` says, or answers that memory was refused. Of a dependency the text of its
+//! label alone is copied: its depsets and instances are lent where they lie, and so is what [`TargetContext`] made once of the
+//! target's label and attributes.
 #![tactic(auto)]
 
 mod attributes;
