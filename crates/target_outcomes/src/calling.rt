@@ -68,9 +68,9 @@ fn call<'a, 'b, L: Link<'a>>(
 /// The call of the implementation of the rule of a label's target, with its dependencies: what it gave, or its fault.
 pub(crate) fn implement<'a>(
     alloc: Global,
-    files: &LoadedFiles,
+    files: &'a LoadedFiles,
     info: &'a Shared<Provider>,
-    mnemonics: &Mnemonics,
+    mnemonics: &'a Mnemonics,
     label: &'a Label,
     target: &'a Target,
     dependencies: &'a [Dependency<'a>],
