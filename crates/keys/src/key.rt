@@ -27,6 +27,14 @@ impl Key {
     }
 }
 
+impl Clone for Key {
+    ghost is_clone = { λ k l. l ≡ k };
+
+    fn clone(&self) -> Result<Key, AllocError> {
+        self.share()
+    }
+}
+
 impl Drop for Key {
     #[inline(always)]
     fn drop(self) {

@@ -14,7 +14,8 @@ use Rattle.values.specs.declared.ticks.Kind.{Kind}
 use Rattle.values.specs.declared.ticks.Kind.TheVariants.{Wrong, Deep}
 use Rattle.values.specs.declared.value.Value.{Value}
 use Rattle.values.specs.declared.value.Value.TheVariants as value
-use Rattle.visits.specs.Freeze.{can_freeze, frozen_entry, frozen_slot, sequence, built, freeze_at}
+use Rattle.values.specs.Extents.{can_freeze}
+use Rattle.visits.specs.Freeze.{frozen_entry, frozen_slot, sequence, built, freeze_at}
 use Rattle.one_tree.specs.Found.{Set, in_leaf, in_tree, in_branch, in_trees, in_pairs, in_slots, in_value, in_values, in_entries, in_fields, in_cell, in_heap, together}
 use Rattle.one_tree.specs.Laws.{FreezingBringsNone}
 use Rattle.one_tree.specs.Sets.{AreIn}

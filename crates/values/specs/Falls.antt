@@ -8,7 +8,9 @@ use Rattle.values.specs.declared.frozen.Held.TheVariants.{Key as key, Leaf, Bran
 use Rattle.values.specs.declared.frozen.Node.{Node}
 use Rattle.values.specs.declared.frozen.Node.TheVariants.{List as list, Tuple, Dict, Instance}
 use Rattle.values.specs.View.{FrozenTree, tree_of, node_branch, IsPaired}
-use Rattle.values.specs.declared.frozen.Branch.TheDeep.{deep-Held, deep-Node}
+use Rattle.values.specs.Extents.{IsNoted}
+use Rattle.values.specs.declared.frozen.Parts.{Parts}
+use Rattle.values.specs.declared.frozen.Branch.TheDeep.{deep-Held, deep-Node, deep-Parts}
 use Rattle.values.specs.declared.frozen.Branch.TheShapes.{weighed-Node-Instance-1-at-1}
 
 module _ {L K P : Type 0} where
@@ -32,6 +34,9 @@ branch_deep_le-weight (list v) h = omega (arith, most_le-weights v.items)
 branch_deep_le-weight (Tuple v) h = omega (arith, most_le-weights v.items)
 branch_deep_le-weight (Dict ks v) h = omega (arith, most_le-pairs ks.keys v.items h)
 branch_deep_le-weight (Instance p v) h = omega (arith, most_le-slots v.items)
+
+pub parts_deep_le-weight : (p : Parts) → IsNoted p → max (deep-Parts p) 0 ≤ branch_weight (node_branch p.node)
+parts_deep_le-weight p h = omega (arith, branch_deep_le-weight p.node h.paired)
 
 pub deep_le-weight : (h : Held) → max (deep-Held h) 0 ≤ weight (tree_of h)
 deep_le-weight (key k) = omega arith

@@ -2,6 +2,7 @@ pub mod Tree
 pub mod Leaves
 pub mod LeafCodes
 pub mod View
+pub mod Extents
 pub mod Falls
 pub mod ValueCodes
 pub mod Keyed

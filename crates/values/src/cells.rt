@@ -6,6 +6,7 @@ ghost use Rattle.values.specs.Keyed.{has_key, AreDistinct};
 ghost use Rattle.values.specs.Visits.{keys_of};
 ghost use Rattle.std.specs.Prelude.{◌≡◌, ◌++◌, ◌∷◌, [], ◌<◌, IfOk, OnOk, OnErr, length, slice_get, slice_set, option_copied, MatchOption, ◌≤◌, Some};
 
+use crate::held::{HeldEntries, HeldItems};
 use crate::{Key, Provider, Value};
 use indexmap::{IndexMap, IndexSet};
 use plain::Shared;
@@ -18,9 +19,9 @@ pub const LARGEST: usize = 1_048_576;
 /// A cell: a list or a dict with the number of walks over it that go on, or a tuple or an instance, which
 /// never changes. An instance has its fields by the places of their names in the provider.
 pub enum Cell {
-    List(Items, u64),
-    Tuple(Items),
-    Dict(Entries, u64),
+    List(HeldItems, u64),
+    Tuple(HeldItems),
+    Dict(HeldEntries, u64),
     Instance(Shared<Provider>, Fields),
 }
 
@@ -105,6 +106,15 @@ impl Items {
     }
 }
 
+impl Clone for Items {
+    ghost is_clone = { λ i j. j ≡ i };
+
+    fn clone(&self) -> Result<Items, AllocError> {
+        let items = self.items.clone()?;
+        Ok(Items { items })
+    }
+}
+
 /// The fields of an instance, by the places of their names in the provider: None for each that wasn't given.
 #[derive(Drop)]
 pub struct Fields {
@@ -160,7 +170,7 @@ impl Fields {
 /// The entries of a dict, in order of insertion, with hashed looks.
 #[derive(Drop)]
 pub struct Entries {
-    map: Box<IndexMap<Key, Value>>,
+    map: IndexMap<Key, Value>,
 }
 
 impl Model for Entries {
@@ -173,7 +183,7 @@ impl Model for Entries {
 
     ghost coded = { entries_code };
 
-    ghost view = { λ e. e.map.value.entries };
+    ghost view = { λ e. e.map.entries };
 }
 
 impl Entries {
@@ -182,7 +192,6 @@ impl Entries {
         ensures { IfOk result (λ e. e ≡ []) }
     {
         let map = IndexMap::with_capacity(alloc, entries)?;
-        let map = Box::new(alloc, map)?;
         Ok(Entries { map })
     }
 
@@ -246,6 +255,15 @@ impl Entries {
             keys.insert(key)?;
         }
         Ok(keys)
+    }
+}
+
+impl Clone for Entries {
+    ghost is_clone = { λ e f. f ≡ e };
+
+    fn clone(&self) -> Result<Entries, AllocError> {
+        let map = self.map.clone()?;
+        Ok(Entries { map })
     }
 }
 

@@ -2,12 +2,14 @@
 //!
 //! A key or a leaf is held as it is, and every other frozen value is one counted branch that has its parts by place,
 //! so a second name of it costs a count, also from another thread, and nothing below it is copied.
-ghost use Rattle.std.specs.Prelude.{◌≡◌, ◌<◌, IfOk, Some, length, slice_get};
+ghost use Rattle.std.specs.Prelude.{◌≡◌, ◌<◌, ◌≤◌, IfOk, Some, length, slice_get};
 ghost use Rattle.values.specs.Tree.{Tree, key, leaf, branch, list, tuple, dict, instance, trees, pairs, slots};
-ghost use Rattle.values.specs.View.{tree_of, node_branch, is_list, is_dict, is_walkable};
+ghost use Rattle.values.specs.Extents.{IsExtent, branch_measure, measure, parts_measure};
+ghost use Rattle.values.specs.View.{tree_of, node_branch, is_list, is_dict, is_walkable, IsPaired};
 ghost use Rattle.values.specs.Shape.{tree_shape, branch_shape, value_of};
 ghost use Rattle.values.specs.Seeing.{seen};
 
+use crate::extent::{Extent, of_entries, of_fields, of_items};
 use crate::sees::{Group, Seen, Slots, Table};
 use crate::{Key, Leaf, Provider, Value};
 use indexmap::IndexSet;
@@ -32,11 +34,20 @@ pub enum Held {
     Branch(Branch),
 }
 
-/// A frozen list, tuple, dict or instance, whose parts may be shared.
+/// A frozen list, tuple, dict or instance, whose parts may be shared. It has at most 64 levels, as all that is frozen has:
+/// what would have more isn't made, which is answered as want of memory.
 #[derive(Drop)]
 #[cycle(frozen)]
 pub struct Branch {
-    node: Arc<Node>,
+    parts: Arc<Parts>,
+}
+
+/// The parts of a branch, with what a visit of the branch finds.
+#[derive(Drop)]
+#[cycle(frozen)]
+pub struct Parts {
+    node: Node,
+    extent: Extent,
 }
 
 /// The parts of a branch. Of a dict the keys and the values stand by place, and of an instance the values, by the place
@@ -83,17 +94,18 @@ impl Model for Branch {
 
     ghost coded = { coded_branch leaf_code key_code provider_code };
 
-    ghost use Rattle.values.specs.View.{node_branch, IsPaired};
+    ghost use Rattle.values.specs.View.{node_branch};
+    ghost use Rattle.values.specs.Extents.{IsNoted};
 
-    ghost view = { λ b. node_branch b.node.value };
+    ghost view = { λ b. node_branch b.parts.value.node };
 
-    ghost invariant = { λ b. IsPaired b.node.value };
+    ghost invariant = { λ b. IsNoted b.parts.value };
 
     ghost size = { branch_weight };
 
-    ghost use Rattle.values.specs.Falls.{branch_deep_le-weight};
+    ghost use Rattle.values.specs.Falls.{parts_deep_le-weight};
 
-    ghost size_decreases = { λ b h. branch_deep_le-weight b.node.value h };
+    ghost size_decreases = { λ b h. parts_deep_le-weight b.parts.value h };
 }
 
 impl Frozen {
@@ -154,6 +166,17 @@ impl Frozen {
         }
     }
 
+    /// What a visit of it finds.
+    pub fn extent(&self) -> Extent
+        ensures { IsExtent result (measure self.now) }
+    {
+        match &self.held {
+            Held::Key(_) => Extent::of_key(),
+            Held::Leaf(leaf) => Extent::of_leaf(leaf),
+            Held::Branch(branch) => branch.extent(),
+        }
+    }
+
     /// What it shows, as a value.
     #[inline(always)]
     pub fn see(&self) -> Seen<'_>
@@ -172,16 +195,16 @@ impl Branch {
     pub fn list(alloc: Global, items: Vec<Frozen>) -> Result<Branch, AllocError>
         ensures { IfOk result (λ b. b ≡ list (trees items.items)) }
     {
-        let node = Arc::new(alloc, Node::List(items))?;
-        Ok(Branch { node })
+        let parts = of_items(items.as_slice());
+        Branch::of(alloc, Node::List(items), parts)
     }
 
     /// A frozen tuple of these items.
     pub fn tuple(alloc: Global, items: Vec<Frozen>) -> Result<Branch, AllocError>
         ensures { IfOk result (λ b. b ≡ tuple (trees items.items)) }
     {
-        let node = Arc::new(alloc, Node::Tuple(items))?;
-        Ok(Branch { node })
+        let parts = of_items(items.as_slice());
+        Branch::of(alloc, Node::Tuple(items), parts)
     }
 
     /// A frozen dict of these keys, each with the value at its place.
@@ -193,8 +216,8 @@ impl Branch {
         requires { length keys.keys ≡ length values.items }
         ensures { IfOk result (λ b. b ≡ dict (pairs keys.keys values.items)) }
     {
-        let node = Arc::new(alloc, Node::Dict(keys, values))?;
-        Ok(Branch { node })
+        let parts = of_entries(values.as_slice());
+        Branch::of(alloc, Node::Dict(keys, values), parts)
     }
 
     /// A frozen instance of the provider: the values of its fields by place, None for each that wasn't given.
@@ -205,16 +228,37 @@ impl Branch {
     ) -> Result<Branch, AllocError>
         ensures { IfOk result (λ b. b ≡ instance provider (slots fields.items)) }
     {
-        let node = Arc::new(alloc, Node::Instance(provider, fields))?;
-        Ok(Branch { node })
+        let parts = of_fields(fields.as_slice());
+        Branch::of(alloc, Node::Instance(provider, fields), parts)
+    }
+
+    /// A branch of these parts, of which this is noted.
+    fn of(alloc: Global, node: Node, parts: Extent) -> Result<Branch, AllocError>
+        requires paired { IsPaired node }
+        requires noted { IsExtent parts (parts_measure (node_branch node)) }
+        ensures { IfOk result (λ b. b ≡ node_branch node) }
+    {
+        let Some(extent) = parts.above() else {
+            return Err(AllocError);
+        };
+        let parts = Arc::new(alloc, Parts { node, extent })?;
+        Ok(Branch { parts })
+    }
+
+    /// What a visit of it finds, as it was noted when it was made. It has at most 64 levels.
+    pub fn extent(&self) -> Extent
+        ensures noted { IsExtent result (branch_measure self.now) }
+        ensures bounded { (branch_measure self.now).levels ≤ 64 }
+    {
+        self.parts.extent
     }
 
     /// Another name of the same frozen value: a count more, and no copy.
     pub fn share(&self) -> Result<Branch, AllocError>
         ensures { IfOk result (λ b. b ≡ self.now) }
     {
-        let node = Arc::try_clone(&self.node)?;
-        Ok(Branch { node })
+        let parts = Arc::try_clone(&self.parts)?;
+        Ok(Branch { parts })
     }
 
     /// Its parts.
@@ -222,28 +266,28 @@ impl Branch {
     pub fn node(&self) -> &Node
         ensures { node_branch result.now ≡ self.now }
     {
-        &self.node
+        &self.parts.node
     }
 
     /// Whether it is a list.
     pub fn is_list(&self) -> bool
         ensures { result ≡ is_list self.now }
     {
-        matches!(&*self.node, Node::List(_))
+        matches!(&self.parts.node, Node::List(_))
     }
 
     /// Whether it is a dict.
     pub fn is_dict(&self) -> bool
         ensures { result ≡ is_dict self.now }
     {
-        matches!(&*self.node, Node::Dict(_, _))
+        matches!(&self.parts.node, Node::Dict(_, _))
     }
 
     /// Whether it may be walked: a list, a tuple or a dict.
     pub fn is_walkable(&self) -> bool
         ensures { result ≡ is_walkable self.now }
     {
-        !matches!(&*self.node, Node::Instance(_, _))
+        !matches!(&self.parts.node, Node::Instance(_, _))
     }
 
     /// What it shows, as a value.
@@ -251,7 +295,7 @@ impl Branch {
     pub fn see(&self) -> Seen<'_>
         ensures { seen result ≡ branch_shape self.now }
     {
-        self.node.see()
+        self.parts.node.see()
     }
 }
 

@@ -9,7 +9,10 @@ ghost use Rattle.values.specs.declared.cells.Cell.{Cell as Kept};
 ghost use Rattle.values.specs.declared.ticks.Kind.{Kind as Fault};
 ghost use Rattle.std.specs.Prelude.{Result};
 
-use crate::{Broken, Cell, Entries, Fields, Items, Key, Kind, LARGEST, Provider, Value};
+use crate::{
+    Broken, Cell, Entries, Fields, HeldEntries, HeldItems, Items, Key, Kind, LARGEST, Provider,
+    Value,
+};
 use plain::Shared;
 use std::alloc::{AllocError, Global};
 use std::marker::Model;
@@ -71,6 +74,7 @@ impl Heap {
             × FaultOr (made self.old (Cell.List items 0) (length items)) e) }
     {
         let parts = items.len();
+        let items = HeldItems::new(*self.cells.allocator(), items)?;
         self.add(Cell::List(items, 0), parts)
     }
 
@@ -81,6 +85,7 @@ impl Heap {
             × FaultOr (made self.old (Cell.Tuple items) (length items)) e) }
     {
         let parts = items.len();
+        let items = HeldItems::new(*self.cells.allocator(), items)?;
         self.add(Cell::Tuple(items), parts)
     }
 
@@ -91,6 +96,7 @@ impl Heap {
             × FaultOr (made self.old (Cell.Dict entries 0) (length entries)) e) }
     {
         let parts = entries.len();
+        let entries = HeldEntries::new(*self.cells.allocator(), entries)?;
         self.add(Cell::Dict(entries, 0), parts)
     }
 
@@ -375,7 +381,7 @@ fn put_in(cell: &mut Cell, key: Key, item: Value) -> Result<(), Broken>
 }
 
 /// Puts an item last, unless there are as many as a list may have.
-fn push(items: &mut Items, item: Value) -> Result<(), Broken>
+fn push(items: &mut HeldItems, item: Value) -> Result<(), Broken>
     ensures { MatchResult result (λ _. pushed_items item items.old ≡ Ok items.new)
         (λ e. (items.new ≡ items.old) × FaultOr (pushed_items item items.old) e) }
 {
@@ -387,7 +393,7 @@ fn push(items: &mut Items, item: Value) -> Result<(), Broken>
 }
 
 /// Puts items last, unless there would be more than a list may have.
-fn join(items: &mut Items, more: Items) -> Result<(), Broken>
+fn join(items: &mut HeldItems, more: Items) -> Result<(), Broken>
     ensures { MatchResult result (λ _. joined_items more items.old ≡ Ok items.new)
         (λ e. (items.new ≡ items.old) × FaultOr (joined_items more items.old) e) }
 {
@@ -401,25 +407,25 @@ fn join(items: &mut Items, more: Items) -> Result<(), Broken>
 }
 
 /// Sets the item that an index means, if it means one.
-fn set(items: &mut Items, index: i64, item: Value) -> Result<(), Broken>
+fn set(items: &mut HeldItems, index: i64, item: Value) -> Result<(), Broken>
     ensures { MatchResult result (λ _. indexed_items index item items.old ≡ Ok items.new)
         (λ e. (items.new ≡ items.old) × FaultOr (indexed_items index item items.old) e) }
 {
     match place_of(index, items.len()) {
         None => Err(Broken::Kind(Kind::Index)),
         Some(place) => {
-            items.set(place, item);
+            items.set(place, item)?;
             Ok(())
         }
     }
 }
 
 /// Gives a key the value, unless it would be one more than a dict may have.
-fn put(entries: &mut Entries, key: Key, item: Value) -> Result<(), Broken>
+fn put(entries: &mut HeldEntries, key: Key, item: Value) -> Result<(), Broken>
     ensures { MatchResult result (λ _. keyed_entries key item entries.old ≡ Ok entries.new)
         (λ e. (entries.new ≡ entries.old) × FaultOr (keyed_entries key item entries.old) e) }
 {
-    if entries.len() >= LARGEST && !entries.has(&key) {
+    if entries.get().len() >= LARGEST && !entries.get().has(&key) {
         return Err(Broken::Kind(Kind::Large));
     }
     entries.put(key, item)?;

@@ -2,6 +2,7 @@
 //! evaluation makes. A leaf is a tag and one word, it is plain data to a contract, and it stands in a heap and in a
 //! frozen value alike.
 ghost use Rattle.std.specs.Prelude.{◌≡◌, ◌<◌, ◌≤◌, ◌++◌, ◌∷◌, [], IfOk, OnOk, OnErr, length, MatchOption, Some, slice_get};
+ghost use Rattle.values.specs.Extents.{can_freeze};
 ghost use Rattle.values.specs.Leaves.{same_provider, same_rule, same_function, built_in_text};
 
 use depsets::{Depset, FileRef};
@@ -205,6 +206,13 @@ impl BuiltIn {
 }
 
 impl Leaf {
+    /// Whether it can be frozen: all can but targets, and the objects `attr`, `ctx` and the parts of `ctx`.
+    pub fn can_be_frozen(&self) -> bool
+        ensures { result ≡ can_freeze self.now }
+    {
+        !matches!(self, Leaf::Target(_) | Leaf::Object(_))
+    }
+
     /// Another name of the same value: at most one count more, and nothing is copied.
     pub fn share(&self) -> Result<Leaf, AllocError>
         ensures { IfOk result (λ l. l ≡ self.now) }

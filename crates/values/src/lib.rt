@@ -10,8 +10,10 @@
 #![tactic(auto)]
 
 mod cells;
+mod extent;
 mod frozen;
 mod heap;
+mod held;
 mod laws;
 mod leaf;
 mod sees;
@@ -22,8 +24,10 @@ pub use cells::{Cell, Entries, Fields, Items, LARGEST};
 pub use depsets::{
     Depset, DepsetError, Element, ElementType, FileRef, Id, ListError, Listing, Order,
 };
+pub use extent::Extent;
 pub use frozen::{Branch, Frozen, Held, Node, tree_at};
 pub use heap::{Heap, place_of};
+pub use held::{HeldEntries, HeldItems};
 pub use keys::Key;
 pub use laws::{changes_touch_one_cell, walked_cells_keep_their_items, walks_leave_walked_cells};
 pub use leaf::{

@@ -312,7 +312,7 @@ impl Cell {
         match self {
             Cell::List(items, _) => Seen::List(Group::Values(items.as_slice())),
             Cell::Tuple(items) => Seen::Tuple(Group::Values(items.as_slice())),
-            Cell::Dict(entries, _) => Seen::Dict(Table::Values(entries)),
+            Cell::Dict(entries, _) => Seen::Dict(Table::Values(entries.get())),
             Cell::Instance(provider, fields) => {
                 Seen::Instance(provider.get(), Slots::Values(fields.as_slice()))
             }

@@ -1,6 +1,6 @@
 //! Ticks, the kinds of fault, and what a visit costs.
 ghost use Rattle.std.specs.Prelude.{◌≡◌, ◌+◌, ◌≤◌, ◌<◌, Ok, Err, MatchResult, OnErr};
-ghost use Rattle.values.specs.Ticking.{ticked, entered, FaultOr};
+ghost use Rattle.values.specs.Ticking.{ticked, entered, FaultOr, Spends};
 ghost use Rattle.values.specs.KindText.{kind_text};
 
 use plain::Text;
@@ -184,6 +184,18 @@ impl Ticks {
             Ok(())
         } else {
             Err(Broken::Kind(Kind::Steps))
+        }
+    }
+
+    /// So many ticks at once, and whether so many were left: else none is used.
+    pub fn spend(&mut self, ticks: u64) -> bool
+        ensures { Spends self.old ticks result self.new }
+    {
+        if ticks <= self.limit - self.used {
+            self.used += ticks;
+            true
+        } else {
+            false
         }
     }
 

@@ -28,6 +28,14 @@ impl Value {
     }
 }
 
+impl Clone for Value {
+    ghost is_clone = { λ v w. w ≡ v };
+
+    fn clone(&self) -> Result<Value, AllocError> {
+        self.share()
+    }
+}
+
 impl Drop for Value {
     #[inline(always)]
     fn drop(self) {

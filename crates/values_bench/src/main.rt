@@ -11,8 +11,8 @@ use std::mem::size_of;
 use std::rt::Clock;
 use std::time::Instant;
 use values::{
-    Cell, Depset, Element, Entries, ExportName, Exported, Fields, FunctionRef, Heap, Id, Item,
-    Items, Key, Leaf, MadeId, Names, Order, Provider, ProviderRef, Seen, Slots, Ticks, Value,
+    Cell, Depset, Element, Entries, ExportName, Exported, Fields, Frozen, FunctionRef, Heap, Id,
+    Item, Items, Key, Leaf, MadeId, Names, Order, Provider, ProviderRef, Seen, Slots, Ticks, Value,
 };
 use visits::{equal, freeze};
 
@@ -93,6 +93,17 @@ fn freezes(alloc: Global, heap: &Heap, list: &Value) -> u64 {
         }
     }
     ticks.used()
+}
+
+/// Freezes again and again what is frozen, and gives how often.
+fn freezes_again(alloc: Global, heap: &Heap, tree: &Frozen) -> u64 {
+    let mut ticks = Ticks::new(u64::MAX);
+    for turn in 0..LISTS {
+        if freeze(alloc, Item::Tree(tree), heap, &mut ticks).is_err() {
+            return turn;
+        }
+    }
+    LISTS
 }
 
 /// Compares two long lists, and gives the ticks if they are equal.
@@ -260,6 +271,13 @@ fn lists<R: Print + Clock>(rt: &R, alloc: Global, timed: bool) -> Result<()> {
     let start = Instant::now(rt)?;
     let ticks = freezes(alloc, &heap, small);
     report(rt, "values frozen", ticks, start, timed)?;
+    let Ok(tree) = freeze(alloc, Item::Value(long), &heap, &mut Ticks::new(u64::MAX)) else {
+        println!(rt; "no frozen list")?;
+        return Ok(());
+    };
+    let start = Instant::now(rt)?;
+    let again = freezes_again(alloc, &heap, &tree);
+    report(rt, "long lists frozen again", again, start, timed)?;
     let start = Instant::now(rt)?;
     let ticks = compares(&heap, long, also_long);
     report(rt, "pairs compared", ticks, start, timed)

@@ -8,6 +8,8 @@ mod deep_depsets;
 #[cfg(test)]
 mod lent;
 #[cfg(test)]
+mod levels;
+#[cfg(test)]
 mod listings;
 #[cfg(test)]
 mod made_depsets;

@@ -1,2 +1,3 @@
 pub mod EqualLemmas
 pub mod RevisitLemmas
+pub mod ExtentLemmas

@@ -5,7 +5,8 @@ use Rattle.values.specs.View.{FrozenTree, FrozenBranch}
 use Rattle.values.specs.Shape.{shape, tree_shape, branch_shape, value_of, entry_of, slot_of}
 use Rattle.values.specs.Ticking.{Count, Ticking, ticked, then_on, after_tick, with_count, entered, FaultOr}
 use Rattle.values.specs.Visits.{all_of, keys_of}
-use Rattle.visits.specs.Freeze.{freeze_at, built, can_freeze, frozen_entry, frozen_slot, sequence}
+use Rattle.values.specs.Extents.{can_freeze}
+use Rattle.visits.specs.Freeze.{freeze_at, built, frozen_entry, frozen_slot, sequence}
 use Rattle.visits.specs.Revisit.{values_in, all_visited, entry_visited, slot_visited, branch_visited, visited, visit_at}
 use Rattle.keys.specs.declared.key.Key.{Key}
 use Rattle.values.specs.declared.leaf.Leaf.{Leaf}

@@ -1,9 +1,10 @@
 -- What it costs to visit a frozen value again: the ticks of freezing, without its tree.
-use Rattle.std.specs.Prelude.{◌≡◌, MatchResult, ℕ, zero, suc, List, [], ◌∷◌, Option, Some, None, Result, Ok, Err, if◌then◌else◌}
+use Rattle.std.specs.Prelude.{◌≡◌, MatchResult, ℕ, zero, suc, List, [], ◌∷◌, Option, Some, None, Result, Ok, Err, Bool, true, false, if◌then◌else◌}
 use Rattle.values.specs.Tree.{Pairs, key, leaf, branch, list, tuple, dict, instance, stop, pair, tree_list, slot_list}
 use Rattle.values.specs.View.{FrozenTree, FrozenBranch}
 use Rattle.values.specs.Ticking.{Count, after_tick, entered, FaultOr}
-use Rattle.visits.specs.Freeze.{can_freeze}
+use Rattle.values.specs.Extents.{can_freeze, measure, IsExtent}
+use Rattle.values.specs.declared.extent.Extent.{Extent}
 use Rattle.values.specs.declared.leaf.Leaf.{Leaf}
 use Rattle.values.specs.declared.leaf.Provider.{Provider}
 use Rattle.keys.specs.declared.key.Key.{Key}
@@ -50,3 +51,8 @@ visit_at (suc n) t c = after_tick (entered (suc n) c) (λ d. visited (entered n)
 -- a call without a value answers what the definition gives
 abbrev pub Goes : Result Count Kind → Result (Unit {0}) Broken → Count → Type 0
 Goes r result now = MatchResult result (λ _. r ≡ Ok now) (λ e. FaultOr r e)
+
+-- a visit at once, where what was noted of a value fits in the levels and the ticks that are left; else no tick is used
+abbrev pub AtOnce : Bool → ℕ → Extent → Count → Count → Type 0
+AtOnce true left e before now = (t : FrozenTree) → IsExtent e (measure t) → visit_at left t before ≡ Ok now
+AtOnce false left e before now = now ≡ before

@@ -10,7 +10,7 @@ ghost use Rattle.values.specs.Shape.{cell_shape};
 ghost use Rattle.values.specs.Tree.{key as key_tree, branch, list, tuple, dict, instance, trees, pairs, slots};
 ghost use Rattle.visits.specs.Freeze.{freeze_at, built, frozen_leaf, frozen_entry, frozen_slot};
 
-use crate::revisit::{can_be_frozen, freeze_branch, freeze_tree};
+use crate::revisit::{freeze_branch, freeze_tree};
 use indexmap::IndexSet;
 use plain::Shared;
 use std::alloc::{AllocError, Global};
@@ -58,7 +58,7 @@ fn leaf_tree(leaf: &Leaf) -> Result<Frozen, Broken>
     ensures { MatchResult result (λ t. frozen_leaf leaf.now ≡ Ok t)
         (λ e. FaultOr (frozen_leaf leaf.now) e) }
 {
-    if !can_be_frozen(leaf) {
+    if !leaf.can_be_frozen() {
         return Err(Broken::Kind(Kind::Wrong));
     }
     let leaf = leaf.share()?;
@@ -211,6 +211,7 @@ fn freeze_parts(
             Err(broken) => Err(broken),
         },
         Cell::Dict(entries, _) => {
+            let entries = entries.get();
             let keys = entries.keys(alloc)?;
             match freeze_entries(alloc, left, entries, heap, ticks) {
                 Ok(trees) => dict_of(alloc, keys, trees),

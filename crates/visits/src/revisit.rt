@@ -1,13 +1,15 @@
-//! Freezing what is frozen already: each value in it is visited again, and the whole is shared by a count.
+//! Freezing what is frozen already: each value in it is visited again, and the whole is shared by a count. Where what was
+//! noted of a value fits in the levels and the ticks that are left, its visit is one comparison; else it is walked, which
+//! finds the first fault.
 ghost use Rattle.std.specs.Prelude.{◌≡◌, ◌<◌, Ok, Some, MatchResult, true, false, length, slice_get};
 ghost use Rattle.values.specs.Ticking.{Says, FaultOr, after_tick, entered};
 ghost use Rattle.values.specs.Tree.{branch, trees, pairs};
 ghost use Rattle.values.specs.View.{tree_of, node_branch};
-ghost use Rattle.visits.specs.Freeze.{can_freeze};
-ghost use Rattle.visits.specs.Revisit.{Goes, visit_at, visited, branch_visited, all_visited, entry_visited, slot_visited, leaf_visited, values_in};
+ghost use Rattle.values.specs.Extents.{can_freeze};
+ghost use Rattle.visits.specs.Revisit.{AtOnce, Goes, visit_at, visited, branch_visited, all_visited, entry_visited, slot_visited, leaf_visited, values_in};
 
 use indexmap::IndexSet;
-use values::{Branch, Broken, Frozen, Held, Key, Kind, Leaf, Node, Ticks, tree_at};
+use values::{Branch, Broken, Extent, Frozen, Held, Key, Kind, Leaf, Node, Ticks, tree_at};
 
 /// A second name of a frozen value, after its visit.
 pub(crate) fn freeze_tree(left: u32, tree: &Frozen, ticks: &mut Ticks) -> Result<Frozen, Broken>
@@ -33,21 +35,35 @@ pub(crate) fn freeze_branch(left: u32, limb: &Branch, ticks: &mut Ticks) -> Resu
     Ok(Frozen::of_branch(shared))
 }
 
+/// The visit of a value of which this was noted at once, with this many levels left; and whether it could be.
+fn visit_at_once(left: u32, noted: Extent, ticks: &mut Ticks) -> bool
+    ensures { AtOnce result left noted ticks.old ticks.new }
+{
+    let Extent {
+        values,
+        levels,
+        is_whole,
+    } = noted;
+    if !is_whole {
+        return false;
+    }
+    if u32::from(levels) > left {
+        return false;
+    }
+    ticks.spend(u64::from(values))
+}
+
 /// The visit of a frozen value with parts, with this many levels left.
 fn visit_branch(left: u32, limb: &Branch, ticks: &mut Ticks) -> Result<(), Broken>
     ensures { Goes (visit_at left (branch limb.now) ticks.old) result ticks.new }
 {
+    if visit_at_once(left, limb.extent(), ticks) {
+        return Ok(());
+    }
     if let Err(broken) = ticks.enter(left) {
         return Err(broken);
     }
     visit_node(left - 1, limb.node(), ticks)
-}
-
-/// Whether a leaf can be frozen.
-pub(crate) fn can_be_frozen(leaf: &Leaf) -> bool
-    ensures { result ≡ can_freeze leaf.now }
-{
-    !matches!(leaf, Leaf::Target(_) | Leaf::Object(_))
 }
 
 /// The visit of a leaf that is frozen.
@@ -55,7 +71,7 @@ fn visit_leaf(leaf: &Leaf) -> Result<(), Broken>
     ensures { MatchResult result (λ _. can_freeze leaf.now ≡ true)
         (λ e. (e ≡ Broken.Kind Kind.Wrong) × (can_freeze leaf.now ≡ false)) }
 {
-    if can_be_frozen(leaf) {
+    if leaf.can_be_frozen() {
         Ok(())
     } else {
         Err(Broken::Kind(Kind::Wrong))
@@ -67,6 +83,9 @@ fn visit_leaf(leaf: &Leaf) -> Result<(), Broken>
 fn visit_tree(left: u32, tree: &Frozen, ticks: &mut Ticks) -> Result<(), Broken>
     ensures { Goes (visit_at left tree.now ticks.old) result ticks.new }
 {
+    if visit_at_once(left, tree.extent(), ticks) {
+        return Ok(());
+    }
     if let Err(broken) = ticks.enter(left) {
         return Err(broken);
     }

@@ -88,8 +88,8 @@ freeze_entries-loop-i-preserved t c =
 -- as many values as keys
 pub freeze_parts-dict_of-requires : goal.freeze_parts-dict_of-requires
 freeze_parts-dict_of-requires t c =
-    ap length c.in_ok-keys-in-Dict.ensures ∙ length-keys_of c.in-Dict.entries
-    ∙ sym (all_of-length (frozen_entry (entered c.args.left) (freeze_at c.args.left c.args.heap.now)) c.in-Dict.entries c.args.ticks.now
+    ap length c.in_ok-keys-in-Dict.ensures ∙ length-keys_of c.get-entries.result.now
+    ∙ sym (all_of-length (frozen_entry (entered c.args.left) (freeze_at c.args.left c.args.heap.now)) c.get-entries.result.now c.args.ticks.now
     c.in-Ok-freeze_entries.trees.items c.freeze_entries.new.ticks c.in-Ok-freeze_entries.ensures)
 
 pub freeze_slots-returns-in-Err : goal.freeze_slots-returns-in-Err

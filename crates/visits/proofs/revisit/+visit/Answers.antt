@@ -6,6 +6,7 @@ use Rattle.values.specs.View.{node_branch}
 use Rattle.values.proofs.SeeLemmas.{tree_list-trees, slot_list-slots, pairs-short}
 use Rattle.visits.specs.Revisit.{Goes, visit_at, visited, branch_visited, all_visited, entry_visited, slot_visited, values_in}
 use Rattle.values.proofs.VisitLemmas.{fault-after}
+use Rattle.visits.proofs.ExtentLemmas.{not-at-once}
 use Rattle.visits.proofs.RevisitLemmas.{visit-opened, visited-next, visited-fault, visited-end, next-pair}
 use Rattle.visits.proofs.revisit.+visit.Goals as goal
 
@@ -13,17 +14,23 @@ pub visit_tree-returns-in-Err : goal.visit_tree-returns-in-Err
 visit_tree-returns-in-Err t c =
     let n = c.args.left in
     let tree = c.args.tree.now in
+    let now = c.visit_at_once.new.ticks in
     let inside = λ (d : Count). visited (entered (n - 1)) (visit_at (n - 1)) tree d in
-    subst (λ r. FaultOr r c.in-Err.broken) (sym (visit-opened n tree c.args.ticks.now)) (fault-after (entered n c.args.ticks.now) inside c.in-Err.broken c.in-Err.ensures)
+    let same = not-at-once c.visit_at_once.result n c.extent.result c.args.ticks.now now c.if-visit_at_once.false c.visit_at_once.ensures in
+    subst (λ d. FaultOr (visit_at n tree d) c.in-Err.broken) same
+    (subst (λ r. FaultOr r c.in-Err.broken) (sym (visit-opened n tree now)) (fault-after (entered n now) inside c.in-Err.broken c.in-Err.ensures))
 
 pub visit_tree-returns : goal.visit_tree-returns
 visit_tree-returns t c =
     let n = c.args.left in
     let tree = c.args.tree.now in
+    let now = c.visit_at_once.new.ticks in
     let inside = λ (d : Count). visited (entered (n - 1)) (visit_at (n - 1)) tree d in
-    subst (λ r. Goes r c.visit_held.result c.visit_held.new.ticks)
-    (sym (visit-opened n tree c.args.ticks.now ∙ ap (λ r. after_tick r inside) c.in_default.ensures.0
-    ∙ ap (λ u. visited (entered (n - 1)) (visit_at (n - 1)) u c.enter.new.self) (sym c.held.ensures))) c.visit_held.ensures
+    let same = not-at-once c.visit_at_once.result n c.extent.result c.args.ticks.now now c.if-visit_at_once.false c.visit_at_once.ensures in
+    subst (λ d. Goes (visit_at n tree d) c.visit_held.result c.visit_held.new.ticks) same
+    (subst (λ r. Goes r c.visit_held.result c.visit_held.new.ticks)
+    (sym (visit-opened n tree now ∙ ap (λ r. after_tick r inside) c.in_default.ensures.0
+    ∙ ap (λ u. visited (entered (n - 1)) (visit_at (n - 1)) u c.enter.new.self) (sym c.held.ensures))) c.visit_held.ensures)
 
 pub visit_trees-returns-in-Err : goal.visit_trees-returns-in-Err
 visit_trees-returns-in-Err t c =

@@ -23,4 +23,4 @@ pub returns : goal.returns
 returns c =
     let es = c.as_slice-entries.result in
     let all : length (keys_of es) ≤ c.loop-i.i = omega (arith, length-keys_of es, c.len-i-end.ensures, c.loop-i-test.false) in
-    c.loop-i.invariant ∙ take_all c.loop-i.i (keys_of es) all ∙ ap keys_of (c.as_slice-entries.ensures.entries ∙ ap (λ m. m.entries) c.deref.ensures ∙ c.self.view_is)
+    c.loop-i.invariant ∙ take_all c.loop-i.i (keys_of es) all ∙ ap keys_of (c.as_slice-entries.ensures.entries ∙ c.self.view_is)

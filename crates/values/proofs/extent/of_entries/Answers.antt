@@ -1,0 +1,27 @@
+use Rattle.std.proofs.Common.{◌≡◌, sym, subst, refl, true, drop, length, arith}
+use Rattle.std.proofs.Math.Seq.{drop-length}
+use Rattle.values.specs.Tree.{trees, slots}
+use Rattle.values.specs.Extents.{IsExtent, beside, one, measure, trees_measure, slots_measure, values_measure, with_slot}
+use Rattle.values.proofs.ExtentLemmas.{gathered, slots-next}
+use Rattle.values.proofs.extent.of_entries.Goals as goal
+
+pub loop-place-init : goal.loop-place-init
+loop-place-init c = record {
+  within = omega arith;
+  behind = subst (λ xs. IsExtent c.nothing-extent.result (values_measure xs)) (sym (drop-length c.args.values.now)) c.nothing-extent.ensures;
+}
+
+pub tree_at-requires : goal.tree_at-requires
+tree_at-requires c = omega (arith, c.loop-place.invariant.within, c.loop-place-test.true)
+
+pub loop-place-preserved : goal.loop-place-preserved
+loop-place-preserved c = record {
+  within = omega (arith, c.loop-place.invariant.within);
+  behind = gathered (values_measure) (λ t n. beside (one true) (beside (measure t) n)) (λ t ts. refl) c.args.values.now c.loop-place.extent c.beside-extent.result c.loop-place.place
+      c.tree_at.result.now c.loop-place-test.true c.tree_at.ensures c.loop-place.invariant.behind (λ n rest. c.beside-extent.ensures (one true) (beside (measure c.tree_at.result.now) n) c.of_key.ensures (c.beside.ensures (measure c.tree_at.result.now) n c.extent-value.ensures rest));
+}
+
+pub returns : goal.returns
+returns c =
+    let none : c.loop-place.place ≡ 0 = omega (arith, c.loop-place-test.false) in
+    subst (λ p. IsExtent c.loop-place.extent (values_measure (drop p c.args.values.now))) none c.loop-place.invariant.behind

@@ -1,0 +1,9 @@
+use Rattle.std.proofs.Common.{◌∙◌, sym, subst, ap}
+use Rattle.values.specs.Extents.{IsExtent, values_measure}
+use Rattle.values.proofs.ExtentLemmas.{pairs-values}
+use Rattle.values.proofs.frozen.Branch.dict.Goals as goal
+
+pub of-requires-clause-noted : goal.of-requires-clause-noted
+of-requires-clause-noted c =
+    subst (IsExtent c.of_entries-parts.result)
+    (ap values_measure c.as_slice.ensures.value ∙ sym (pairs-values c.args.keys.keys c.args.values.items c.requires)) c.of_entries-parts.ensures
