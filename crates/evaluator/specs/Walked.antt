@@ -1,21 +1,51 @@
 -- The items that a walk has left, as the values that they are.
-use Rattle.std.specs.Prelude.{List, map, drop}
+use Rattle.std.specs.Prelude.{◌≡◌, List, [], ◌∷◌, Option, MatchOption, map, drop}
+use Rattle.keys.specs.declared.key.Key.{Key}
+use Rattle.values.specs.declared.sees.Table.{Table}
 use Rattle.values.specs.declared.value.Value.{Value}
 use Rattle.values.specs.declared.value.Value.TheVariants as value
 use Rattle.values.specs.Seeing.{group_items, table_entries}
+use Rattle.values.specs.Shape.{branch_shape}
 use Rattle.values.specs.Visits.{keys_of}
+use Rattle.operations.specs.Walks.{walked_items}
+use Rattle.evaluator.specs.declared.left.FrozenLeft.{FrozenLeft}
+use Rattle.evaluator.specs.declared.left.HeldItemsLeft.{HeldItemsLeft}
+use Rattle.evaluator.specs.declared.left.HeldKeysLeft.{HeldKeysLeft}
 use Rattle.evaluator.specs.declared.left.ItemsLeft.{ItemsLeft}
 use Rattle.evaluator.specs.declared.left.KeysLeft.{KeysLeft}
 use Rattle.evaluator.specs.declared.left.Left.{Left}
 use Rattle.evaluator.specs.declared.left.Left.TheVariants as left
 
+-- the keys of entries, as values
+abbrev pub key_values : List (Key × Value) → List Value
+key_values es = map value.Key (keys_of es)
+
+abbrev pub table_keys : Table → List Value
+table_keys t = key_values (table_entries t)
+
+abbrev pub held_items_seen : HeldItemsLeft → List Value
+held_items_seen l = drop l.place l.items
+
+abbrev pub held_keys_seen : HeldKeysLeft → List Value
+held_keys_seen l = drop l.place (key_values l.entries)
+
+abbrev pub frozen_seen : FrozenLeft → List Value
+frozen_seen l = drop l.place (walked_items (branch_shape l.branch))
+
 abbrev pub items_seen : ItemsLeft → List Value
 items_seen l = drop l.place (group_items l.items)
 
 abbrev pub keys_seen : KeysLeft → List Value
-keys_seen l = drop l.place (map value.Key (keys_of (table_entries l.entries)))
+keys_seen l = drop l.place (table_keys l.entries)
 
 abbrev pub left_seen : Left → List Value
-left_seen (left.Own vs) = vs
+left_seen (left.HeldItems l) = held_items_seen l
+left_seen (left.HeldKeys l) = held_keys_seen l
+left_seen (left.Frozen l) = frozen_seen l
 left_seen (left.Items l) = items_seen l
 left_seen (left.Keys l) = keys_seen l
+left_seen left.Nothing = []
+
+-- what is left gives its first item, None where there is none
+abbrev pub Gives : List Value → Option Value → List Value → Type 0
+Gives before next after = MatchOption next ((before ≡ []) × (after ≡ [])) (λ v. before ≡ v ∷ after)

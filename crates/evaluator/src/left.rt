@@ -1,25 +1,51 @@
 //! What walks have left.
-ghost use Rattle.std.specs.Prelude.{◌≡◌, ◌∷◌, [], IfOk, MatchOption, map};
-ghost use Rattle.values.specs.Seeing.{seen, group_items, table_entries};
+ghost use Rattle.std.specs.Prelude.{◌≡◌, ◌+◌, ◌<◌, ◌^◌, ◌∷◌, [], drop, map, IfOk, MatchOption, Some};
+ghost use Rattle.values.specs.Seeing.{seen, item_value, group_items, table_entries};
+ghost use Rattle.values.specs.Shape.{shape, cell_shape};
 ghost use Rattle.values.specs.Visits.{keys_of};
 ghost use Rattle.operations.specs.Walks.{walked_items};
-ghost use Rattle.evaluator.specs.Walked.{left_seen, items_seen, keys_seen};
+ghost use Rattle.evaluator.specs.Walked.{Gives, left_seen, frozen_seen, held_items_seen, held_keys_seen, items_seen, keys_seen, table_keys};
 
-use crate::stacks::{items_left, keys_left};
-use frames::Stack;
 use operands::Operand;
-use std::alloc::{AllocError, Global};
-use values::{Group, Item, Seen, Table, Value};
+use std::alloc::AllocError;
+use values::{Branch, Cell, Group, Heap, HeldEntries, HeldItems, Item, Key, Seen, Table, Value};
 
-/// The items that a walk has left.
+/// The items that a walk has left. Of a value of this evaluation it holds a share, and copies nothing.
 #[derive(Drop)]
 pub enum Left<'a> {
-    /// Those of a value of this evaluation, the next one at the top.
-    Own(Stack<Value>),
+    /// Those of a list or tuple of the heap.
+    HeldItems(HeldItemsLeft),
+    /// The keys of a dict of the heap.
+    HeldKeys(HeldKeysLeft),
+    /// Those of a frozen value of one's own.
+    Frozen(FrozenLeft),
     /// Those of a list or tuple that is lent.
     Items(ItemsLeft<'a>),
     /// The keys of a dict that is lent.
     Keys(KeysLeft<'a>),
+    /// None: of what isn't walked.
+    Nothing,
+}
+
+/// The items of a list or tuple of the heap from a place on.
+#[derive(Drop)]
+pub struct HeldItemsLeft {
+    items: HeldItems,
+    place: usize,
+}
+
+/// The keys of a dict of the heap from a place on.
+#[derive(Drop)]
+pub struct HeldKeysLeft {
+    entries: HeldEntries,
+    place: usize,
+}
+
+/// What a walk goes over in a frozen value, from a place on.
+#[derive(Drop)]
+pub struct FrozenLeft {
+    branch: Branch,
+    place: usize,
 }
 
 /// The items of a list or tuple from a place on.
@@ -37,15 +63,15 @@ pub struct KeysLeft<'a> {
 }
 
 impl<'a> Left<'a> {
-    /// All that a value shows that is walked and lent: nothing is copied.
-    pub(crate) fn lent(walked: &Seen<'a>, alloc: Global) -> Left<'a>
+    /// All that a value shows that is walked and lent.
+    pub(crate) fn lent(walked: &Seen<'a>) -> Left<'a>
         ensures { left_seen result ≡ walked_items (seen walked.now) }
     {
         match walked {
             Seen::List(items) => items_from_first(*items),
             Seen::Tuple(items) => items_from_first(*items),
             Seen::Dict(entries) => keys_from_first(*entries),
-            _ => Left::Own(Stack::new(alloc)),
+            _ => Left::Nothing,
         }
     }
 
@@ -53,42 +79,65 @@ impl<'a> Left<'a> {
     ///
     /// # Errors
     ///
-    /// `AllocError` where memory was refused.
-    pub(crate) fn own(walked: &Seen<'_>, alloc: Global) -> Result<Left<'a>, AllocError>
-        ensures { IfOk result (λ left. left_seen left ≡ walked_items (seen walked.now)) }
+    /// `AllocError` where a count is at its greatest.
+    pub(crate) fn own(heap: &Heap, walked: &Value) -> Result<Left<'a>, AllocError>
+        ensures { IfOk result (λ left. left_seen left
+            ≡ walked_items (shape heap.now walked.now)) }
     {
         match walked {
-            Seen::List(items) => Ok(Left::Own(items_left(alloc, *items)?)),
-            Seen::Tuple(items) => Ok(Left::Own(items_left(alloc, *items)?)),
-            Seen::Dict(entries) => Ok(Left::Own(keys_left(alloc, *entries)?)),
-            _ => Ok(Left::Own(Stack::new(alloc))),
+            Value::Frozen(branch) => {
+                let branch = branch.share()?;
+                Ok(Left::Frozen(FrozenLeft { branch, place: 0 }))
+            }
+            Value::Cell(number) => match heap.cell(*number) {
+                Some(cell) => all_in(cell),
+                None => Ok(Left::Nothing),
+            },
+            Value::Key(_) | Value::Leaf(_) => Ok(Left::Nothing),
         }
     }
 
     /// The next item, None at the end.
+    ///
+    /// # Errors
+    ///
+    /// `AllocError` where a count is at its greatest.
     #[inline(always)]
-    pub(crate) fn next(&mut self) -> Option<Operand<'a>>
-        ensures { MatchOption result ((left_seen self.old ≡ []) × (left_seen self.new ≡ []))
-            (λ v. left_seen self.old ≡ v ∷ left_seen self.new) }
+    pub(crate) fn next(&mut self) -> Result<Option<Operand<'a>>, AllocError>
+        ensures { IfOk result (λ next. Gives (left_seen self.old) next (left_seen self.new)) }
     {
         match self {
-            Left::Own(items) => next_own(items),
-            Left::Items(left) => left.next(),
-            Left::Keys(left) => left.next(),
+            Left::HeldItems(left) => left.next(),
+            Left::HeldKeys(left) => left.next(),
+            Left::Frozen(left) => left.next(),
+            Left::Items(left) => Ok(left.next()),
+            Left::Keys(left) => Ok(left.next()),
+            Left::Nothing => Ok(None),
         }
     }
 }
 
-/// The next of the items that are one's own.
-#[inline(always)]
-fn next_own<'a>(items: &mut Stack<Value>) -> Option<Operand<'a>>
-    ensures { MatchOption result ((items.old ≡ []) × (items.new ≡ []))
-        (λ v. items.old ≡ v ∷ items.new) }
+/// All that a walk over a cell goes over.
+fn all_in<'a>(cell: &Cell) -> Result<Left<'a>, AllocError>
+    ensures { IfOk result (λ left. left_seen left ≡ walked_items (cell_shape (Some cell.now))) }
 {
-    match items.pop() {
-        Some(item) => Some(Operand::own(item)),
-        None => None,
+    match cell {
+        Cell::List(items, _) => held_from_first(items),
+        Cell::Tuple(items) => held_from_first(items),
+        Cell::Dict(entries, _) => {
+            let entries = entries.share()?;
+            Ok(Left::HeldKeys(HeldKeysLeft { entries, place: 0 }))
+        }
+        Cell::Instance(_, _) => Ok(Left::Nothing),
     }
+}
+
+/// All items of a cell.
+fn held_from_first<'a>(items: &HeldItems) -> Result<Left<'a>, AllocError>
+    ensures { IfOk result (λ left. left_seen left ≡ items.now) }
+{
+    let items = items.share()?;
+    Ok(Left::HeldItems(HeldItemsLeft { items, place: 0 }))
 }
 
 /// All items.
@@ -105,19 +154,122 @@ fn keys_from_first<'a>(entries: Table<'a>) -> Left<'a>
     Left::Keys(KeysLeft { entries, place: 0 })
 }
 
+/// The item at a place, None from the end on.
+#[inline(always)]
+fn item_at<'b>(items: Group<'b>, place: usize) -> Option<Item<'b>>
+    ensures { MatchOption result (drop place (group_items items.entry) ≡ []) (λ item.
+        (drop place (group_items items.entry)
+        ≡ item_value item ∷ drop (place + 1) (group_items items.entry))
+        × (place + 1 < 2 ^ 64)) }
+{
+    if place < items.len() {
+        Some(items.item(place))
+    } else {
+        None
+    }
+}
+
+/// The key at a place, None from the end on.
+#[inline(always)]
+fn key_at<'b>(entries: Table<'b>, place: usize) -> Option<&'b Key>
+    ensures { MatchOption result (drop place (table_keys entries.entry) ≡ []) (λ key.
+        (drop place (table_keys entries.entry)
+        ≡ Value.Key key.now ∷ drop (place + 1) (table_keys entries.entry))
+        × (place + 1 < 2 ^ 64)) }
+{
+    if place >= entries.len() {
+        return None;
+    }
+    match entries.at(place) {
+        Some((key, _)) => Some(key),
+        None => None,
+    }
+}
+
+impl HeldItemsLeft {
+    /// The next item.
+    #[inline(always)]
+    fn next<'a>(&mut self) -> Result<Option<Operand<'a>>, AllocError>
+        ensures { IfOk result (λ next. Gives (held_items_seen self.old) next
+            (held_items_seen self.new)) }
+    {
+        match item_at(Group::Values(self.items.as_slice()), self.place) {
+            Some(item) => {
+                let value = item.to_value()?;
+                self.place += 1;
+                Ok(Some(Operand::own(value)))
+            }
+            None => Ok(None),
+        }
+    }
+}
+
+impl HeldKeysLeft {
+    /// The next key.
+    #[inline(always)]
+    fn next<'a>(&mut self) -> Result<Option<Operand<'a>>, AllocError>
+        ensures { IfOk result (λ next. Gives (held_keys_seen self.old) next
+            (held_keys_seen self.new)) }
+    {
+        match key_at(Table::Values(self.entries.get()), self.place) {
+            Some(key) => {
+                let key = key.share()?;
+                self.place += 1;
+                Ok(Some(Operand::own(Value::Key(key))))
+            }
+            None => Ok(None),
+        }
+    }
+}
+
+impl FrozenLeft {
+    /// The next item or key.
+    fn next<'a>(&mut self) -> Result<Option<Operand<'a>>, AllocError>
+        ensures { IfOk result (λ next. Gives (frozen_seen self.old) next
+            (frozen_seen self.new)) }
+    {
+        match walked_at(&self.branch.see(), self.place) {
+            Some(item) => {
+                let value = item.to_value()?;
+                self.place += 1;
+                Ok(Some(Operand::own(value)))
+            }
+            None => Ok(None),
+        }
+    }
+}
+
+/// What a walk comes to at a place, None from the end on.
+fn walked_at<'b>(walked: &Seen<'b>, place: usize) -> Option<Item<'b>>
+    ensures { MatchOption result (drop place (walked_items (seen walked.now)) ≡ []) (λ item.
+        (drop place (walked_items (seen walked.now))
+        ≡ item_value item ∷ drop (place + 1) (walked_items (seen walked.now)))
+        × (place + 1 < 2 ^ 64)) }
+{
+    match walked {
+        Seen::List(items) => item_at(*items, place),
+        Seen::Tuple(items) => item_at(*items, place),
+        Seen::Dict(entries) => match key_at(*entries, place) {
+            Some(key) => Some(Item::Key(key)),
+            None => None,
+        },
+        _ => None,
+    }
+}
+
 impl<'a> ItemsLeft<'a> {
     /// The next item.
     #[inline(always)]
     fn next(&mut self) -> Option<Operand<'a>>
-        ensures { MatchOption result ((items_seen self.old ≡ []) × (items_seen self.new ≡ []))
-            (λ v. items_seen self.old ≡ v ∷ items_seen self.new) }
+        ensures { Gives (items_seen self.old) result (items_seen self.new) }
     {
-        let place = self.place;
-        if place >= self.items.len() {
-            return None;
+        match item_at(self.items, self.place) {
+            Some(item) => {
+                self.place += 1;
+                Some(Operand::lent(item))
+            }
+            None => None,
         }
-        self.place = place + 1;
-        Some(Operand::lent(self.items.item(place)))
     }
 }
 
@@ -125,16 +277,11 @@ impl<'a> KeysLeft<'a> {
     /// The next key.
     #[inline(always)]
     fn next(&mut self) -> Option<Operand<'a>>
-        ensures { MatchOption result ((keys_seen self.old ≡ []) × (keys_seen self.new ≡ []))
-            (λ v. keys_seen self.old ≡ v ∷ keys_seen self.new) }
+        ensures { Gives (keys_seen self.old) result (keys_seen self.new) }
     {
-        let place = self.place;
-        if place >= self.entries.len() {
-            return None;
-        }
-        match self.entries.at(place) {
-            Some((key, _)) => {
-                self.place = place + 1;
+        match key_at(self.entries, self.place) {
+            Some(key) => {
+                self.place += 1;
                 Some(Operand::lent(Item::Key(key)))
             }
             None => None,

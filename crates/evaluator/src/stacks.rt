@@ -1,12 +1,12 @@
-//! Values that change hands: from a stack to items, and from a sequence to what is left of a walk.
-ghost use Rattle.std.specs.Prelude.{◌≡◌, IfOk, map};
-ghost use Rattle.values.specs.Seeing.{group_items, table_entries};
-ghost use Rattle.values.specs.Visits.{keys_of};
+//! Values that change hands: from a stack to items, and from a sequence that is unpacked to a stack.
+ghost use Rattle.std.specs.Prelude.{◌≡◌, IfOk};
+ghost use Rattle.values.specs.Seeing.{group_items};
+ghost use Rattle.frames.specs.Answers.{Unpacked};
 
 use frames::Stack;
 use operands::Operand;
 use std::alloc::{AllocError, Global};
-use values::{Group, Items, Table, Value};
+use values::{Group, Items};
 
 /// The values of a stack, from its top on.
 ///
@@ -24,64 +24,51 @@ pub(crate) fn all_of(alloc: Global, stack: Stack<Operand<'_>>) -> Result<Items, 
     Ok(items)
 }
 
-/// The items of a group, in order, which are lent.
+/// The items of a group go onto a stack, the first one at the top, where they are so many: they are lent. Where they aren't,
+/// the stack stays as it was.
 ///
 /// # Errors
 ///
 /// `AllocError` where memory was refused.
-pub(crate) fn parts_of<'a>(alloc: Global, group: Group<'a>) -> Result<Vec<Operand<'a>>, AllocError>
-    ensures { IfOk result (λ parts. parts.items ≡ group_items group.entry) }
+pub(crate) fn unpack_lent<'a>(
+    group: Group<'a>,
+    count: usize,
+    onto: &mut Stack<Operand<'a>>,
+) -> Result<bool, AllocError>
+    ensures { IfOk result (λ fits. Unpacked (group_items group.entry) count onto.old fits
+        onto.new) }
 {
-    let mut parts = Vec::with_capacity(alloc, group.len())?;
-    for place in 0..group.len() {
-        parts.push(Operand::lent(group.item(place)))?;
+    if group.len() != count {
+        return Ok(false);
     }
-    Ok(parts)
+    let mut place = count;
+    while place > 0 {
+        place -= 1;
+        onto.push(Operand::lent(group.item(place)))?;
+    }
+    Ok(true)
 }
 
-/// The items of a group, in order, as values of one's own.
+/// The same, as values of one's own.
 ///
 /// # Errors
 ///
 /// `AllocError` where memory was refused.
-pub(crate) fn own_parts_of<'a>(
-    alloc: Global,
+pub(crate) fn unpack_own(
     group: Group<'_>,
-) -> Result<Vec<Operand<'a>>, AllocError>
-    ensures { IfOk result (λ parts. parts.items ≡ group_items group.entry) }
+    count: usize,
+    onto: &mut Stack<Operand<'_>>,
+) -> Result<bool, AllocError>
+    ensures { IfOk result (λ fits. Unpacked (group_items group.entry) count onto.old fits
+        onto.new) }
 {
-    let mut parts = Vec::with_capacity(alloc, group.len())?;
-    for place in 0..group.len() {
-        parts.push(Operand::own(group.item(place).to_value()?))?;
+    if group.len() != count {
+        return Ok(false);
     }
-    Ok(parts)
-}
-
-/// The items of a group, the first one at the top.
-pub(crate) fn items_left(alloc: Global, group: Group<'_>) -> Result<Stack<Value>, AllocError>
-    ensures { IfOk result (λ left. left ≡ group_items group.entry) }
-{
-    let mut left = Stack::with_capacity(alloc, group.len())?;
-    let mut place = group.len();
+    let mut place = count;
     while place > 0 {
         place -= 1;
-        left.push(group.item(place).to_value()?)?;
+        onto.push(Operand::own(group.item(place).to_value()?))?;
     }
-    Ok(left)
-}
-
-/// The keys of entries, the first one at the top.
-pub(crate) fn keys_left(alloc: Global, entries: Table<'_>) -> Result<Stack<Value>, AllocError>
-    ensures { IfOk result (λ left. left ≡ map Value.Key (keys_of (table_entries entries.entry))) }
-{
-    let mut left = Stack::with_capacity(alloc, entries.len())?;
-    let mut place = entries.len();
-    while place > 0 {
-        place -= 1;
-        let Some((key, _)) = entries.at(place) else {
-            return Err(AllocError);
-        };
-        left.push(Value::Key(key.share()?))?;
-    }
-    Ok(left)
+    Ok(true)
 }

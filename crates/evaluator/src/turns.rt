@@ -6,14 +6,15 @@ ghost use Rattle.operations.specs.States.{tick};
 ghost use Rattle.values.specs.Shape.{shape};
 ghost use Rattle.operations.specs.Walks.{begin, ended, parts, walked_items};
 ghost use Rattle.language.specs.Place.{of_state};
-ghost use Rattle.frames.specs.Answers.{Says, SaysAs};
+ghost use Rattle.frames.specs.Answers.{Says, SaysAs, Unpacks};
 ghost use Rattle.evaluator.specs.Walked.{left_seen};
 
 use crate::left::Left;
-use crate::stacks::{own_parts_of, parts_of};
+use crate::stacks::{unpack_lent, unpack_own};
+use frames::Stack;
 use language::Whole;
-use operands::Operand;
-use std::alloc::{AllocError, Global};
+use operands::{Operand, as_value};
+use std::alloc::AllocError;
 use values::{Broken, Heap, Item, Kind};
 
 /// One tick.
@@ -26,13 +27,12 @@ pub(crate) fn tick<W>(whole: &mut Whole<W>) -> Result<(), Broken>
 
 /// A walk over a value begins, and gives the items that it goes over. Those of what is lent stay where they are.
 pub(crate) fn begin<'a, W>(
-    alloc: Global,
     whole: &mut Whole<'_, W>,
     walked: &Operand<'a>,
 ) -> Result<Left<'a>, Broken>
     ensures { SaysAs left_seen (of_state (begin walked.now) whole.old) result whole.new }
 {
-    let left = left_of(alloc, &whole.state.heap, walked)?;
+    let left = left_of(&whole.state.heap, walked)?;
     match state::begin(&mut whole.state, walked.item()) {
         Ok(()) => Ok(left),
         Err(broken) => Err(broken),
@@ -40,12 +40,15 @@ pub(crate) fn begin<'a, W>(
 }
 
 /// What a walk over a value goes over.
-fn left_of<'a>(alloc: Global, heap: &Heap, walked: &Operand<'a>) -> Result<Left<'a>, AllocError>
+fn left_of<'a>(heap: &Heap, walked: &Operand<'a>) -> Result<Left<'a>, AllocError>
     ensures { IfOk result (λ left. left_seen left ≡ walked_items (shape heap.now walked.now)) }
 {
     match walked.lent_seen() {
-        Some(walked) => Ok(Left::lent(&walked, alloc)),
-        None => Left::own(&heap.see_item(walked.item()), alloc),
+        Some(walked) => Ok(Left::lent(&walked)),
+        None => {
+            let walked = as_value(walked.item())?;
+            Left::own(heap, walked.get())
+        }
     }
 }
 
@@ -58,26 +61,29 @@ pub(crate) fn end<W>(whole: &mut Whole<W>, walked: Item<'_>)
     state::end(&mut whole.state, walked);
 }
 
-/// The items of a sequence that is unpacked. Those of what is lent are lent.
+/// The items of a sequence that is unpacked go onto a stack, the first one at the top, where they are so many; the answer
+/// is whether they are. Those of what is lent are lent.
 ///
 /// # Errors
 ///
 /// `type`, where it is no list or tuple.
-pub(crate) fn parts<'a, W>(
-    alloc: Global,
+pub(crate) fn unpack<'a, W>(
     whole: &Whole<'_, W>,
     sequence: &Operand<'a>,
-) -> Result<Vec<Operand<'a>>, Broken>
-    ensures { SaysAs (λ v. v.items) (of_state (parts sequence.now) whole.now) result whole.now }
+    count: usize,
+    onto: &mut Stack<Operand<'a>>,
+) -> Result<bool, Broken>
+    ensures { Unpacks (of_state (parts sequence.now) whole.now) count onto.old result whole.now
+        onto.new }
 {
     if let Some(sequence) = sequence.lent_seen() {
         return match state::sequence_of(&sequence) {
-            Some(group) => Ok(parts_of(alloc, group)?),
+            Some(group) => Ok(unpack_lent(group, count, onto)?),
             None => Err(Broken::Kind(Kind::Wrong)),
         };
     }
     match state::sequence_of(&whole.state.heap.see_item(sequence.item())) {
-        Some(group) => Ok(own_parts_of(alloc, group)?),
+        Some(group) => Ok(unpack_own(group, count, onto)?),
         None => Err(Broken::Kind(Kind::Wrong)),
     }
 }

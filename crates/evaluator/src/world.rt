@@ -186,11 +186,11 @@ impl<'a, L: Link<'a>, P: Place<'a>> Operate<'a> for World<'a, L, P> {
         state: &mut Whole<'a, P::Work>,
         walked: &Operand<'a>,
     ) -> Result<Left<'a>, Broken> {
-        turns::begin(self.alloc, state, walked)
+        turns::begin(state, walked)
     }
 
     #[inline(always)]
-    fn next(&self, walk: &mut Left<'a>) -> Option<Operand<'a>> {
+    fn next(&self, walk: &mut Left<'a>) -> Result<Option<Operand<'a>>, AllocError> {
         walk.next()
     }
 
@@ -198,12 +198,14 @@ impl<'a, L: Link<'a>, P: Place<'a>> Operate<'a> for World<'a, L, P> {
         turns::end(state, walked);
     }
 
-    fn parts(
+    fn unpack(
         &self,
         state: &mut Whole<'a, P::Work>,
         sequence: &Operand<'a>,
-    ) -> Result<Vec<Operand<'a>>, Broken> {
-        turns::parts(self.alloc, state, sequence)
+        count: usize,
+        onto: &mut Stack<Operand<'a>>,
+    ) -> Result<bool, Broken> {
+        turns::unpack(state, sequence, count, onto)
     }
 
     #[inline(always)]

@@ -6,7 +6,7 @@ ghost use Rattle.meaning.specs.Operations.{Operations};
 ghost use Rattle.values.specs.declared.value.Value as held;
 ghost use Rattle.values.specs.declared.ticks.Kind as kinds;
 ghost use Rattle.values.specs.Seeing.{item_value};
-ghost use Rattle.frames.specs.Answers.{Says, SaysAs, refusal_seen, id_seen, callee_seen, given};
+ghost use Rattle.frames.specs.Answers.{Says, SaysAs, Unpacks, refusal_seen, id_seen, callee_seen, given};
 ghost use Rattle.frames.specs.Kept.{defaults_seen};
 
 use crate::defaults::Defaults;
@@ -184,22 +184,26 @@ pub trait Operate<'a> {
             state.new };
 
     /// The next item of a walk, None at its end: of what is lent it may be lent.
-    fn next(&self, walk: &mut Self::Walk) -> Option<Operand<'a>>
-        ensures { MatchOption result ((rest walk.old ≡ []) × (rest walk.new ≡ []))
-            (λ v. rest walk.old ≡ v ∷ rest walk.new) };
+    fn next(&self, walk: &mut Self::Walk) -> Result<Option<Operand<'a>>, AllocError>
+        ensures { IfOk result (λ next. MatchOption next
+            ((rest walk.old ≡ []) × (rest walk.new ≡ []))
+            (λ v. rest walk.old ≡ v ∷ rest walk.new)) };
 
     /// A walk has ended.
     fn end(&self, state: &mut Self::State, walked: Item<'_>)
         ensures { state.new ≡ (operations self.now).end (item_value walked.entry) state.old };
 
-    /// The items of a sequence that is unpacked: of what is lent they may be lent.
-    fn parts(
+    /// The items of a sequence that is unpacked go onto a stack, the first one at the top, where they are so many; the
+    /// answer is whether they are. Where they aren't, the stack stays as it was. Of what is lent they may be lent.
+    fn unpack(
         &self,
         state: &mut Self::State,
         sequence: &Operand<'a>,
-    ) -> Result<Vec<Operand<'a>>, Broken>
-        ensures { SaysAs (λ v. v.items) ((operations self.now).parts sequence.now state.old)
-            result state.new };
+        count: usize,
+        onto: &mut Stack<Operand<'a>>,
+    ) -> Result<bool, Broken>
+        ensures { Unpacks ((operations self.now).parts sequence.now state.old) count onto.old
+            result state.new onto.new };
 
     /// The value of a name of the top level of a file: of a linked file it is lent.
     fn global(
