@@ -1,4 +1,3 @@
-pub mod Notes
 pub mod Keyed
 pub mod Finding
 pub mod Making

@@ -15,8 +15,8 @@ abbrev pub digest_step : ℕ → ℕ → ℕ
 digest_step d b = (d * 31 % 2 ^ 64 + b) % 2 ^ 64
 
 -- the digest of a text
-abbrev pub digest : List ℕ → ℕ
-digest text = fold digest_step 0 text
+abbrev pub text_digest : List ℕ → ℕ
+text_digest text = fold digest_step 0 text
 
 -- a digest, a name and a package, where they lie
 abbrev pub Key : Type 0
@@ -27,7 +27,7 @@ key_label k = record { «package» = k.2.now; name = k.1.now }
 
 -- the digest is that of the label
 abbrev pub IsKey : Key → Type 0
-IsKey k = k.0 ≡ digest (label_text (key_label k))
+IsKey k = k.0 ≡ text_digest (label_text (key_label k))
 
 abbrev pub IsKeyOf : Key → LabelParts → Type 0
 IsKeyOf k l = (key_label k ≡ l) × IsKey k

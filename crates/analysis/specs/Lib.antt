@@ -1,5 +1,5 @@
 pub mod Keyed
-pub mod Noted
+pub mod Needed
 pub mod Seen
 pub mod Made
 pub mod Returned

@@ -8,6 +8,7 @@ ghost use Rattle.analysis.specs.Seen.{dependency_seen, dependencies_seen, AreFou
 
 use crate::dependency::Dependency;
 use crate::instances::offers_enough;
+use crate::label_keys::{LabelKey, label_key};
 use plain::{Shared, Text};
 use std::alloc::{AllocError, Global};
 use std::collections::BTreeMap;
@@ -15,9 +16,6 @@ use targets::{
     AllowFiles, Attribute, AttributeValue, NamedAttribute, Outcome, Target, TargetFault,
 };
 use workspace::Label;
-
-/// Name and package of a label, by which it is found.
-type Parts<'a> = (&'a str, &'a str);
 
 /// Whether a path ends with a text.
 fn ends_with(path: &str, ending: &Text) -> bool
@@ -60,7 +58,7 @@ fn refusal(
     let attribute = named.attribute.get();
     match dependency.outcome {
         Outcome::Source(file) => {
-            if takes_file(&attribute.allow_files, file.get().path.as_str()) {
+            if takes_file(&attribute.allow_files, file.file().path.as_str()) {
                 return Ok(None);
             }
             let name = named.name.share()?;
@@ -82,7 +80,7 @@ fn refusal(
 struct Found<'a> {
     dependencies: &'a [Dependency<'a>],
     /// The first dependency of each label.
-    by_label: BTreeMap<Parts<'a>, Dependency<'a>>,
+    by_label: BTreeMap<LabelKey<'a>, Dependency<'a>>,
 }
 
 impl<'a> Found<'a> {
@@ -105,7 +103,7 @@ impl<'a> Found<'a> {
         ensures { option_map (λ d. dependency_seen d.now) result
             ≡ dependency_of (dependencies_seen self.now.dependencies.now) label.now }
     {
-        self.by_label.get(&(label.name(), label.package()))
+        self.by_label.get(&label_key(label))
     }
 }
 
@@ -113,7 +111,7 @@ impl<'a> Found<'a> {
 fn by_label<'a>(
     alloc: Global,
     dependencies: &[Dependency<'a>],
-) -> Result<BTreeMap<Parts<'a>, Dependency<'a>>, AllocError>
+) -> Result<BTreeMap<LabelKey<'a>, Dependency<'a>>, AllocError>
     ensures { IfOk result (λ found. AreFound (dependencies_seen dependencies.now) found) }
 {
     let mut found = BTreeMap::new(alloc);
@@ -126,14 +124,13 @@ fn by_label<'a>(
 /// Puts a dependency, unless one of its label is there.
 fn put<'a>(
     dependency: Dependency<'a>,
-    found: &mut BTreeMap<Parts<'a>, Dependency<'a>>,
+    found: &mut BTreeMap<LabelKey<'a>, Dependency<'a>>,
 ) -> Result<(), AllocError>
     ensures { OnOk result (HasMore dependency.entry found.old found.new) }
 {
-    let label = dependency.label.get();
-    let parts = (label.name(), label.package());
-    if !found.contains_key(&parts) {
-        found.insert(parts, dependency)?;
+    let key = label_key(dependency.label.get());
+    if !found.contains_key(&key) {
+        found.insert(key, dependency)?;
     }
     Ok(())
 }

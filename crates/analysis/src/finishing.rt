@@ -2,7 +2,8 @@
 ghost use Rattle.std.specs.Prelude.{◌≡◌, ◌++◌, ◌∷◌, [], Ok, IfOk, OnOk};
 ghost use Rattle.values.specs.Tree.{branch};
 ghost use Rattle.operations.specs.Instances.{default_info};
-ghost use Rattle.targets.specs.Steps.{Implemented, finished, with_instances, branch_instances, if_instances, first_unmade, made_whole, with_default_info, missing_default_info, first_depset};
+ghost use Rattle.targets.specs.Steps.{Implemented, finished, with_instances, branch_instances, if_instances, first_unmade, made_whole, with_default_info, missing_default_info};
+ghost use Rattle.targets.specs.Sources.{first_depset};
 ghost use Rattle.workspace.specs.Labels.{label_text};
 
 use crate::instances::offers;

@@ -6,17 +6,21 @@
 
 mod checks;
 mod dependency;
+mod failed;
 mod finishing;
 mod instances;
 mod label_keys;
+mod needed;
 mod noted;
 mod offered;
 mod outputs;
 mod returned;
 
 pub use checks::first_refused;
-pub use dependency::{Dependency, failed_labels};
+pub use dependency::Dependency;
+pub use failed::failed_labels;
 pub use finishing::{default_info, finish};
 pub use instances::{is_of, offers};
 pub use label_keys::{LabelKey, label_key};
+pub use needed::Needed;
 pub use noted::dependencies;

@@ -7,6 +7,7 @@ ghost use Rattle.targets.specs.Resolving.{dependencies};
 ghost use Rattle.analysis.specs.Keyed.{IsNoted};
 
 use crate::label_keys::{LabelKey, label_key};
+use crate::needed::Needed;
 use plain::Shared;
 use std::alloc::{AllocError, Global};
 use std::collections::BTreeSet;
@@ -16,7 +17,7 @@ use workspace::Label;
 /// The dependencies of a target: the labels that it has for its attributes, in order, each at its first place alone.
 ///
 /// Labels are found by order, so who chooses them can't make this slow.
-pub fn dependencies(alloc: Global, target: &Target) -> Result<Sequence<Shared<Label>>, AllocError>
+pub fn dependencies(alloc: Global, target: &Target) -> Result<Needed, AllocError>
     ensures { IfOk result (λ ls. ls ≡ dependencies target.now) }
 {
     let mut seen = BTreeSet::new(alloc);
@@ -24,7 +25,7 @@ pub fn dependencies(alloc: Global, target: &Target) -> Result<Sequence<Shared<La
     for value in target.values.as_slice() {
         note_value(value, &mut seen, &mut labels)?;
     }
-    Ok(labels)
+    Needed::new(alloc, labels)
 }
 
 /// Notes the labels of a value.

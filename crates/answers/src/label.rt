@@ -6,7 +6,7 @@ ghost use Rattle.plain_workspaces.specs.Workspaces.{evaluated};
 use packages::{Named, Targets};
 use std::alloc::{AllocError, Global};
 use std::marker::Model;
-use target_outcomes::{Analysis, source_outcome};
+use target_outcomes::Analysis;
 use targets::{Outcome, TargetFault};
 use workspace::Label;
 
@@ -70,7 +70,7 @@ impl<'a> LabelAnalysis<'a> {
             } => self
                 .analysis
                 .target_outcome(alloc, label, target, dependencies, outcomes),
-            Named::SourceFile => source_outcome(alloc, label),
+            Named::SourceFile => self.analysis.source_outcome(alloc, label),
             Named::FailedPackage => Ok(Outcome::Failed(TargetFault::PackageFailed)),
             Named::Nothing => Ok(Outcome::Failed(TargetFault::NoSuchTarget)),
         }

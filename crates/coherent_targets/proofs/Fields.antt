@@ -6,6 +6,7 @@ use Rattle.depsets.specs.declared.element.Element.{Element}
 use Rattle.depsets.specs.declared.element.Element.TheVariants as element
 use Rattle.values.specs.Tree.{trees, pairs}
 use Rattle.values.specs.View.{FrozenTree}
+use Rattle.keys.specs.declared.key.Key.{Key}
 use Rattle.values.specs.declared.cells.TheConstants.{LARGEST}
 use Rattle.values.specs.declared.leaf.Leaf.{Leaf}
 use Rattle.values.specs.declared.leaf.Leaf.TheVariants as plain
@@ -22,10 +23,10 @@ use Rattle.targets.specs.Checks.{Dependency}
 use Rattle.targets.specs.declared.attributes.AttributeValue.{AttributeValue}
 use Rattle.targets.specs.declared.attributes.AttributeValue.TheVariants as has
 use Rattle.targets.specs.TextDicts.{entry_key, entry_tree}
+use Rattle.targets.specs.TextLists.{text_tree}
 use Rattle.targets.specs.declared.target.Target.{Target}
-use Rattle.targets.specs.declared.text_dict.TextEntry.{TextEntry}
 use Rattle.outcomes.specs.Found.{in_target}
-use Rattle.contexts.specs.Fields.{object_value, label_value, depset_value, frozen_list, target_field, context_field, value_for, text_tree, element_tree, unless_large, target_tree, attribute_value, files_listed, files_or_name, labels_for, attr_field, object_field, field}
+use Rattle.contexts.specs.Fields.{object_value, label_value, depset_value, frozen_list, target_field, context_field, value_for, element_tree, unless_large, target_tree, attribute_value, files_listed, files_or_name, labels_for, attr_field, object_field, field}
 use Rattle.contexts.specs.Offered.{files_of}
 use Rattle.coherent_targets.proofs.Offered.{map_some, map_all, in_dependencies, files_are_in, dependency_known}
 
@@ -35,9 +36,9 @@ all_bare : {A : Type 0} (f : A → FrozenTree) (s : List Set) → ((a : A) → A
 all_bare f s k [] = none_in s
 all_bare f s k (x ∷ xs) = both_in (in_tree (f x)) (in_trees (trees (map f xs))) s (k x) (all_bare f s k xs)
 
-entries_bare : (s : List Set) (es : List TextEntry) → AreIn (in_pairs (pairs (map entry_key es) (map entry_tree es))) s
-entries_bare s [] = none_in s
-entries_bare s (e ∷ es) = both_in (in_tree (entry_tree e)) (in_pairs (pairs (map entry_key es) (map entry_tree es))) s (none_in s) (entries_bare s es)
+entries_bare : {A : Type 0} (k : A → Key) (f : A → FrozenTree) (s : List Set) → ((a : A) → AreIn (in_tree (f a)) s) → (xs : List A) → AreIn (in_pairs (pairs (map k xs) (map f xs))) s
+entries_bare k f s bare [] = none_in s
+entries_bare k f s bare (x ∷ xs) = both_in (in_tree (f x)) (in_pairs (pairs (map k xs) (map f xs))) s (bare x) (entries_bare k f s bare xs)
 
 element_bare : (s : List Set) (e : Element) → AreIn (in_tree (element_tree e)) s
 element_bare s (element.Text t) = none_in s
@@ -59,7 +60,7 @@ module _ (s : List Set) (t : Target) (ds : List Dependency) (known : AreIn (in_d
   attribute_in : (v : AttributeValue) → HasValue s (attribute_value ds v)
   attribute_in (has.Key k) = none_in s
   attribute_in (has.Strings ts) = all_bare text_tree s (λ t. none_in s) ts
-  attribute_in (has.StringDict es) = entries_bare s es
+  attribute_in (has.StringDict es) = entries_bare entry_key entry_tree s (λ e. none_in s) es
   attribute_in (has.Label None) = none_in s
   attribute_in (has.Label (Some l)) = none_in s
   attribute_in (has.Labels ls) = all_bare (target_tree ds) s (λ l. none_in s) ls

@@ -16,8 +16,8 @@ use Rattle.values.specs.declared.value.Value.{Value}
 use Rattle.values.specs.declared.value.Value.TheVariants as value
 use Rattle.operations.specs.Instances.{default_info}
 use Rattle.operations.specs.Making.{none, text}
-use Rattle.targets.specs.Steps.{first_depset}
-use Rattle.contexts.specs.Offered.{info_with, item, offers}
+use Rattle.targets.specs.Sources.{first_depset, info_with}
+use Rattle.contexts.specs.Offered.{item, offers}
 use Rattle.contexts.specs.Fields.{field, object_value, frozen_list}
 use Rattle.contexts.proofs.Small.{target, dependencies, x, P, Q, instance_of_P, d_files, s_file, file_of}
 

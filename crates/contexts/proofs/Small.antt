@@ -24,7 +24,7 @@ use Rattle.targets.specs.declared.attributes.AttributeValue.TheVariants as has
 use Rattle.targets.specs.declared.attributes.NamedAttribute.{NamedAttribute}
 use Rattle.targets.specs.declared.outcome.Outcome.TheVariants.{Source, Done}
 use Rattle.targets.specs.declared.target.Target.{Target}
-use Rattle.contexts.specs.Offered.{info_with}
+use Rattle.targets.specs.Sources.{info_with}
 
 abbrev pub label : List ℕ → LabelParts
 label n = record { «package» = codes "a"; name = n }

@@ -25,6 +25,7 @@ use Rattle.workspace.specs.Labels.{LabelParts, label_text}
 use Rattle.targets.specs.Checks.{Dependency}
 use Rattle.targets.specs.RuleCalls.{same_label}
 use Rattle.targets.specs.TextDicts.{dict_of_texts}
+use Rattle.targets.specs.TextLists.{list_of_texts}
 use Rattle.targets.specs.declared.attributes.AttributeValue.{AttributeValue}
 use Rattle.targets.specs.declared.attributes.AttributeValue.TheVariants as has
 use Rattle.targets.specs.declared.attributes.NamedAttribute.{NamedAttribute}
@@ -75,9 +76,6 @@ value_named x (a ∷ rest) (v ∷ vs) = if bytes_eq x a.name then Some v else va
 abbrev pub value_for : Target → List ℕ → Option AttributeValue
 value_for t x = value_named x t.rule.attributes t.values
 
-abbrev pub text_tree : List ℕ → FrozenTree
-text_tree t = key (index.Text t)
-
 -- the place of a label among the dependencies, by which its target is told
 abbrev pub place_of : List Dependency → LabelParts → ℕ
 place_of [] l = 0
@@ -118,7 +116,7 @@ module _ (ds : List Dependency) where
 
   abbrev pub attribute_value : AttributeValue → Value
   attribute_value (has.Key k) = value.Key k
-  attribute_value (has.Strings ts) = frozen_list (map text_tree ts)
+  attribute_value (has.Strings ts) = value.Frozen (list_of_texts ts)
   attribute_value (has.StringDict es) = value.Frozen (dict_of_texts es)
   attribute_value (has.Label None) = none
   attribute_value (has.Label (Some l)) = value_of (target_tree l)

@@ -3,10 +3,7 @@
 use Rattle.std.specs.Prelude.{ℕ, Bool, List, [], ◌∷◌, Option, Some, None, option_map, option_and_then, slice_get, Result, Ok, codes, if◌then◌else◌}
 use Rattle.depsets.specs.Own.{Own}
 use Rattle.depsets.specs.Rose.{Rose}
-use Rattle.depsets.specs.declared.element.Element.TheVariants as element
-use Rattle.depsets.specs.declared.element.FileRef.{FileRef}
 use Rattle.values.specs.Shape.{Shape, atom, shape, tree_shape, value_of}
-use Rattle.values.specs.Tree.{leaf, branch, instance, slots}
 use Rattle.values.specs.View.{FrozenTree}
 use Rattle.values.specs.declared.cells.Cell.{Cell}
 use Rattle.values.specs.declared.leaf.Leaf.{Leaf}
@@ -21,18 +18,11 @@ use Rattle.operations.specs.Instances.{default_info}
 use Rattle.operations.specs.Items.{or_fault}
 use Rattle.operations.specs.Reading.{leaf_depset, of_type}
 use Rattle.targets.specs.Checks.{Dependency, provider_of, is_of, offers as has_instance}
-use Rattle.targets.specs.Steps.{first_depset}
+use Rattle.targets.specs.Sources.{source_files, info_with}
 use Rattle.targets.specs.declared.outcome.Outcome.{Outcome}
 use Rattle.targets.specs.declared.outcome.Outcome.TheVariants.{Source, Done, Failed}
 
 -- ---- the instances that a target offers
-
--- the depset of a source file: it has its File, and no call made it
-abbrev pub source_files : FileRef → Rose Own
-source_files f = first_depset f.owner (element.File f ∷ [])
-
-abbrev pub info_with : Rose Own → FrozenTree
-info_with d = branch (instance default_info (slots (Some (leaf (plain.Depset d)) ∷ [])))
 
 -- a source file offers `DefaultInfo` alone
 abbrev pub instances : Outcome → List FrozenTree

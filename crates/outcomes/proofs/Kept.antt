@@ -16,7 +16,8 @@ use Rattle.one_tree.specs.Found.{Set, in_tree, in_trees, in_outcome}
 use Rattle.workspace.specs.Labels.{LabelParts, label_text}
 use Rattle.targets.specs.Checks.{Dependency, offers, first_refused}
 use Rattle.targets.specs.Resolving.{Named, target, source_file, failed_package, nothing, dependencies}
-use Rattle.targets.specs.Steps.{Implemented, Fault, first_depset, missing_default_info, are_instances, branch_instances, instances_in, first_unmade, made_whole, with_instances, finished, unless_refused, analysed, failed_labels, with_outcomes, step}
+use Rattle.targets.specs.Sources.{first_depset}
+use Rattle.targets.specs.Steps.{Implemented, Fault, missing_default_info, are_instances, branch_instances, instances_in, first_unmade, made_whole, with_instances, finished, unless_refused, analysed, failed_labels, with_outcomes, step}
 use Rattle.targets.specs.declared.outcome.Outcome.{Outcome}
 use Rattle.targets.specs.declared.outcome.Outcome.TheVariants.{Source, Done, Failed}
 use Rattle.targets.specs.declared.outcome.TargetFault.{TargetFault}

@@ -11,7 +11,8 @@ use Rattle.actions.specs.declared.action.Inputs.{Inputs}
 use Rattle.actions.specs.declared.action.Inputs.TheVariants as inputs
 use Rattle.coherence.specs.Coherent.{Depsets, IsMade}
 use Rattle.one_tree.specs.Found.{Set, in_tree, in_outcome}
-use Rattle.targets.specs.Steps.{Implemented, first_depset}
+use Rattle.targets.specs.Sources.{first_depset}
+use Rattle.targets.specs.Steps.{Implemented}
 use Rattle.targets.specs.declared.outcome.Outcome.{Outcome}
 use Rattle.targets.specs.declared.outcome.Outcome.TheVariants.{Source, Done, Failed}
 

@@ -12,6 +12,7 @@ ghost use Rattle.packages.specs.Seen.{AreItsOwn, HasDependencies, found_named, n
 use crate::building::{Declared, declare_all};
 use crate::kept::Package;
 use crate::resolved::Named;
+use analysis::Needed;
 use graph::Dependencies;
 use indexmap::IndexMap;
 use lexer::FaultKind;
@@ -57,24 +58,10 @@ impl Model for Targets {
         AreAll t.files.files t.files.limit t.packages.entries t.faults.items };
 }
 
-/// What the packages of a workspace declare, of which nothing more is asked: it is there to be let go.
-pub struct DonePackages {
-    packages: IndexMap<Text, Package>,
-}
-
-impl Drop for DonePackages {
-    fn drop(self) {
-        let DonePackages { packages: _ } = self;
-    }
-}
-
-/// The files of a workspace, the faults of those that fail, and what its packages declare.
-pub type TargetParts = (LoadedFiles, Vec<FileFault<FaultKind, Kind>>, DonePackages);
-
 /// What a label names, but that a source file isn't looked for.
 pub(crate) enum Declaration<'a> {
     /// A declared target, with what it depends on.
-    Target(&'a Target, &'a [Shared<Label>]),
+    Target(&'a Target, &'a Needed),
     /// No target, in a package that declares others or none.
     Undeclared,
     /// The package's `BUILD` file failed.
@@ -141,19 +128,6 @@ impl Targets {
         &self.faults
     }
 
-    /// Its parts, so that what the packages declare is let go where and when it suits.
-    pub fn into_parts(self) -> TargetParts
-        ensures { result.1.items ≡ faults self.files self.limit }
-    {
-        let Targets {
-            alloc: _,
-            files,
-            packages,
-            faults,
-        } = self;
-        (files, faults, DonePackages { packages })
-    }
-
     /// The declaration of a label.
     fn find(&self, label: &Label) -> Declaration<'_>
         ensures named { let packages = package_at self.now.files self.now.limit in
@@ -212,7 +186,7 @@ impl Dependencies for Targets {
 
     fn deps(&self, label: &Label) -> &[Shared<Label>] {
         match self.find(label) {
-            Declaration::Target(_, dependencies) => dependencies,
+            Declaration::Target(_, dependencies) => dependencies.labels(),
             Declaration::Undeclared | Declaration::FailedPackage | Declaration::NoPackage => &[],
         }
     }

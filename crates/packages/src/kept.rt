@@ -3,21 +3,20 @@ ghost use Rattle.std.specs.Prelude.{◌≡◌, None, Some, IfOk, MatchOption};
 ghost use Rattle.targets.specs.Resolving.{dependencies, target_with};
 ghost use Rattle.packages.specs.Packages.{all_dependencies};
 
-use analysis::dependencies;
+use analysis::{Needed, dependencies};
 use lexer::FaultKind;
 use loading::{LoadFaultKind, Placed};
-use plain::Shared;
 use rule_calls::PackageTargets;
 use std::alloc::{AllocError, Global};
 use std::marker::Model;
-use targets::{Sequence, Target};
+use targets::Target;
 use values::Kind;
 use workspace::Label;
 
 /// The targets that a package declares, in order, and what each depends on.
 pub(crate) struct DeclaredTargets {
     targets: PackageTargets,
-    dependencies: Vec<Sequence<Shared<Label>>>,
+    dependencies: Vec<Needed>,
 }
 
 impl Drop for DeclaredTargets {
@@ -54,10 +53,7 @@ pub(crate) enum Package {
 pub(crate) type BuiltPackage = Result<DeclaredTargets, Placed<LoadFaultKind<FaultKind, Kind>>>;
 
 /// What each target depends on, in the order of the targets.
-fn all_dependencies(
-    alloc: Global,
-    targets: &PackageTargets,
-) -> Result<Vec<Sequence<Shared<Label>>>, AllocError>
+fn all_dependencies(alloc: Global, targets: &PackageTargets) -> Result<Vec<Needed>, AllocError>
     ensures { IfOk result (λ v. v.items ≡ all_dependencies targets.now.targets) }
 {
     let mut all = Vec::with_capacity(alloc, targets.len())?;
@@ -84,13 +80,13 @@ impl DeclaredTargets {
     }
 
     /// The target of a label and what it depends on, if it is declared.
-    pub(crate) fn find(&self, label: &Label) -> Option<(&Target, &[Shared<Label>])>
+    pub(crate) fn find(&self, label: &Label) -> Option<(&Target, &Needed)>
         ensures { MatchOption result (target_with label.now self.now ≡ None)
             (λ r. (target_with label.now self.now ≡ Some r.0.now)
             × (r.1.now ≡ dependencies r.0.now)) }
     {
         match self.targets.find(label) {
-            Some((place, target)) => Some((target, self.dependencies[place].as_slice())),
+            Some((place, target)) => Some((target, &self.dependencies[place])),
             None => None,
         }
     }

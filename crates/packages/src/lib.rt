@@ -12,5 +12,5 @@ pub mod laws;
 mod resolved;
 mod shares;
 
-pub use all_targets::{DonePackages, TargetParts, Targets};
+pub use all_targets::Targets;
 pub use resolved::Named;

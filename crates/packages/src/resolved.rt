@@ -1,8 +1,7 @@
 //! What a label names.
 
-use plain::Shared;
+use analysis::Needed;
 use targets::Target;
-use workspace::Label;
 
 /// What a label names.
 #[derive(Clone, Copy)]
@@ -12,7 +11,7 @@ pub enum Named<'a> {
         /// The target.
         target: &'a Target,
         /// What it depends on, in order and each once.
-        dependencies: &'a [Shared<Label>],
+        dependencies: &'a Needed,
     },
     /// A source file.
     SourceFile,

@@ -162,7 +162,7 @@ pub fn put_outcome(
         ≡ string_bytes out.old ++ outcome_text walked tellings.now label.now outcome.now) }
 {
     match outcome {
-        Outcome::Source(file) => put_source(out, label, file.get().path.text()),
+        Outcome::Source(file) => put_source(out, label, file.file().path.text()),
         Outcome::Failed(fault) => put_failure(out, label, fault),
         Outcome::Done(providers, actions) => {
             put_done(out, label)?;

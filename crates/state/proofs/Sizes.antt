@@ -17,18 +17,18 @@ use Rattle.operations.specs.declared.state.State.{State}
 use Rattle.operations.specs.States.{with_heap}
 use Rattle.operations.specs.Making.{make, sequence, new_list, new_tuple}
 use Rattle.operations.specs.Operators.{added}
-use Rattle.state.specs.Sizes.{allowed, sum_within}
+use Rattle.state.specs.Sizes.{made_or_refused, sum_within}
 
--- a change that is made of another is allowed where that is
-allowed_after : {A B : Type 0} (g : A → B) (r : Result A Kind) → allowed (after g r) ≡ allowed r
-allowed_after g (Ok a) = refl
-allowed_after g (Err k) = refl
+-- a change that is made of another is made where that is, and refused as that is
+made_or_refused_after : {A B : Type 0} (g : A → B) (r : Result A Kind) → made_or_refused (after g r) ≡ made_or_refused r
+made_or_refused_after g (Ok a) = refl
+made_or_refused_after g (Err k) = refl
 
 module _ (f : Cell → Result Cell Kind) where
-  pub at_cell : (h : List Cell) (i : ℕ) (c : Cell) → slice_get h i ≡ Some c → allowed (put_at h i f) ≡ allowed (f c)
+  pub at_cell : (h : List Cell) (i : ℕ) (c : Cell) → slice_get h i ≡ Some c → made_or_refused (put_at h i f) ≡ made_or_refused (f c)
   at_cell [] i c p = absurd (cc)
-  at_cell (x ∷ xs) zero c p = let e : x ≡ c = cc in allowed_after (λ z. z ∷ xs) (f x) ∙ ap (λ y. allowed (f y)) e
-  at_cell (x ∷ xs) (suc i) c p = allowed_after (λ ds. x ∷ ds) (put_at xs i f) ∙ at_cell xs i c p
+  at_cell (x ∷ xs) zero c p = let e : x ≡ c = cc in made_or_refused_after (λ z. z ∷ xs) (f x) ∙ ap (λ y. made_or_refused (f y)) e
+  at_cell (x ∷ xs) (suc i) c p = made_or_refused_after (λ ds. x ∷ ds) (put_at xs i f) ∙ at_cell xs i c p
 
   pub at_none : (h : List Cell) (i : ℕ) → slice_get h i ≡ None → put_at h i f ≡ Err Wrong
   at_none [] i p = refl

@@ -10,9 +10,9 @@ use Rattle.operations.specs.Making.{sequence}
 use Rattle.operations.specs.Operators.{key_sum}
 
 -- whether a change is made, or how it is refused
-abbrev pub allowed : {A : Type 0} → Result A Kind → Result (Unit {0}) Kind
-allowed (Ok a) = Ok tt
-allowed (Err k) = Err k
+abbrev pub made_or_refused : {A : Type 0} → Result A Kind → Result (Unit {0}) Kind
+made_or_refused (Ok a) = Ok tt
+made_or_refused (Err k) = Err k
 
 -- what two values add up to, or `large` where that is a list or a tuple of more items than one may have
 abbrev pub sum_within : Shape → Shape → Result Made Kind

@@ -7,14 +7,14 @@ ghost use Rattle.values.specs.Seeing.{item_value, group_items};
 ghost use Rattle.values.specs.declared.cells.Cell.{Cell as Kept};
 ghost use Rattle.values.specs.declared.ticks.Kind.{Kind as Fault};
 ghost use Rattle.operations.specs.States.{Gives};
-ghost use Rattle.state.specs.Sizes.{allowed};
+ghost use Rattle.state.specs.Sizes.{made_or_refused};
 
 use values::{Branch, Broken, Cell, Frozen, Group, Heap, Held, Item, Kind, LARGEST, Value};
 
 /// A list may be extended by these items, or refuses them as its extension does: by the first of `type`, `frozen`,
 /// `iterating` and `large`.
 pub(crate) fn room(heap: &Heap, list: Item<'_>, more: Group<'_>) -> Result<(), Broken>
-    ensures { Gives (allowed (list_changed (joined (group_items more.entry)) heap.now
+    ensures { Gives (made_or_refused (list_changed (joined (group_items more.entry)) heap.now
         (item_value list.entry))) result }
 {
     match list {
@@ -26,8 +26,8 @@ pub(crate) fn room(heap: &Heap, list: Item<'_>, more: Group<'_>) -> Result<(), B
 
 /// The same, of a value.
 fn value_room(heap: &Heap, list: &Value, more: Group<'_>) -> Result<(), Broken>
-    ensures { Gives (allowed (list_changed (joined (group_items more.entry)) heap.now list.now))
-        result }
+    ensures { Gives (made_or_refused (list_changed (joined (group_items more.entry)) heap.now
+        list.now)) result }
 {
     match list {
         Value::Key(_) | Value::Leaf(_) => Err(Broken::Kind(Kind::Wrong)),
@@ -41,7 +41,7 @@ fn value_room(heap: &Heap, list: &Value, more: Group<'_>) -> Result<(), Broken>
 
 /// The same, of a cell.
 fn cell_room(cell: &Cell, more: Group<'_>) -> Result<(), Broken>
-    ensures { Gives (allowed (joined (group_items more.entry) cell.now)) result }
+    ensures { Gives (made_or_refused (joined (group_items more.entry) cell.now)) result }
 {
     match cell {
         Cell::List(items, walks) => {

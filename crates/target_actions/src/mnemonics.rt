@@ -14,7 +14,9 @@ pub struct Mnemonics {
 
 impl Mnemonics {
     /// Makes them.
-    pub fn new(alloc: Global) -> Result<Mnemonics, AllocError> {
+    pub fn new(alloc: Global) -> Result<Mnemonics, AllocError>
+        ensures { IfOk result (λ m. (m.write ≡ codes "FileWrite") × (m.run ≡ codes "Action")) }
+    {
         let write = Text::new(alloc, "FileWrite")?;
         let run = Text::new(alloc, "Action")?;
         Ok(Mnemonics { write, run })

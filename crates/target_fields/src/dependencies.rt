@@ -5,9 +5,7 @@ ghost use Rattle.analysis.specs.Seen.{dependency_seen, dependencies_seen};
 ghost use Rattle.contexts.specs.Fields.{place_of};
 ghost use Rattle.contexts.specs.Offered.{instances, instances_at};
 ghost use Rattle.target_fields.specs.Placed.{ArePlaced, HasFirst};
-ghost use Rattle.target_fields.specs.Sources.{info_kept, kept_instances};
 
-use crate::sources::{kept_instances, source_infos};
 use analysis::{Dependency, LabelKey, label_key};
 use plain::Shared;
 use std::alloc::{AllocError, Global};
@@ -17,25 +15,21 @@ use targets::Outcome;
 use values::{Frozen, Provider};
 use workspace::Label;
 
-/// The dependencies of a target with their outcomes, each found by its place and by its label; and `DefaultInfo`. What a source
-/// file offers is no part of its outcome: it is made here, once, and lent as all others' is.
+/// The dependencies of a target with their outcomes, each found by its place and by its label; and `DefaultInfo`.
 #[derive(Drop)]
 pub struct Dependencies<'a> {
     all: &'a [Dependency<'a>],
     /// The first place of each label.
     places: BTreeMap<LabelKey<'a>, usize>,
-    /// The `DefaultInfo` of each that is a source file.
-    source_infos: Vec<Option<Frozen>>,
     info: &'a Shared<Provider>,
 }
 
 impl<'a> Model for Dependencies<'a> {
-    ghost use Rattle.std.specs.Prelude.{◌≡◌, List, map};
+    ghost use Rattle.std.specs.Prelude.{◌≡◌, List};
     ghost use Rattle.operations.specs.Instances.{default_info};
     ghost use Rattle.targets.specs.Checks.{Dependency as Depends};
     ghost use Rattle.analysis.specs.Seen.{dependencies_seen};
     ghost use Rattle.target_fields.specs.Placed.{ArePlaced, HasFirst};
-    ghost use Rattle.target_fields.specs.Sources.{info_kept};
 
     ghost Value = { List Depends };
 
@@ -47,12 +41,11 @@ impl<'a> Model for Dependencies<'a> {
     ghost view = { λ d. dependencies_seen d.all.now };
 
     ghost invariant = { λ d. ArePlaced (dependencies_seen d.all.now) d.places
-        × (d.source_infos.items ≡ map info_kept (dependencies_seen d.all.now))
         × (d.info.now ≡ default_info) };
 }
 
 impl<'a> Dependencies<'a> {
-    /// These dependencies. Their labels are put in order once, and what source files offer is made once.
+    /// These dependencies. Their labels are put in order once.
     pub fn new(
         alloc: Global,
         all: &'a [Dependency<'a>],
@@ -62,13 +55,7 @@ impl<'a> Dependencies<'a> {
         ensures { IfOk result (λ d. d ≡ dependencies_seen all.now) }
     {
         let places = places(alloc, all)?;
-        let source_infos = source_infos(alloc, all, info)?;
-        Ok(Dependencies {
-            all,
-            places,
-            source_infos,
-            info,
-        })
+        Ok(Dependencies { all, places, info })
     }
 
     /// The provider `DefaultInfo`.
@@ -86,14 +73,14 @@ impl<'a> Dependencies<'a> {
     }
 
     /// The instances that the target at a place offers, where they lie.
-    pub(crate) fn instances(&self, place: usize) -> &[Frozen]
+    pub(crate) fn instances(&self, place: usize) -> &'a [Frozen]
         ensures { result.now ≡ instances_at (slice_get self.now place) }
     {
         let Some(dependency) = self.at(place) else {
             return &[];
         };
         match dependency.outcome {
-            Outcome::Source(_) => kept_instances(self.source_infos.as_slice(), place),
+            Outcome::Source(file) => std::slice::from_ref(file.info()),
             Outcome::Done(providers, _) => providers.as_slice(),
             Outcome::Failed(_) => &[],
         }

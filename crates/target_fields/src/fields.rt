@@ -13,13 +13,11 @@ use crate::files::files_in;
 use crate::listings::files;
 use field_names::{FieldName, KnownName};
 use operands::{Operand, owned};
-use plain::Text;
-use std::alloc::{AllocError, Global};
-use values::{Broken, Kind, Leaf, Object, Value};
-use workspace::Label;
+use std::alloc::Global;
+use values::{Broken, Item, Kind, Leaf, Object, Value};
 
-/// A field of a target or of an object, in the implementation of a target. What the context has made of it is lent; `label` of a
-/// dependency and `ctx.files` are made at each read.
+/// A field of a target or of an object, in the implementation of a target. Each is lent but `ctx.files`, which is listed at each
+/// read.
 ///
 /// # Errors
 ///
@@ -34,10 +32,7 @@ pub fn field<'a, 'b>(
         context.now.label.now owner.now name.now) result }
 {
     match owner {
-        Leaf::Target(place) => {
-            let value = target_field(alloc, &context.dependencies, *place, name)?;
-            or_name(value)
-        }
+        Leaf::Target(place) => or_name(target_field(&context.dependencies, *place, name)),
         Leaf::Object(Object::Context) => { or_name(context_field(context, name)) }
         Leaf::Object(Object::ContextAttr) => { or_name(attr_field(context, name)) }
         Leaf::Object(Object::ContextFiles) => owned(files_field(alloc, context, name)),
@@ -55,34 +50,24 @@ fn or_name<'a>(value: Option<Operand<'a>>) -> Result<Operand<'a>, Broken>
     }
 }
 
-/// A field of the target at a place.
+/// A field of the target at a place: all are lent.
 fn target_field<'a, 'b>(
-    alloc: Global,
     dependencies: &'a Dependencies<'b>,
     place: usize,
     name: &FieldName,
-) -> Result<Option<Operand<'a>>, AllocError>
-    ensures { IfOk result (λ v. v ≡ target_field (slice_get dependencies.now place) name.now) }
+) -> Option<Operand<'a>>
+    ensures { result ≡ target_field (slice_get dependencies.now place) name.now }
 {
     let Some(dependency) = dependencies.at(place) else {
-        return Ok(None);
+        return None;
     };
     if name.is(KnownName::Label) {
-        let label = label_value(alloc, dependency.label.get())?;
-        Ok(Some(Operand::own(label)))
+        Some(Operand::lent(Item::Tree(dependency.tree)))
     } else if name.is(KnownName::Files) {
-        Ok(files_in(dependencies.instances(place), dependencies.info().get()))
+        files_in(dependencies.instances(place), dependencies.info().get())
     } else {
-        Ok(None)
+        None
     }
-}
-
-/// A label as a value, with a text of its own: the label's is one that other threads read, so it isn't counted here.
-fn label_value(alloc: Global, label: &Label) -> Result<Value, AllocError>
-    ensures { IfOk result (λ v. v ≡ label_value label.now) }
-{
-    let text = Text::new(alloc, label.text())?;
-    Ok(Value::Leaf(Leaf::Label(text)))
 }
 
 /// A field of `ctx`: the label is lent.

@@ -1,9 +1,9 @@
 //! What an implementation reads: fields of the targets that it depends on, of `ctx` and of its parts, and the instances of
 //! providers that targets offer.
 //!
-//! Each call gives what its definition in `contexts` says, or answers that memory was refused. Of a dependency the text of its
-//! label alone is copied: its depsets and instances are lent where they lie, and so is what [`TargetContext`] made once of the
-//! target's label and attributes.
+//! Each call gives what its definition in `contexts` says, or answers that memory was refused. Nothing of a dependency is
+//! copied or counted: its label, its depsets and its instances are lent where they lie, and so is what [`TargetContext`] made
+//! once of the target's label and attributes. `ctx.files` alone makes a list, which names each File once more.
 #![tactic(auto)]
 
 mod attributes;
@@ -13,7 +13,6 @@ mod fields;
 mod files;
 mod listings;
 mod offered;
-mod sources;
 
 pub use context::TargetContext;
 pub use dependencies::Dependencies;

@@ -96,9 +96,6 @@ fn put_files(
     ensures { OnOk result (trees.new.items ≡ trees.old.items
         ++ map element_tree (listed_files (slice_get dependencies.now place))) }
 {
-    let Some(_) = dependencies.at(place) else {
-        return Ok(());
-    };
     match files_in(dependencies.instances(place), dependencies.info().get()) {
         Some(files) => put_value(alloc, files.item(), trees),
         None => Ok(()),

@@ -1,7 +1,6 @@
 -- Dependencies with their outcomes, one by one.
-use Rattle.std.proofs.Common.{◌≡◌, ◌∙◌, ℕ, zero, suc, ◌+◌, ◌<◌, List, [], ◌∷◌, ◌++◌, map, length, drop, get_or, slice_get, Some, sym, ap, refl, arith, add-one, append_assoc}
+use Rattle.std.proofs.Common.{◌≡◌, ◌∙◌, ℕ, zero, suc, ◌+◌, ◌<◌, ◌≤◌, List, [], ◌∷◌, ◌++◌, map, length, drop, get_or, slice_get, option_map, Some, None, sym, ap, refl, arith, add-one, append_assoc, append-nil}
 use Rattle.std.proofs.lemmas.List.{map-append}
-use Rattle.std.proofs.lemmas.Option.{slice_get_read}
 use Rattle.std.specs.Borrow.{Bor}
 use Rattle.workspace.specs.Labels.{LabelParts}
 use Rattle.targets.specs.Checks.{Dependency as Seen}
@@ -13,27 +12,52 @@ use Rattle.analysis.specs.declared.dependency.Dependency.{Dependency}
 abbrev held : List (Bor Outcome) → List Outcome
 held os = map (λ r. r.now) os
 
+abbrev paired : Outcome → LabelParts → Seen
+paired o l = (l, o)
+
 -- the next label and the next outcome stand first
-next : (n : ℕ) (ls : List LabelParts) (os : List (Bor Outcome)) (l : LabelParts) (o : Bor Outcome) → n < length ls → l ≡ get_or ls n l → slice_get os n ≡ Some o
-    → with_outcomes (drop n ls) (held (drop n os)) ≡ (l, o.now) ∷ with_outcomes (drop (suc n) ls) (held (drop (suc n) os))
-next n [] os l o low is at = absurd (omega (arith, low))
-next n (x ∷ ls) [] l o low is at = absurd cc
-next zero (x ∷ ls) (p ∷ os) l o low is at =
-    let e : p ≡ o = cc in
-    ap (λ (y : LabelParts). (y, p.now) ∷ with_outcomes ls (held os)) (sym is) ∙ ap (λ (q : Bor Outcome). (l, q.now) ∷ with_outcomes ls (held os)) e
-next (suc n) (x ∷ ls) (p ∷ os) l o low is at = next n ls os l o (omega (arith, low)) is at
+next : (n : ℕ) (ls : List LabelParts) (os : List (Bor Outcome)) (d : Seen) (o : Bor Outcome) → n < length os → o ≡ get_or os n o
+    → Some d ≡ option_map (λ l. (l, o.now)) (slice_get ls n) → with_outcomes (drop n ls) (held (drop n os)) ≡ d ∷ with_outcomes (drop (suc n) ls) (held (drop (suc n) os))
+next n ls [] d o low is at = absurd (omega (arith, low))
+next n [] (p ∷ os) d o low is at = absurd cc
+next zero (x ∷ ls) (p ∷ os) d o low is at =
+    let e : Some (x, p.now) ≡ Some d = ap (λ (q : Bor Outcome). Some (x, q.now)) (sym is) ∙ sym at in
+    ap (λ (y : Seen). y ∷ with_outcomes ls (held os)) cc
+next (suc n) (x ∷ ls) (p ∷ os) d o low is at = next n ls os d o (omega (arith, low)) is at
 
 -- one dependency more
-pub one_more : (ds news : List Dependency) (d : Dependency) (n : ℕ) (ls : List LabelParts) (os : List (Bor Outcome)) (all : List Seen)
-    → n < length ls → d.label.now ≡ get_or ls n d.label.now → (n < length os) × (d.outcome ≡ get_or os n d.outcome) → news ≡ ds ++ d ∷ []
+pub one_more : (ds news : List Dependency) (d : Dependency) (n : ℕ) (ls : List LabelParts) (os : List (Bor Outcome)) (o : Bor Outcome) (all : List Seen)
+    → n < length os → o ≡ get_or os n o → Some (dependency_seen d) ≡ option_map (λ l. (l, o.now)) (slice_get ls n) → news ≡ ds ++ d ∷ []
     → dependencies_seen ds ++ with_outcomes (drop n ls) (held (drop n os)) ≡ all
     → dependencies_seen news ++ with_outcomes (drop (n + 1) ls) (held (drop (n + 1) os)) ≡ all
-one_more ds news d n ls os all low is at more before =
+one_more ds news d n ls os o all low is at more before =
     let rest : List Seen = with_outcomes (drop (suc n) ls) (held (drop (suc n) os)) in
-    let there : slice_get os n ≡ Some d.outcome = slice_get_read os (length os) n d.outcome refl at.0 at.1 in
     ap (λ k. dependencies_seen news ++ with_outcomes (drop k ls) (held (drop k os))) (add-one n)
     ∙ ap (λ xs. dependencies_seen xs ++ rest) more
     ∙ ap (λ xs. xs ++ rest) (map-append dependency_seen ds (d ∷ []))
     ∙ append_assoc (dependencies_seen ds) (dependency_seen d ∷ []) rest
-    ∙ ap (λ xs. dependencies_seen ds ++ xs) (sym (next n ls os d.label.now d.outcome low is there))
+    ∙ ap (λ xs. dependencies_seen ds ++ xs) (sym (next n ls os (dependency_seen d) o low is at))
     ∙ before
+
+-- no label is left
+pub none_left : (n : ℕ) (ls : List LabelParts) (o : Outcome) (os : List Outcome) → option_map (paired o) (slice_get ls n) ≡ None → with_outcomes (drop n ls) os ≡ []
+none_left zero [] o os at = refl
+none_left (suc n) [] o os at = refl
+none_left zero (x ∷ ls) o os at = absurd cc
+none_left (suc n) (x ∷ ls) o os at = none_left n ls o os at
+
+without_outcomes : (ls : List LabelParts) → with_outcomes ls [] ≡ []
+without_outcomes [] = refl
+without_outcomes (l ∷ ls) = refl
+
+-- and no outcome is
+pub none_due : (n : ℕ) (ls : List LabelParts) (os : List (Bor Outcome)) → length os ≤ n → with_outcomes (drop n ls) (held (drop n os)) ≡ []
+none_due zero ls [] low = without_outcomes ls
+none_due zero ls (p ∷ os) low = absurd (omega (arith, low))
+none_due (suc n) ls [] low = without_outcomes (drop (suc n) ls)
+none_due (suc n) [] (p ∷ os) low = refl
+none_due (suc n) (x ∷ ls) (p ∷ os) low = none_due n ls os (omega (arith, low))
+
+-- then all stand there
+pub all_given : (ds : List Dependency) (rest all : List Seen) → dependencies_seen ds ++ rest ≡ all → rest ≡ [] → dependencies_seen ds ≡ all
+all_given ds rest all before none = sym (append-nil (dependencies_seen ds)) ∙ ap (λ xs. dependencies_seen ds ++ xs) (sym none) ∙ before

@@ -3,27 +3,25 @@ ghost use Rattle.std.specs.Prelude.{◌≡◌, IfOk, map};
 ghost use Rattle.targets.specs.Steps.{with_outcomes};
 ghost use Rattle.analysis.specs.Seen.{dependencies_seen};
 
-use analysis::Dependency;
-use plain::Shared;
+use analysis::{Dependency, Needed};
 use std::alloc::{AllocError, Global};
 use targets::Outcome;
-use workspace::Label;
 
 /// Labels with their outcomes, which stand in their order.
 pub(crate) fn with_outcomes<'a>(
     alloc: Global,
-    labels: &'a [Shared<Label>],
+    needed: &'a Needed,
     outcomes: &[&'a Outcome],
 ) -> Result<Vec<Dependency<'a>>, AllocError>
     ensures { IfOk result (λ ds. dependencies_seen ds.items
-        ≡ with_outcomes labels.now (map (λ r. r.now) outcomes.now)) }
+        ≡ with_outcomes needed.now (map (λ r. r.now) outcomes.now)) }
 {
-    let mut given = Vec::with_capacity(alloc, labels.len())?;
-    for (place, label) in labels.iter().enumerate() {
-        let Some(outcome) = outcomes.get(place) else {
+    let mut given = Vec::with_capacity(alloc, outcomes.len())?;
+    for (place, outcome) in outcomes.iter().enumerate() {
+        let Some(dependency) = needed.dependency(place, *outcome) else {
             return Ok(given);
         };
-        given.push(Dependency { label, outcome })?;
+        given.push(dependency)?;
     }
     Ok(given)
 }

@@ -13,4 +13,3 @@ mod returning;
 mod source;
 
 pub use one_target::Analysis;
-pub use source::source_outcome;

@@ -1,5 +1,6 @@
 //! The outcomes of targets.
 ghost use Rattle.std.specs.Prelude.{◌≡◌, [], IfOk, map};
+ghost use Rattle.workspace.specs.Labels.{label_path, label_text};
 ghost use Rattle.targets.specs.Steps.{analysed, finished, target_outcome, with_outcomes};
 ghost use Rattle.analysis.specs.Seen.{dependencies_seen};
 ghost use Rattle.target_outcomes.specs.Implementing.{implement};
@@ -7,7 +8,8 @@ ghost use Rattle.target_outcomes.specs.Implementing.{implement};
 use crate::calling::implement;
 use crate::given::with_outcomes;
 use crate::returning::Implemented;
-use analysis::{Dependency, default_info, failed_labels, finish, first_refused};
+use crate::source::source_file;
+use analysis::{Dependency, Needed, default_info, failed_labels, finish, first_refused};
 use contexts::Work;
 use loader::LoadedFiles;
 use loading::Placed;
@@ -15,7 +17,7 @@ use plain::Shared;
 use std::alloc::{AllocError, Global};
 use std::marker::Model;
 use target_actions::Mnemonics;
-use targets::{Outcome, Target, TargetFault};
+use targets::{Outcome, SourceFile, Target, TargetFault};
 use values::{Kind, Provider};
 use workspace::Label;
 
@@ -76,6 +78,21 @@ impl<'a> Analysis<'a> {
         })
     }
 
+    /// The outcome of a label that names a source file: the File at its path, which the label owns and whose text it shares.
+    ///
+    /// # Errors
+    ///
+    /// `AllocError` where memory was refused.
+    pub fn source_outcome(&self, alloc: Global, label: &Label) -> Result<Outcome, AllocError>
+        ensures { IfOk result (λ o. o ≡ Outcome.Source (record {
+          path = label_path label.now;
+          owner = label_text label.now;
+        })) }
+    {
+        let file = source_file(alloc, label)?;
+        Ok(Outcome::Source(SourceFile::new(alloc, file, &self.info)?))
+    }
+
     /// The outcome of a label that names a target, from the outcomes of the labels that the target depends on, which stand in
     /// the order of these. It is the first of these that applies: `dependency failed`, with all that failed; the first
     /// dependency that an attribute refuses; and what the implementation of the target's rule comes to.
@@ -88,7 +105,7 @@ impl<'a> Analysis<'a> {
         alloc: Global,
         label: &Label,
         target: &Target,
-        dependencies: &[Shared<Label>],
+        dependencies: &Needed,
         outcomes: &[&Outcome],
     ) -> Result<Outcome, AllocError>
         ensures { IfOk result (λ o. o

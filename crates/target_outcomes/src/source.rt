@@ -5,7 +5,6 @@ ghost use Rattle.workspace.specs.Labels.{label_path, label_text};
 use depsets::FileRef;
 use plain::{Shared, Text};
 use std::alloc::{AllocError, Global};
-use targets::Outcome;
 use workspace::Label;
 
 /// The path of the file that a label names.
@@ -20,19 +19,14 @@ fn path_of(alloc: Global, label: &Label) -> Result<Text, AllocError>
     Text::from_string(format!(in alloc; "{package}/{name}")?)
 }
 
-/// The outcome of a label that names a source file: the File at its path, which the label owns and whose text it shares.
-///
-/// # Errors
-///
-/// `AllocError` where memory was refused.
-pub fn source_outcome(alloc: Global, label: &Label) -> Result<Outcome, AllocError>
-    ensures { IfOk result (λ o. o ≡ Outcome.Source (record {
+/// The File at the path of a label, which the label owns and whose text it shares.
+pub(crate) fn source_file(alloc: Global, label: &Label) -> Result<Shared<FileRef>, AllocError>
+    ensures { IfOk result (λ f. f ≡ record {
       path = label_path label.now;
       owner = label_text label.now;
-    })) }
+    }) }
 {
     let path = path_of(alloc, label)?;
     let owner = label.shared_text().share()?;
-    let file = Shared::new(alloc, FileRef::new(path, owner))?;
-    Ok(Outcome::Source(file))
+    Shared::new(alloc, FileRef::new(path, owner))
 }

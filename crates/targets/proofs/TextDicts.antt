@@ -13,7 +13,7 @@ use Rattle.keys.specs.declared.key.Key.TheVariants as index
 use Rattle.values.specs.declared.value.Value.{Value}
 use Rattle.operations.specs.Reading.{string_in}
 use Rattle.targets.specs.RuleCalls.{each_of}
-use Rattle.targets.specs.TextDicts.{entry_of, text_shown, text_entry, entry_key, entry_tree, AreEntries, dict_of_texts, entries_in, value_shown, value_frozen}
+use Rattle.targets.specs.TextDicts.{entry_of, text_shown, text_entry, entry_key, entry_tree, AreEntries, dict_of_texts, text_entries_in, value_shown, value_frozen}
 use Rattle.targets.specs.TextLists.{text_tree}
 use Rattle.targets.specs.declared.text_dict.TextEntry.{TextEntry}
 use Rattle.targets.proofs.EachMade.{found, none_made, are_found, made_of_found}
@@ -50,16 +50,16 @@ module _ (h : List Cell) where
 
 -- ---- the entries of a frozen dict
 
-entries_back : (es : List TextEntry) → entries_in (branch (dict_of_texts es)) ≡ es
+entries_back : (es : List TextEntry) → text_entries_in (branch (dict_of_texts es)) ≡ es
 entries_back [] = refl
 entries_back (e ∷ es) = ap (λ us. e ∷ us) (entries_back es)
 
 module _ (t : FrozenTree) (es : List TextEntry) (is : t ≡ branch (dict_of_texts es)) where
-  pub entries_of_dict : entries_in t ≡ es
-  entries_of_dict = ap entries_in is ∙ entries_back es
+  pub entries_of_dict : text_entries_in t ≡ es
+  entries_of_dict = ap text_entries_in is ∙ entries_back es
 
   -- the frozen dict of entries is that of its entries, and no two have one key
-  pub is_of_its_entries : AreEntries es → (t ≡ branch (dict_of_texts (entries_in t))) × AreEntries (entries_in t)
+  pub is_of_its_entries : AreEntries es → (t ≡ branch (dict_of_texts (text_entries_in t))) × AreEntries (text_entries_in t)
   is_of_its_entries d = (
     is ∙ ap (λ us. branch (dict_of_texts us)) (sym entries_of_dict),
     subst (λ (us : List TextEntry). AreEntries us) (sym entries_of_dict) d,

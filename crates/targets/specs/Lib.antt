@@ -7,5 +7,6 @@ pub mod Resolving
 pub mod Checks
 pub mod OutcomeCodes
 pub mod Placed
+pub mod Sources
 pub mod Steps
 pub mod Laws

@@ -2,11 +2,6 @@
 -- order of the faults is this project's own; docs/PROFILE.md, "Outcomes").
 use Rattle.std.specs.Prelude.{ℕ, Bool, true, false, not, ◌&&◌, List, [], ◌∷◌, map, Option, Some, None, Result, Ok, Err, if◌then◌else◌, bytes_eq}
 use Rattle.std.specs.List.{list_any, filter}
-use Rattle.depsets.specs.Own.{Own}
-use Rattle.depsets.specs.Rose.{Rose, node}
-use Rattle.depsets.specs.Rose as rose
-use Rattle.depsets.specs.declared.depset.Order.TheVariants as order
-use Rattle.depsets.specs.declared.element.Element.{Element}
 use Rattle.depsets.specs.declared.element.FileRef.{FileRef}
 use Rattle.values.specs.Tree.{leaf, branch, list, instance, tree_list, slots}
 use Rattle.values.specs.View.{FrozenTree, FrozenBranch}
@@ -18,6 +13,7 @@ use Rattle.operations.specs.Instances.{default_info}
 use Rattle.workspace.specs.Labels.{LabelParts, label_text, label_path}
 use Rattle.targets.specs.Resolving.{Named, target, source_file, failed_package, nothing, dependencies}
 use Rattle.targets.specs.Checks.{Dependency, provider_of, offers, first_refused}
+use Rattle.targets.specs.Sources.{first_depset}
 use Rattle.targets.specs.declared.outcome.Outcome.{Outcome}
 use Rattle.targets.specs.declared.outcome.Outcome.TheVariants.{Source, Done, Failed}
 use Rattle.targets.specs.declared.outcome.TargetFault.{TargetFault}
@@ -60,10 +56,6 @@ abbrev pub instances_in : FrozenTree → Option (List FrozenTree)
 instances_in (leaf plain.None) = Some []
 instances_in (branch b) = branch_instances b
 instances_in _ = None
-
--- a depset that no call made, with serial 0: that of a source file has its File, and that of a missing `DefaultInfo` is empty
-abbrev pub first_depset : List ℕ → List Element → Rose Own
-first_depset owner es = node (record { id = record { owner = owner; serial = 0 }; order = order.Default; direct = es }) rose.none
 
 -- what a `DefaultInfo` is that isn't returned
 abbrev pub missing_default_info : LabelParts → FrozenTree

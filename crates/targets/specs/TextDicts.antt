@@ -2,7 +2,7 @@
 use Rattle.std.specs.Prelude.{ℕ, List, [], map, Option, Some, None, option_map, option_and_then}
 use Rattle.values.specs.Keyed.{AreDistinct}
 use Rattle.values.specs.Shape.{Shape, shape}
-use Rattle.values.specs.Tree.{key, branch, dict, pairs, pair_list}
+use Rattle.values.specs.Tree.{branch, dict, pairs, pair_list}
 use Rattle.values.specs.View.{FrozenTree, FrozenBranch}
 use Rattle.values.specs.declared.cells.Cell.{Cell}
 use Rattle.keys.specs.Texts.{key_text}
@@ -10,7 +10,7 @@ use Rattle.keys.specs.declared.key.Key.{Key}
 use Rattle.keys.specs.declared.key.Key.TheVariants as index
 use Rattle.values.specs.declared.value.Value.{Value}
 use Rattle.operations.specs.Reading.{string_in}
-use Rattle.targets.specs.TextLists.{tree_text, text_seen}
+use Rattle.targets.specs.TextLists.{text_tree, tree_text, text_seen}
 use Rattle.targets.specs.declared.text_dict.TextEntry.{TextEntry}
 
 -- ---- reading one
@@ -37,7 +37,7 @@ abbrev pub entry_key : TextEntry → Key
 entry_key e = index.Text e.key
 
 abbrev pub entry_tree : TextEntry → FrozenTree
-entry_tree e = key (index.Text e.value)
+entry_tree e = text_tree e.value
 
 -- no two entries have one key
 abbrev pub AreEntries : List TextEntry → Type 0
@@ -52,9 +52,9 @@ abbrev pub pair_entry : Key × FrozenTree → TextEntry
 pair_entry p = entry_of (key_text p.0) (tree_text p.1)
 
 -- the entries of a frozen dict
-abbrev pub entries_in : FrozenTree → List TextEntry
-entries_in (branch (dict ps)) = map pair_entry (pair_list ps)
-entries_in _ = []
+abbrev pub text_entries_in : FrozenTree → List TextEntry
+text_entries_in (branch (dict ps)) = map pair_entry (pair_list ps)
+text_entries_in _ = []
 
 -- the frozen value of an entry whose key is a string, and whose value shows one
 abbrev pub value_shown : Key → Shape → Option FrozenTree

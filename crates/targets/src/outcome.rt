@@ -1,9 +1,8 @@
 //! What becomes of a label, as workers hand it on.
 ghost use Rattle.std.specs.Prelude.{◌≡◌, ◌++◌, ◌∷◌, [], IfOk, OnOk, OnErr};
 
-use crate::Sequence;
+use crate::{Sequence, SourceFile};
 use actions::Action;
-use depsets::FileRef;
 use plain::{Shared, Text};
 use std::alloc::{AllocError, Global};
 use std::marker::Model;
@@ -137,7 +136,7 @@ pub enum TargetFault {
 
 /// What becomes of a label: a source file; the providers and the actions of a target; or why there are none.
 pub enum Outcome {
-    Source(Shared<FileRef>),
+    Source(SourceFile),
     Done(Providers, Actions),
     Failed(TargetFault),
 }

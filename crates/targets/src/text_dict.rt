@@ -16,9 +16,9 @@ use values::{Branch, Frozen, Heap, Key, Seen, Table};
 
 /// A key and its value, both strings, as a contract speaks of them.
 #[derive(Drop)]
-pub struct TextEntry {
-    pub key: Text,
-    pub value: Text,
+struct TextEntry {
+    key: Text,
+    value: Text,
 }
 
 /// A dict whose keys and values are strings, as the frozen dict that whoever reads it is lent: to a contract its entries in
@@ -32,14 +32,14 @@ impl Model for TextDict {
     ghost use Rattle.std.specs.Prelude.{List, ◌≡◌};
     ghost use Rattle.values.specs.Tree.{branch};
     ghost use Rattle.targets.specs.declared.text_dict.TextEntry.{TextEntry as Entry};
-    ghost use Rattle.targets.specs.TextDicts.{AreEntries, entries_in, dict_of_texts};
+    ghost use Rattle.targets.specs.TextDicts.{AreEntries, text_entries_in, dict_of_texts};
 
     ghost Value = { List Entry };
 
-    ghost view = { λ d. entries_in d.tree };
+    ghost view = { λ d. text_entries_in d.tree };
 
-    ghost invariant = { λ d. (d.tree ≡ branch (dict_of_texts (entries_in d.tree)))
-        × AreEntries (entries_in d.tree) };
+    ghost invariant = { λ d. (d.tree ≡ branch (dict_of_texts (text_entries_in d.tree)))
+        × AreEntries (text_entries_in d.tree) };
 }
 
 impl TextDict {

@@ -153,7 +153,7 @@ impl Label {
         &self.text
     }
 
-    /// Another name of the same label, which shares its text.
+    /// Another name of the same label. It may share its text.
     ///
     /// # Errors
     ///

@@ -5,4 +5,4 @@ use Rattle.target_outcomes.proofs.given.with_outcomes.Given as goal
 
 abbrev pub invariant-loop-place : goal.invariant-loop-place
 invariant-loop-place l =
-    dependencies_seen l.given.items ++ with_outcomes (drop l.place l.labels) (map (λ r. r.now) (drop l.place l.outcomes)) ≡ with_outcomes l.labels (map (λ r. r.now) l.outcomes)
+    dependencies_seen l.given.items ++ with_outcomes (drop l.place l.needed) (map (λ r. r.now) (drop l.place l.outcomes)) ≡ with_outcomes l.needed (map (λ r. r.now) l.outcomes)

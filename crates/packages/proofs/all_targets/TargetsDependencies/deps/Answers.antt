@@ -13,4 +13,5 @@ returns-in-Undeclared c =
     }
 
 pub returns-in-Target-clause-once : goal.returns-in-Target-clause-once
-returns-in-Target-clause-once c = dependencies_once c.in-Target.field-0.now c.in-Target.dependencies.now c.in-Target.ensures.dependencies
+returns-in-Target-clause-once c =
+    dependencies_once c.in-Target.field-0.now c.labels.result.now (c.labels.ensures ∙ c.in-Target.ensures.dependencies)

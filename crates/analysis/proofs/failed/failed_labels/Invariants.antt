@@ -1,7 +1,7 @@
 use Rattle.std.proofs.Common.{◌≡◌, ◌++◌, drop}
 use Rattle.targets.specs.Steps.{failed_labels}
 use Rattle.analysis.specs.Seen.{dependencies_seen}
-use Rattle.analysis.proofs.dependency.failed_labels.Given as goal
+use Rattle.analysis.proofs.failed.failed_labels.Given as goal
 
 abbrev pub invariant-loop-dependency : goal.invariant-loop-dependency
 invariant-loop-dependency l =

@@ -1,6 +1,0 @@
-use Rattle.std.proofs.Common.{◌≡◌, drop, fold}
-use Rattle.analysis.specs.Keyed.{digest, digest_step}
-use Rattle.analysis.proofs.label_keys.digest.Given as goal
-
-abbrev pub invariant-loop-byte : goal.invariant-loop-byte
-invariant-loop-byte l = fold digest_step l.found (drop l.byte-index l.text) ≡ digest l.text

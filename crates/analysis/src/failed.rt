@@ -1,0 +1,49 @@
+//! Dependencies that failed.
+ghost use Rattle.std.specs.Prelude.{◌≡◌, ◌++◌, ◌∷◌, [], IfOk, OnOk};
+ghost use Rattle.targets.specs.Steps.{is_failed, failed_labels};
+ghost use Rattle.analysis.specs.Seen.{dependency_seen, dependencies_seen};
+
+use crate::dependency::Dependency;
+use plain::Shared;
+use std::alloc::{AllocError, Global};
+use targets::{Outcome, Sequence};
+use workspace::Label;
+
+/// Whether an outcome is a failure.
+fn is_failed(outcome: &Outcome) -> bool
+    ensures { result ≡ is_failed outcome.now }
+{
+    match outcome {
+        Outcome::Source(_) => false,
+        Outcome::Done(_, _) => false,
+        Outcome::Failed(_) => true,
+    }
+}
+
+/// The labels of the dependencies that failed, in order.
+pub fn failed_labels(
+    alloc: Global,
+    dependencies: &[Dependency<'_>],
+) -> Result<Sequence<Shared<Label>>, AllocError>
+    ensures { IfOk result (λ ls. ls ≡ failed_labels (dependencies_seen dependencies.now)) }
+{
+    let mut failed = Sequence::new(alloc);
+    for dependency in dependencies {
+        note_failed(dependency, &mut failed)?;
+    }
+    Ok(failed)
+}
+
+/// Puts a dependency's label last, if it failed.
+fn note_failed(
+    dependency: &Dependency<'_>,
+    failed: &mut Sequence<Shared<Label>>,
+) -> Result<(), AllocError>
+    ensures { OnOk result (failed.new ≡ failed.old
+        ++ failed_labels (dependencies_seen (dependency.now ∷ []))) }
+{
+    if is_failed(dependency.outcome) {
+        failed.push(dependency.label.share()?)?;
+    }
+    Ok(())
+}
