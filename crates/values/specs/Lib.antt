@@ -9,8 +9,10 @@ pub mod Keyed
 pub mod Ticking
 pub mod Cells
 pub mod CellCodes
+pub mod Held
 pub mod Shape
 pub mod Seeing
 pub mod Laws
 pub mod Visits
+pub mod Walks
 pub mod KindText

@@ -3,11 +3,7 @@ ghost use Rattle.std.specs.Prelude.{◌≡◌, ◌<◌, ◌≤◌, IfSome, Some,
 ghost use Rattle.values.specs.Tree.{slots, trees};
 ghost use Rattle.values.specs.Extents.{IsExtent, Measure, above, beside, can_freeze, no_values, one, slots_measure, trees_measure, values_measure, with_slot};
 
-use crate::{Frozen, Leaf, tree_at};
-
-/// How many levels a frozen value has at most, which bounds all that goes down in one, its drop too. A visit goes as deep.
-/// (This project's own limit.)
-const MOST_LEVELS: u16 = 64;
+use crate::{Frozen, Leaf, VISITED_LEVELS, tree_at};
 
 /// How many values a visit of a frozen value finds, and on how many levels. The value itself is one of them.
 #[derive(Clone, Copy, Debug)]
@@ -16,8 +12,8 @@ pub struct Extent {
     pub values: u32,
     /// The value is on the first.
     pub levels: u16,
-    /// Whether each of them can be frozen. Where that is false `values` says nothing: a leaf can't be frozen, or there are
-    /// more values than the number can tell.
+    /// Whether it is known that each of them can be frozen, and how many they are. Where that is false `values` says nothing: a
+    /// leaf can't be frozen, or there are more values than the number can tell.
     pub is_whole: bool,
 }
 
@@ -75,12 +71,13 @@ impl Extent {
         }
     }
 
-    /// Of a value above parts, None where it would have more than 64 levels.
+    /// Of a value above parts, None where it would have more than 64 levels: no such value is frozen, so all that goes down the
+    /// parts of one, its drop too, goes 64 deep. (A depset is a leaf, and has its own limit.)
     pub(crate) fn above(self) -> Option<Extent>
         ensures { IfSome result (λ e. (e.levels ≤ 64)
             × ((m : Measure) → IsExtent self m → IsExtent e (above m))) }
     {
-        if self.levels >= MOST_LEVELS {
+        if u32::from(self.levels) >= VISITED_LEVELS {
             return None;
         }
         let levels = self.levels + 1;

@@ -5,13 +5,15 @@
 ghost use Rattle.std.specs.Prelude.{◌≡◌, ◌+◌, ◌-◌, ◌++◌, ◌∷◌, [], ◌<◌, Ok, Some, None, length, take, slice_get, option_copied, IfOk, IfSome, OnErr, MatchResult};
 ghost use Rattle.values.specs.Ticking.{FaultOr};
 ghost use Rattle.values.specs.Cells.{made, pushed_items, joined_items, indexed_items, keyed_entries, pushed, joined, indexed, keyed, walk_begun, walk_begun_at, walk_over, walk_ended, ended_at, place_of, list_changed, dict_changed, IsWalked};
+ghost use Rattle.values.specs.Shape.{cell_shape};
+ghost use Rattle.values.specs.Walks.{walked_items, walked_values};
 ghost use Rattle.values.specs.declared.cells.Cell.{Cell as Kept};
 ghost use Rattle.values.specs.declared.ticks.Kind.{Kind as Fault};
 ghost use Rattle.std.specs.Prelude.{Result};
 
 use crate::{
     Broken, Cell, Entries, Fields, HeldEntries, HeldItems, Items, Key, Kind, LARGEST, Provider,
-    Value,
+    Value, Walked,
 };
 use plain::Shared;
 use std::alloc::{AllocError, Global};
@@ -74,8 +76,7 @@ impl Heap {
             × FaultOr (made self.old (Cell.List items 0) (length items)) e) }
     {
         let parts = items.len();
-        let items = HeldItems::new(*self.cells.allocator(), items)?;
-        self.add(Cell::List(items, 0), parts)
+        self.add(Cell::List(HeldItems::new(items), 0), parts)
     }
 
     /// A new tuple in the next cell, or `large`.
@@ -85,8 +86,7 @@ impl Heap {
             × FaultOr (made self.old (Cell.Tuple items) (length items)) e) }
     {
         let parts = items.len();
-        let items = HeldItems::new(*self.cells.allocator(), items)?;
-        self.add(Cell::Tuple(items), parts)
+        self.add(Cell::Tuple(HeldItems::new(items)), parts)
     }
 
     /// A new dict in the next cell, or `large`.
@@ -196,6 +196,23 @@ impl Heap {
             return Err(broken);
         }
         Ok(())
+    }
+
+    /// What a walk over the cell of this number goes over, shared with it and not copied. The heap stays as it was.
+    ///
+    /// # Errors
+    ///
+    /// `AllocError` where there is no memory for the count of those who share, or where it is at its greatest.
+    pub fn share(&mut self, number: usize) -> Result<Walked, AllocError>
+        ensures same { self.new ≡ self.old }
+        ensures ok { IfOk result (λ w. walked_values w
+            ≡ walked_items (cell_shape (slice_get self.old number))) }
+    {
+        let alloc = *self.cells.allocator();
+        if number >= self.cells.len() {
+            return Ok(Walked::Nothing);
+        }
+        share_in(&mut self.cells[number], alloc)
     }
 
     /// A walk over a list, a tuple or a dict begins: until it is over, a list or a dict isn't changed.
@@ -430,6 +447,19 @@ fn put(entries: &mut HeldEntries, key: Key, item: Value) -> Result<(), Broken>
     }
     entries.put(key, item)?;
     Ok(())
+}
+
+/// Shares what a walk over a cell goes over.
+fn share_in(cell: &mut Cell, alloc: Global) -> Result<Walked, AllocError>
+    ensures same { cell.new ≡ cell.old }
+    ensures ok { IfOk result (λ w. walked_values w ≡ walked_items (cell_shape (Some cell.old))) }
+{
+    match cell {
+        Cell::List(items, _) => Ok(Walked::Items(items.share(alloc)?)),
+        Cell::Tuple(items) => Ok(Walked::Items(items.share(alloc)?)),
+        Cell::Dict(entries, _) => Ok(Walked::Entries(entries.share()?)),
+        Cell::Instance(_, _) => Ok(Walked::Nothing),
+    }
 }
 
 /// Counts a walk over a cell.

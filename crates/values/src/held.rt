@@ -1,51 +1,81 @@
 //! Items and entries as cells hold them: what a walk goes over is shared with it, and not copied.
 //!
-//! Names of one thread share them. They are changed where they lie while one name alone holds them, and else in a copy, so
-//! that what another name holds stays as it was.
+//! Entries, which are wide, lie behind a count that names of one thread share. A cell owns its items until the first walk over
+//! them, since most are never walked; then they go behind such a count too. Both are changed where they lie while one name
+//! alone holds them, and else in a copy, so that what another name holds stays as it was.
 ghost use Rattle.indexmap.specs.IndexMap.{insert_entry};
-ghost use Rattle.std.specs.Map.{lookup};
-ghost use Rattle.values.specs.Keyed.{has_key};
 ghost use Rattle.values.specs.Leaves.{same_key};
+ghost use Rattle.values.specs.Held.{kept_items};
 ghost use Rattle.std.specs.Prelude.{◌≡◌, ◌++◌, ◌∷◌, [], ◌<◌, IfOk, OnOk, OnErr, length, slice_set};
 
 use crate::{Entries, Items, Key, Value};
 use std::alloc::{AllocError, Global};
 use std::marker::Model;
+use std::mem::replace;
 use std::rc::Rc;
 
 /// The items of a list or a tuple, as its cell holds them.
 #[derive(Drop)]
 pub struct HeldItems {
-    items: Rc<Items>,
+    kept: KeptItems,
+}
+
+/// Where items lie: with the cell, or behind a count since the first walk.
+enum KeptItems {
+    Own(Items),
+    Shared(Rc<Items>),
+}
+
+impl Drop for KeptItems {
+    fn drop(self) {
+        match self {
+            KeptItems::Own(_) => {}
+            KeptItems::Shared(_) => {}
+        }
+    }
 }
 
 impl Model for HeldItems {
     ghost use Rattle.std.specs.Prelude.{List};
     ghost use Rattle.values.specs.declared.value.Value.{Value as Held};
     ghost use Rattle.values.specs.ValueCodes.{items_code};
+    ghost use Rattle.values.specs.Held.{kept_items};
 
     ghost Value = { List Held };
 
     ghost coded = { items_code };
 
-    ghost view = { λ h. h.items.value };
+    ghost view = { λ h. kept_items h.kept };
 }
 
 impl HeldItems {
     /// These items.
-    pub fn new(alloc: Global, items: Items) -> Result<HeldItems, AllocError>
-        ensures { IfOk result (λ h. h ≡ items) }
+    #[inline(always)]
+    pub fn new(items: Items) -> HeldItems
+        ensures { result ≡ items }
     {
-        let items = Rc::new(alloc, items)?;
-        Ok(HeldItems { items })
+        HeldItems {
+            kept: KeptItems::Own(items),
+        }
     }
 
-    /// Another name of the same items: a count more, which no other thread sees, and no copy.
-    pub fn share(&self) -> Result<HeldItems, AllocError>
-        ensures { IfOk result (λ h. h ≡ self.now) }
+    /// Another name of the same items, without a copy. The first one puts them behind a count, which no other thread sees;
+    /// each one after it is a count more. They themselves stay as they were, after a refusal of memory too.
+    ///
+    /// # Errors
+    ///
+    /// `AllocError` where there is no memory for the count, or where it is at its greatest.
+    pub fn share(&mut self, alloc: Global) -> Result<HeldItems, AllocError>
+        ensures same { self.new ≡ self.old }
+        ensures ok { IfOk result (λ h. h ≡ self.old) }
     {
-        let items = self.items.clone()?;
-        Ok(HeldItems { items })
+        let none = KeptItems::Own(Items::new(alloc));
+        let (kept, shared) = replace(&mut self.kept, none).shared(alloc);
+        self.kept = kept;
+        let items = shared?;
+        Ok(HeldItems {
+            kept: KeptItems::Shared(items),
+        })
     }
 
     /// How many there are.
@@ -53,7 +83,10 @@ impl HeldItems {
     pub fn len(&self) -> usize
         ensures { result ≡ length self.now }
     {
-        self.items.len()
+        match &self.kept {
+            KeptItems::Own(items) => items.len(),
+            KeptItems::Shared(items) => items.len(),
+        }
     }
 
     /// All of them, in order.
@@ -61,7 +94,10 @@ impl HeldItems {
     pub fn as_slice(&self) -> &[Value]
         ensures { result.now ≡ self.now }
     {
-        self.items.as_slice()
+        match &self.kept {
+            KeptItems::Own(items) => items.as_slice(),
+            KeptItems::Shared(items) => items.as_slice(),
+        }
     }
 
     /// Puts an item last. After a refusal of memory they are as they were.
@@ -70,7 +106,10 @@ impl HeldItems {
         ensures ok { OnOk result (self.new ≡ self.old ++ value ∷ []) }
         ensures err { OnErr result (self.new ≡ self.old) }
     {
-        Rc::make_mut(&mut self.items)?.push(value)
+        match &mut self.kept {
+            KeptItems::Own(items) => items.push(value),
+            KeptItems::Shared(items) => Rc::make_mut(items)?.push(value),
+        }
     }
 
     /// Puts the items of another after these. After a refusal of memory these are as they were.
@@ -78,7 +117,10 @@ impl HeldItems {
         ensures ok { OnOk result (self.new ≡ self.old ++ more) }
         ensures err { OnErr result (self.new ≡ self.old) }
     {
-        Rc::make_mut(&mut self.items)?.append(more)
+        match &mut self.kept {
+            KeptItems::Own(items) => items.append(more),
+            KeptItems::Shared(items) => Rc::make_mut(items)?.append(more),
+        }
     }
 
     /// Sets the item at a place. After a refusal of memory they are as they were.
@@ -87,8 +129,29 @@ impl HeldItems {
         ensures ok { OnOk result (self.new ≡ slice_set self.old place value) }
         ensures err { OnErr result (self.new ≡ self.old) }
     {
-        Rc::make_mut(&mut self.items)?.set(place, value);
+        match &mut self.kept {
+            KeptItems::Own(items) => items.set(place, value),
+            KeptItems::Shared(items) => Rc::make_mut(items)?.set(place, value),
+        }
         Ok(())
+    }
+}
+
+impl KeptItems {
+    /// These behind a count, and another name of them. After a refusal they are as they were, or behind a count.
+    fn shared(self, alloc: Global) -> (KeptItems, Result<Rc<Items>, AllocError>)
+        ensures same { kept_items result.0 ≡ kept_items self }
+        ensures ok { IfOk result.1 (λ items. items.value ≡ kept_items self) }
+    {
+        let items = match self {
+            KeptItems::Shared(items) => items,
+            KeptItems::Own(items) => match Rc::new(alloc, items) {
+                Ok(items) => items,
+                Err(refused) => return (KeptItems::Own(refused.value), Err(AllocError)),
+            },
+        };
+        let another: Result<Rc<Items>, AllocError> = items.clone();
+        (KeptItems::Shared(items), another)
     }
 }
 
@@ -143,4 +206,15 @@ impl HeldEntries {
     {
         Rc::make_mut(&mut self.entries)?.put(key, value)
     }
+}
+
+/// What a walk over a cell goes over, shared with the cell.
+#[derive(Drop)]
+pub enum Walked {
+    /// The items of a list or a tuple.
+    Items(HeldItems),
+    /// The entries of a dict, whose keys are walked.
+    Entries(HeldEntries),
+    /// Nothing: an instance isn't walked, and no more is a cell that isn't there.
+    Nothing,
 }

@@ -27,7 +27,7 @@ pub use depsets::{
 pub use extent::Extent;
 pub use frozen::{Branch, Frozen, Held, Node, tree_at};
 pub use heap::{Heap, place_of};
-pub use held::{HeldEntries, HeldItems};
+pub use held::{HeldEntries, HeldItems, Walked};
 pub use keys::Key;
 pub use laws::{changes_touch_one_cell, walked_cells_keep_their_items, walks_leave_walked_cells};
 pub use leaf::{

@@ -1,6 +1,6 @@
 //! Ticks, the kinds of fault, and what a visit costs.
 ghost use Rattle.std.specs.Prelude.{◌≡◌, ◌+◌, ◌≤◌, ◌<◌, Ok, Err, MatchResult, OnErr};
-ghost use Rattle.values.specs.Ticking.{ticked, entered, FaultOr, Spends};
+ghost use Rattle.values.specs.Ticking.{ticked, entered, Spends};
 ghost use Rattle.values.specs.KindText.{kind_text};
 
 use plain::Text;
@@ -136,7 +136,18 @@ impl From<AllocError> for Broken {
     }
 }
 
-/// The greatest depth of a value that is visited: the whole value is at depth 1. (This project's own limit.)
+impl From<Kind> for Broken {
+    ghost use Rattle.values.specs.declared.ticks.Broken.TheVariants as broken;
+
+    ghost from_gives = { λ k b. b ≡ broken.Kind k };
+
+    fn from(kind: Kind) -> Broken {
+        Broken::Kind(kind)
+    }
+}
+
+/// The greatest depth of a value that is visited, and of one that is frozen: the whole value is at depth 1. (This project's own
+/// limit.)
 pub const VISITED_LEVELS: u32 = 64;
 
 /// Ticks used, of a limit.
@@ -174,16 +185,16 @@ impl Ticks {
 
     /// One tick more, or the fault `steps` where the limit is used up; then they stay as they were.
     #[inline(always)]
-    pub fn tick(&mut self) -> Result<(), Broken>
+    pub fn tick(&mut self) -> Result<(), Kind>
         ensures answer { MatchResult result (λ _. ticked self.old ≡ Ok self.new)
-            (λ e. (e ≡ Broken.Kind Kind.Steps) × (ticked self.old ≡ Err Kind.Steps)) }
+            (λ k. (k ≡ Kind.Steps) × (ticked self.old ≡ Err Kind.Steps)) }
         ensures spent { OnErr result (self.new ≡ self.old) }
     {
         if self.used < self.limit {
             self.used += 1;
             Ok(())
         } else {
-            Err(Broken::Kind(Kind::Steps))
+            Err(Kind::Steps)
         }
     }
 
@@ -201,15 +212,13 @@ impl Ticks {
 
     /// A visit of a value with this many levels left: a tick, and then the fault `deep` where none is left.
     #[inline(always)]
-    pub fn enter(&mut self, left: u32) -> Result<(), Broken>
+    pub fn enter(&mut self, left: u32) -> Result<(), Kind>
         ensures { MatchResult result (λ _. (entered left self.old ≡ Ok self.new) × (0 < left))
-            (λ e. FaultOr (entered left self.old) e) }
+            (λ k. entered left self.old ≡ Err k) }
     {
-        if let Err(broken) = self.tick() {
-            return Err(broken);
-        }
+        self.tick()?;
         if left == 0 {
-            return Err(Broken::Kind(Kind::Deep));
+            return Err(Kind::Deep);
         }
         Ok(())
     }
