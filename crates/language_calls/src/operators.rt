@@ -55,10 +55,8 @@ fn equal(state: &mut State, left: Item<'_>, right: Item<'_>) -> Result<Value, Br
     ensures { Does (as_truth (equals (item_value left.entry) (item_value right.entry))) state.old
         result state.new }
 {
-    match state::equals(state, left, right) {
-        Ok(same) => Ok(Value::Key(Key::Truth(same))),
-        Err(broken) => Err(broken),
-    }
+    let same = state::equals(state, left, right)?;
+    Ok(Value::Key(Key::Truth(same)))
 }
 
 /// `left != right`.
@@ -67,10 +65,8 @@ fn not_equal(state: &mut State, left: Item<'_>, right: Item<'_>) -> Result<Value
     ensures { Does (as_opposite (equals (item_value left.entry) (item_value right.entry))) state.old
         result state.new }
 {
-    match state::equals(state, left, right) {
-        Ok(same) => Ok(Value::Key(Key::Truth(!same))),
-        Err(broken) => Err(broken),
-    }
+    let same = state::equals(state, left, right)?;
+    Ok(Value::Key(Key::Truth(!same)))
 }
 
 /// `left < right` and its like.
@@ -96,10 +92,8 @@ fn within(state: &mut State, left: Item<'_>, right: Item<'_>) -> Result<Value, B
     ensures { Does (as_truth (member (item_value left.entry) (item_value right.entry))) state.old
         result state.new }
 {
-    match text_calls::member(state, left, right) {
-        Ok(held) => Ok(Value::Key(Key::Truth(held))),
-        Err(broken) => Err(broken),
-    }
+    let held = text_calls::member(state, left, right)?;
+    Ok(Value::Key(Key::Truth(held)))
 }
 
 /// `left not in right`.
@@ -108,10 +102,8 @@ fn not_within(state: &mut State, left: Item<'_>, right: Item<'_>) -> Result<Valu
     ensures { Does (as_opposite (member (item_value left.entry) (item_value right.entry))) state.old
         result state.new }
 {
-    match text_calls::member(state, left, right) {
-        Ok(held) => Ok(Value::Key(Key::Truth(!held))),
-        Err(broken) => Err(broken),
-    }
+    let held = text_calls::member(state, left, right)?;
+    Ok(Value::Key(Key::Truth(!held)))
 }
 
 /// `left - right` and the other operators of whole numbers alone.

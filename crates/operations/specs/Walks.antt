@@ -1,9 +1,9 @@
 -- Walks of `for` and of comprehensions, and unpacking. (Starlark's specification, "For loops" and "Assignments"; that only lists,
 -- tuples and dicts are walked, and only lists and tuples unpacked, is this project's own.)
-use Rattle.std.specs.Prelude.{ℕ, List, [], map, Option, Some, None, Result, Ok, Err}
+use Rattle.std.specs.Prelude.{ℕ, List, Option, Some, None, Result, Ok, Err}
 use Rattle.values.specs.Cells.{walk_begun_at, walk_ended}
-use Rattle.values.specs.Shape.{Shape, key, atom, items, entries, fields, nothing, shape}
-use Rattle.values.specs.Visits.{keys_of}
+use Rattle.values.specs.Shape.{shape}
+pub use Rattle.values.specs.Walks.{walked_items}
 use Rattle.values.specs.declared.value.Value.{Value}
 use Rattle.values.specs.declared.value.Value.TheVariants as value
 use Rattle.values.specs.declared.cells.Cell.{Cell}
@@ -11,12 +11,6 @@ use Rattle.values.specs.declared.ticks.Kind.{Kind}
 use Rattle.operations.specs.States.{Op, Doing, keeping}
 use Rattle.operations.specs.Reading.{sequence_in, of_type}
 use Rattle.operations.specs.declared.state.State.{State}
-
--- what a walk goes over: items, and of a dict its keys, in order of insertion
-abbrev pub walked_items : Shape → List Value
-walked_items (items j xs) = xs
-walked_items (entries es) = map value.Key (keys_of es)
-walked_items _ = []
 
 abbrev pub begun : List Value → State → Result (Option ℕ × List Cell) Kind → Doing (List Value)
 begun vs s (Ok p) = Ok (vs, record s { heap = p.1 })

@@ -156,9 +156,7 @@ fn put_itself(left: u32, text: &Text, ticks: &mut Ticks, out: &mut String) -> Re
     ensures { Prints (after_tick (entered left ticks.old) (λ d. Ok (text.now, d))) result
         (string_bytes out.old) (string_bytes out.new) ticks.new }
 {
-    if let Err(broken) = ticks.enter(left) {
-        return Err(broken);
-    }
+    ticks.enter(left)?;
     put_text(out, text.as_str())?;
     Ok(())
 }
@@ -195,8 +193,8 @@ fn put_within(
     ensures { Prints (print_at left heap.now (item_value item.entry) ticks.old) result
         (string_bytes out.old) (string_bytes out.new) ticks.new }
 {
-    if let Err(broken) = ticks.enter(left) {
-        return Err(broken);
+    if let Err(kind) = ticks.enter(left) {
+        return Err(Broken::Kind(kind));
     }
     let shown = heap.see_item(item);
     put_shown(alloc, left - 1, &shown, heap, ticks, out)
@@ -349,9 +347,7 @@ fn put_entry(
         (key.now, item_value value.entry) ticks.old) result (string_bytes out.old)
         (string_bytes out.new) ticks.new }
 {
-    if let Err(broken) = ticks.enter(left) {
-        return Err(broken);
-    }
+    ticks.enter(left)?;
     put_entry_head(out, key)?;
     put_within(alloc, left, value, heap, ticks, out)
 }

@@ -1,44 +1,39 @@
 //! Equality, and membership of lists and tuples.
 ghost use Rattle.std.specs.Prelude.{◌≡◌, Ok, Err, MatchResult};
-ghost use Rattle.values.specs.Ticking.{FaultOr, Says};
+ghost use Rattle.values.specs.Ticking.{Tells};
 ghost use Rattle.values.specs.Seeing.{item_value, group_items};
 ghost use Rattle.visits.specs.Equal.{equal_at};
-ghost use Rattle.operations.specs.States.{Does, Stays};
+ghost use Rattle.operations.specs.States.{Acts, Stays};
 ghost use Rattle.operations.specs.Equality.{equals, among};
 
 use operations::State;
-use values::{Broken, Group, Heap, Item, Ticks, VISITED_LEVELS};
+use values::{Group, Heap, Item, Kind, Ticks, VISITED_LEVELS};
 use visits::equal;
 
 /// Whether two values are equal: a tick for each pair that is visited.
 ///
 /// # Errors
 ///
-/// Of each pair `steps`, `deep`, and `type` where two values of a type that isn't compared meet.
-pub fn equals(state: &mut State, x: Item<'_>, y: Item<'_>) -> Result<bool, Broken>
-    ensures { Does (equals (item_value x.entry) (item_value y.entry)) state.old result state.new }
+/// Of each pair `steps`, `deep`, and `type` where two values of a type that isn't compared meet. It takes no memory.
+pub fn equals(state: &mut State, x: Item<'_>, y: Item<'_>) -> Result<bool, Kind>
+    ensures { Acts (equals (item_value x.entry) (item_value y.entry)) state.old result state.new }
 {
     match equal(x, y, &state.heap, &mut state.ticks) {
         Ok(same) => Ok(same),
-        Err(broken) => Err(broken),
+        Err(kind) => Err(kind),
     }
 }
 
 /// Whether one of the items equals the value: `item == x`, in order, until one does.
-pub fn is_among(
-    heap: &Heap,
-    ticks: &mut Ticks,
-    x: Item<'_>,
-    items: Group<'_>,
-) -> Result<bool, Broken>
-    ensures { Says (among (equal_at VISITED_LEVELS heap.now) (item_value x.entry)
+pub fn is_among(heap: &Heap, ticks: &mut Ticks, x: Item<'_>, items: Group<'_>) -> Result<bool, Kind>
+    ensures { Tells (among (equal_at VISITED_LEVELS heap.now) (item_value x.entry)
         (group_items items.entry) ticks.old) result ticks.new }
 {
     for place in 0..items.len() {
         match equal(items.item(place), x, heap, ticks) {
             Ok(true) => return Ok(true),
             Ok(false) => {}
-            Err(broken) => return Err(broken),
+            Err(kind) => return Err(kind),
         }
     }
     Ok(false)

@@ -5,7 +5,7 @@ ghost use Rattle.values.specs.Cells.{walk_begun_at};
 ghost use Rattle.values.specs.declared.cells.Cell.{Cell};
 ghost use Rattle.values.specs.Shape.{shape, value_of};
 ghost use Rattle.values.specs.Seeing.{item_value};
-ghost use Rattle.operations.specs.States.{Does, Stays, tick};
+ghost use Rattle.operations.specs.States.{Acts, Stays, tick};
 ghost use Rattle.operations.specs.Walks.{begin, ended, walked_items};
 
 use operations::State;
@@ -13,8 +13,8 @@ use values::{Broken, Frozen, Held, Item, Kind, Value};
 
 /// One tick, or `steps`.
 #[inline(always)]
-pub fn tick(state: &mut State) -> Result<(), Broken>
-    ensures { Does tick state.old result state.new }
+pub fn tick(state: &mut State) -> Result<(), Kind>
+    ensures { Acts tick state.old result state.new }
 {
     state.ticks.tick()
 }

@@ -1,8 +1,8 @@
 //! Membership.
 ghost use Rattle.std.specs.Prelude.{◌≡◌, Ok, Err, Some, None, MatchResult, is_some};
-ghost use Rattle.values.specs.Ticking.{FaultOr, Says};
+ghost use Rattle.values.specs.Ticking.{Tells};
 ghost use Rattle.values.specs.Seeing.{seen, item_value, table_entries};
-ghost use Rattle.operations.specs.States.{Does, Stays, Gives};
+ghost use Rattle.operations.specs.States.{Acts, Reads, Stays};
 ghost use Rattle.operations.specs.Reading.{key_in, of_type};
 ghost use Rattle.operations.specs.Equality.{is_key_of};
 ghost use Rattle.operations.specs.Strings.{member, held_in, part_of};
@@ -10,52 +10,52 @@ ghost use Rattle.operations.specs.Strings.{member, held_in, part_of};
 use operations::State;
 use state::{is_among, key_of, text_of};
 use strings::search::is_within;
-use values::{Broken, Heap, Item, Key, Kind, Seen, Table, Ticks};
+use values::{Heap, Item, Key, Kind, Seen, Table, Ticks};
 
 /// `x in y`: of a list or a tuple an item that equals it, of a dict a key, of a string a part of it.
 ///
 /// # Errors
 ///
-/// Those of `==`, where items are compared; else `type`, where `x` can't be in such a value.
-pub fn member(state: &mut State, x: Item<'_>, y: Item<'_>) -> Result<bool, Broken>
-    ensures { Does (member (item_value x.entry) (item_value y.entry)) state.old result state.new }
+/// Those of `==`, where items are compared; else `type`, where `x` can't be in such a value. It takes no memory.
+pub fn member(state: &mut State, x: Item<'_>, y: Item<'_>) -> Result<bool, Kind>
+    ensures { Acts (member (item_value x.entry) (item_value y.entry)) state.old result state.new }
 {
     match held_in(&state.heap, &mut state.ticks, x, &state.heap.see_item(y)) {
         Ok(held) => Ok(held),
-        Err(broken) => Err(broken),
+        Err(kind) => Err(kind),
     }
 }
 
 /// Whether what a value shows has a member.
-fn held_in(heap: &Heap, ticks: &mut Ticks, x: Item<'_>, y: &Seen<'_>) -> Result<bool, Broken>
-    ensures { Says (held_in heap.now (item_value x.entry) (seen y.now) ticks.old) result ticks.new }
+fn held_in(heap: &Heap, ticks: &mut Ticks, x: Item<'_>, y: &Seen<'_>) -> Result<bool, Kind>
+    ensures { Tells (held_in heap.now (item_value x.entry) (seen y.now) ticks.old) result ticks.new }
 {
     match y {
         Seen::List(items) => is_among(heap, ticks, x, *items),
         Seen::Tuple(items) => is_among(heap, ticks, x, *items),
         Seen::Dict(entries) => has_key(*entries, &heap.see_item(x)),
         Seen::Key(key) => has_part(key, &heap.see_item(x)),
-        _ => Err(Broken::Kind(Kind::Wrong)),
+        _ => Err(Kind::Wrong),
     }
 }
 
 /// Whether a dict has the key that a value is, or `type`.
-fn has_key(entries: Table<'_>, key: &Seen<'_>) -> Result<bool, Broken>
-    ensures { Gives (of_type (key_in (seen key.now)) (is_key_of (table_entries entries.entry)))
+fn has_key(entries: Table<'_>, key: &Seen<'_>) -> Result<bool, Kind>
+    ensures { Reads (of_type (key_in (seen key.now)) (is_key_of (table_entries entries.entry)))
         result }
 {
     match key_of(key) {
         Some(key) => Ok(entries.get(key).is_some()),
-        None => Err(Broken::Kind(Kind::Wrong)),
+        None => Err(Kind::Wrong),
     }
 }
 
 /// Whether a string has a part, or `type`.
-fn has_part(whole: &Key, part: &Seen<'_>) -> Result<bool, Broken>
-    ensures { Gives (part_of whole.now (seen part.now)) result }
+fn has_part(whole: &Key, part: &Seen<'_>) -> Result<bool, Kind>
+    ensures { Reads (part_of whole.now (seen part.now)) result }
 {
     match (whole, text_of(part)) {
         (Key::Text(whole), Some(part)) => Ok(is_within(whole.as_str(), part.as_str())),
-        _ => Err(Broken::Kind(Kind::Wrong)),
+        _ => Err(Kind::Wrong),
     }
 }

@@ -3,7 +3,7 @@ use Rattle.std.proofs.Common.{◌≡◌, ℕ, zero, suc, ◌+◌, ◌-◌, ◌<�
 use Rattle.values.specs.Tree.{Trees, Pairs, Slots, key as key_tree, leaf, branch, list, tuple, dict, instance, none, more, stop, pair, end, missing, given, trees, tree_list, pairs, pair_list, slots, slot_list}
 use Rattle.values.specs.View.{FrozenTree, FrozenBranch}
 use Rattle.values.specs.Shape.{shape, tree_shape, branch_shape, value_of, entry_of, slot_of}
-use Rattle.values.specs.Ticking.{Count, Ticking, ticked, then_on, after_tick, with_count, entered, FaultOr}
+use Rattle.values.specs.Ticking.{Count, Ticking, ticked, then_on, after_tick, with_count, entered}
 use Rattle.values.specs.Visits.{all_of, keys_of}
 use Rattle.values.specs.Extents.{can_freeze}
 use Rattle.visits.specs.Freeze.{freeze_at, built, frozen_entry, frozen_slot, sequence}
@@ -13,8 +13,6 @@ use Rattle.values.specs.declared.leaf.Leaf.{Leaf}
 use Rattle.values.specs.declared.leaf.Provider.{Provider}
 use Rattle.values.specs.declared.value.Value.{Value}
 use Rattle.values.specs.declared.cells.Cell.{Cell}
-use Rattle.values.specs.declared.ticks.Broken.{Broken}
-use Rattle.values.specs.declared.ticks.Broken.TheVariants as broken
 use Rattle.values.specs.declared.ticks.Kind.{Kind}
 use Rattle.values.specs.declared.ticks.Kind.TheVariants.{Wrong, Deep}
 use Rattle.values.proofs.VisitLemmas.{after-after, too-deep}
@@ -151,9 +149,8 @@ module _ {T : Type 0} (f : T → Count → Result Count Kind) where
   pub visited-next : (t : T) (ts us : List T) (c d : Count) → ts ≡ t ∷ us → f t c ≡ Ok d → all_visited f us d ≡ all_visited f ts c
   visited-next t ts us c d p e = sym (first t ts us c (Ok d) p e)
 
-  pub visited-fault : (t : T) (ts us : List T) (c : Count) (e : Broken) → ts ≡ t ∷ us → FaultOr (f t c) e → FaultOr (all_visited f ts c) e
-  visited-fault t ts us c (broken.Kind k) p h = first t ts us c (Err k) p h
-  visited-fault t ts us c broken.NoMemory p h = tt
+  pub visited-fault : (t : T) (ts us : List T) (c : Count) (k : Kind) → ts ≡ t ∷ us → f t c ≡ Err k → all_visited f ts c ≡ Err k
+  visited-fault t ts us c k p h = first t ts us c (Err k) p h
 
   pub visited-end : (ts : List T) (c : Count) → ts ≡ [] → all_visited f ts c ≡ Ok c
   visited-end ts c p = ap (λ l. all_visited f l c) p

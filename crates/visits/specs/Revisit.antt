@@ -2,13 +2,12 @@
 use Rattle.std.specs.Prelude.{◌≡◌, MatchResult, ℕ, zero, suc, List, [], ◌∷◌, Option, Some, None, Result, Ok, Err, Bool, true, false, if◌then◌else◌}
 use Rattle.values.specs.Tree.{Pairs, key, leaf, branch, list, tuple, dict, instance, stop, pair, tree_list, slot_list}
 use Rattle.values.specs.View.{FrozenTree, FrozenBranch}
-use Rattle.values.specs.Ticking.{Count, after_tick, entered, FaultOr}
+use Rattle.values.specs.Ticking.{Count, after_tick, entered}
 use Rattle.values.specs.Extents.{can_freeze, measure, IsExtent}
 use Rattle.values.specs.declared.extent.Extent.{Extent}
 use Rattle.values.specs.declared.leaf.Leaf.{Leaf}
 use Rattle.values.specs.declared.leaf.Provider.{Provider}
 use Rattle.keys.specs.declared.key.Key.{Key}
-use Rattle.values.specs.declared.ticks.Broken.{Broken}
 use Rattle.values.specs.declared.ticks.Kind.{Kind}
 use Rattle.values.specs.declared.ticks.Kind.TheVariants.{Wrong, Deep}
 
@@ -49,8 +48,8 @@ visit_at zero t c = after_tick (entered zero c) (λ d. Err Deep)
 visit_at (suc n) t c = after_tick (entered (suc n) c) (λ d. visited (entered n) (visit_at n) t d)
 
 -- a call without a value answers what the definition gives
-abbrev pub Goes : Result Count Kind → Result (Unit {0}) Broken → Count → Type 0
-Goes r result now = MatchResult result (λ _. r ≡ Ok now) (λ e. FaultOr r e)
+abbrev pub Goes : Result Count Kind → Result (Unit {0}) Kind → Count → Type 0
+Goes r result now = MatchResult result (λ _. r ≡ Ok now) (λ k. r ≡ Err k)
 
 -- a visit at once, where what was noted of a value fits in the levels and the ticks that are left; else no tick is used
 abbrev pub AtOnce : Bool → ℕ → Extent → Count → Count → Type 0

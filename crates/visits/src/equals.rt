@@ -2,13 +2,12 @@
 ghost use Rattle.std.specs.Prelude.{◌≡◌, ◌<◌, ◌&&◌, [], ◌∷◌, length, slice_get, Ok, Err, Some, MatchResult};
 ghost use Rattle.std.specs.Str.{bytes_eq};
 ghost use Rattle.values.specs.Leaves.{same_key};
-ghost use Rattle.values.specs.Ticking.{Says, FaultOr};
+ghost use Rattle.values.specs.Ticking.{Tells};
 ghost use Rattle.values.specs.Seeing.{seen, item_value, option_value, group_items, table_entries, slot_values};
 ghost use Rattle.visits.specs.Equal.{equal_at, compared, leaf_equal, same_object, pairs_equal, items_equal, entries_equal, slot_equal, same_given};
 
 use values::{
-    Broken, FileRef, Group, Heap, Item, Key, Kind, Leaf, Object, Seen, Slots, Table, Ticks,
-    VISITED_LEVELS,
+    FileRef, Group, Heap, Item, Key, Kind, Leaf, Object, Seen, Slots, Table, Ticks, VISITED_LEVELS,
 };
 
 /// Whether two values are equal, wherever they lie. A pair that is visited costs a tick.
@@ -16,9 +15,9 @@ use values::{
 /// # Errors
 ///
 /// `steps` at the tick past the limit; `deep` at a pair at depth 65; `type` where two values of a type that
-/// isn't compared meet; each pair is tested in this order. After a `Broken` the ticks are open.
-pub fn equal(a: Item<'_>, b: Item<'_>, heap: &Heap, ticks: &mut Ticks) -> Result<bool, Broken>
-    ensures { Says (equal_at VISITED_LEVELS heap.now (item_value a.entry) (item_value b.entry)
+/// isn't compared meet; each pair is tested in this order. It takes no memory. After a fault the ticks are open.
+pub fn equal(a: Item<'_>, b: Item<'_>, heap: &Heap, ticks: &mut Ticks) -> Result<bool, Kind>
+    ensures { Tells (equal_at VISITED_LEVELS heap.now (item_value a.entry) (item_value b.entry)
         ticks.old) result ticks.new }
 {
     equal_within(VISITED_LEVELS, a, b, heap, ticks)
@@ -46,9 +45,9 @@ fn files(a: &FileRef, b: &FileRef) -> bool
 }
 
 /// Whether two leaves are equal.
-fn leaves(a: &Leaf, b: &Leaf) -> Result<bool, Broken>
+fn leaves(a: &Leaf, b: &Leaf) -> Result<bool, Kind>
     ensures { MatchResult result (λ r. leaf_equal a.now b.now ≡ Ok r)
-        (λ e. (e ≡ Broken.Kind Kind.Wrong) × (leaf_equal a.now b.now ≡ Err Kind.Wrong)) }
+        (λ k. (k ≡ Kind.Wrong) × (leaf_equal a.now b.now ≡ Err Kind.Wrong)) }
 {
     match (a, b) {
         (Leaf::None, Leaf::None) => Ok(true),
@@ -57,13 +56,13 @@ fn leaves(a: &Leaf, b: &Leaf) -> Result<bool, Broken>
         (Leaf::Function(x), Leaf::Function(y)) => Ok(x.get().is_same(y.get())),
         (Leaf::Provider(x), Leaf::Provider(y)) => Ok(x.get().is_same(y.get())),
         (Leaf::Rule(x), Leaf::Rule(y)) => Ok(x.get().is_same(y.get())),
-        (Leaf::Depset(_), Leaf::Depset(_)) => Err(Broken::Kind(Kind::Wrong)),
-        (Leaf::BuiltIn(_), Leaf::BuiltIn(_)) => Err(Broken::Kind(Kind::Wrong)),
-        (Leaf::Attribute(_), Leaf::Attribute(_)) => Err(Broken::Kind(Kind::Wrong)),
-        (Leaf::Target(_), Leaf::Target(_)) => Err(Broken::Kind(Kind::Wrong)),
+        (Leaf::Depset(_), Leaf::Depset(_)) => Err(Kind::Wrong),
+        (Leaf::BuiltIn(_), Leaf::BuiltIn(_)) => Err(Kind::Wrong),
+        (Leaf::Attribute(_), Leaf::Attribute(_)) => Err(Kind::Wrong),
+        (Leaf::Target(_), Leaf::Target(_)) => Err(Kind::Wrong),
         (Leaf::Object(x), Leaf::Object(y)) => {
             if objects(*x, *y) {
-                Err(Broken::Kind(Kind::Wrong))
+                Err(Kind::Wrong)
             } else {
                 Ok(false)
             }
@@ -80,12 +79,12 @@ fn equal_within(
     b: Item<'_>,
     heap: &Heap,
     ticks: &mut Ticks,
-) -> Result<bool, Broken>
-    ensures { Says (equal_at left heap.now (item_value a.entry) (item_value b.entry) ticks.old)
+) -> Result<bool, Kind>
+    ensures { Tells (equal_at left heap.now (item_value a.entry) (item_value b.entry) ticks.old)
         result ticks.new }
 {
-    if let Err(broken) = ticks.enter(left) {
-        return Err(broken);
+    if let Err(kind) = ticks.enter(left) {
+        return Err(kind);
     }
     let x = heap.see_item(a);
     let y = heap.see_item(b);
@@ -100,8 +99,8 @@ fn shapes(
     b: &Seen<'_>,
     heap: &Heap,
     ticks: &mut Ticks,
-) -> Result<bool, Broken>
-    ensures { Says (compared (equal_at left heap.now) (seen a.now) (seen b.now) ticks.old) result
+) -> Result<bool, Kind>
+    ensures { Tells (compared (equal_at left heap.now) (seen a.now) (seen b.now) ticks.old) result
         ticks.new }
 {
     match (a, b) {
@@ -129,8 +128,8 @@ fn groups(
     ys: &Group<'_>,
     heap: &Heap,
     ticks: &mut Ticks,
-) -> Result<bool, Broken>
-    ensures { Says (items_equal (equal_at left heap.now) (group_items xs.now) (group_items ys.now)
+) -> Result<bool, Kind>
+    ensures { Tells (items_equal (equal_at left heap.now) (group_items xs.now) (group_items ys.now)
         ticks.old) result ticks.new }
 {
     if xs.len() != ys.len() {
@@ -140,7 +139,7 @@ fn groups(
         let x = xs.item(i);
         let y = ys.item(i);
         match equal_within(left, x, y, heap, ticks) {
-            Err(broken) => return Err(broken),
+            Err(kind) => return Err(kind),
             Ok(false) => return Ok(false),
             Ok(true) => {}
         }
@@ -156,8 +155,8 @@ fn tables(
     ys: &Table<'_>,
     heap: &Heap,
     ticks: &mut Ticks,
-) -> Result<bool, Broken>
-    ensures { Says (entries_equal (equal_at left heap.now) (table_entries xs.now)
+) -> Result<bool, Kind>
+    ensures { Tells (entries_equal (equal_at left heap.now) (table_entries xs.now)
         (table_entries ys.now) ticks.old) result ticks.new }
 {
     if xs.len() != ys.len() {
@@ -171,7 +170,7 @@ fn tables(
             return Ok(false);
         };
         match equal_within(left, x, y, heap, ticks) {
-            Err(broken) => return Err(broken),
+            Err(kind) => return Err(kind),
             Ok(false) => return Ok(false),
             Ok(true) => {}
         }
@@ -215,15 +214,15 @@ fn slots(
     ys: &Slots<'_>,
     heap: &Heap,
     ticks: &mut Ticks,
-) -> Result<bool, Broken>
-    ensures { Says (pairs_equal (slot_equal (equal_at left heap.now)) (slot_values xs.now)
+) -> Result<bool, Kind>
+    ensures { Tells (pairs_equal (slot_equal (equal_at left heap.now)) (slot_values xs.now)
         (slot_values ys.now) ticks.old) result ticks.new }
 {
     for i in 0..xs.len().min(ys.len()) {
         let x = xs.slot(i);
         let y = ys.slot(i);
         match both_slots(left, x, y, heap, ticks) {
-            Err(broken) => return Err(broken),
+            Err(kind) => return Err(kind),
             Ok(false) => return Ok(false),
             Ok(true) => {}
         }
@@ -239,8 +238,8 @@ fn both_slots(
     y: Option<Item<'_>>,
     heap: &Heap,
     ticks: &mut Ticks,
-) -> Result<bool, Broken>
-    ensures { Says (slot_equal (equal_at left heap.now) (option_value x.entry)
+) -> Result<bool, Kind>
+    ensures { Tells (slot_equal (equal_at left heap.now) (option_value x.entry)
         (option_value y.entry) ticks.old) result ticks.new }
 {
     match (x, y) {

@@ -46,9 +46,7 @@ fn freeze_key(left: u32, key: &Key, ticks: &mut Ticks) -> Result<Frozen, Broken>
     ensures { Says (after_tick (entered left ticks.old) (λ d. Ok (key_tree key.now, d))) result
         ticks.new }
 {
-    if let Err(broken) = ticks.enter(left) {
-        return Err(broken);
-    }
+    ticks.enter(left)?;
     let key = key.share()?;
     Ok(Frozen::of_key(key))
 }
@@ -70,9 +68,7 @@ fn freeze_leaf(left: u32, leaf: &Leaf, ticks: &mut Ticks) -> Result<Frozen, Brok
     ensures { Says (after_tick (entered left ticks.old) (λ d. with_count (frozen_leaf leaf.now) d))
         result ticks.new }
 {
-    if let Err(broken) = ticks.enter(left) {
-        return Err(broken);
-    }
+    ticks.enter(left)?;
     leaf_tree(leaf)
 }
 
@@ -180,8 +176,8 @@ fn freeze_cell(
 ) -> Result<Frozen, Broken>
     ensures { Says (freeze_at left heap.now (Value.Cell number) ticks.old) result ticks.new }
 {
-    if let Err(broken) = ticks.enter(left) {
-        return Err(broken);
+    if let Err(kind) = ticks.enter(left) {
+        return Err(Broken::Kind(kind));
     }
     match heap.cell(number) {
         Some(cell) => freeze_parts(alloc, left - 1, cell, heap, ticks),
@@ -289,9 +285,7 @@ fn freeze_entry(
     ensures { Says (after_tick (entered left ticks.old) (λ d. freeze_at left heap.now value.now d))
         result ticks.new }
 {
-    if let Err(broken) = ticks.enter(left) {
-        return Err(broken);
-    }
+    ticks.enter(left)?;
     freeze_within(alloc, left, value, heap, ticks)
 }
 

@@ -16,9 +16,7 @@ pub(crate) fn freeze_tree(left: u32, tree: &Frozen, ticks: &mut Ticks) -> Result
     ensures { Says (after_tick (visit_at left tree.now ticks.old) (λ d. Ok (tree.now, d))) result
         ticks.new }
 {
-    if let Err(broken) = visit_tree(left, tree, ticks) {
-        return Err(broken);
-    }
+    visit_tree(left, tree, ticks)?;
     let shared = tree.share()?;
     Ok(shared)
 }
@@ -28,9 +26,7 @@ pub(crate) fn freeze_branch(left: u32, limb: &Branch, ticks: &mut Ticks) -> Resu
     ensures { Says (after_tick (visit_at left (branch limb.now) ticks.old)
         (λ d. Ok (branch limb.now, d))) result ticks.new }
 {
-    if let Err(broken) = visit_branch(left, limb, ticks) {
-        return Err(broken);
-    }
+    visit_branch(left, limb, ticks)?;
     let shared = limb.share()?;
     Ok(Frozen::of_branch(shared))
 }
@@ -54,47 +50,47 @@ fn visit_at_once(left: u32, noted: Extent, ticks: &mut Ticks) -> bool
 }
 
 /// The visit of a frozen value with parts, with this many levels left.
-fn visit_branch(left: u32, limb: &Branch, ticks: &mut Ticks) -> Result<(), Broken>
+fn visit_branch(left: u32, limb: &Branch, ticks: &mut Ticks) -> Result<(), Kind>
     ensures { Goes (visit_at left (branch limb.now) ticks.old) result ticks.new }
 {
     if visit_at_once(left, limb.extent(), ticks) {
         return Ok(());
     }
-    if let Err(broken) = ticks.enter(left) {
-        return Err(broken);
+    if let Err(kind) = ticks.enter(left) {
+        return Err(kind);
     }
     visit_node(left - 1, limb.node(), ticks)
 }
 
 /// The visit of a leaf that is frozen.
-fn visit_leaf(leaf: &Leaf) -> Result<(), Broken>
+fn visit_leaf(leaf: &Leaf) -> Result<(), Kind>
     ensures { MatchResult result (λ _. can_freeze leaf.now ≡ true)
-        (λ e. (e ≡ Broken.Kind Kind.Wrong) × (can_freeze leaf.now ≡ false)) }
+        (λ k. (k ≡ Kind.Wrong) × (can_freeze leaf.now ≡ false)) }
 {
     if leaf.can_be_frozen() {
         Ok(())
     } else {
-        Err(Broken::Kind(Kind::Wrong))
+        Err(Kind::Wrong)
     }
 }
 
 /// The visit of a frozen value, with this many levels left.
 #[cycle(visit)]
-fn visit_tree(left: u32, tree: &Frozen, ticks: &mut Ticks) -> Result<(), Broken>
+fn visit_tree(left: u32, tree: &Frozen, ticks: &mut Ticks) -> Result<(), Kind>
     ensures { Goes (visit_at left tree.now ticks.old) result ticks.new }
 {
     if visit_at_once(left, tree.extent(), ticks) {
         return Ok(());
     }
-    if let Err(broken) = ticks.enter(left) {
-        return Err(broken);
+    if let Err(kind) = ticks.enter(left) {
+        return Err(kind);
     }
     visit_held(left - 1, tree.held(), ticks)
 }
 
 /// The visits below a frozen value.
 #[cycle(visit)]
-fn visit_held(left: u32, held: &Held, ticks: &mut Ticks) -> Result<(), Broken>
+fn visit_held(left: u32, held: &Held, ticks: &mut Ticks) -> Result<(), Kind>
     ensures { Goes (visited (entered left) (visit_at left) (tree_of held.now) ticks.old) result
         ticks.new }
 {
@@ -107,7 +103,7 @@ fn visit_held(left: u32, held: &Held, ticks: &mut Ticks) -> Result<(), Broken>
 
 /// The visits of the parts of a frozen value.
 #[cycle(visit)]
-fn visit_node(left: u32, node: &Node, ticks: &mut Ticks) -> Result<(), Broken>
+fn visit_node(left: u32, node: &Node, ticks: &mut Ticks) -> Result<(), Kind>
     ensures { Goes (branch_visited (entered left) (visit_at left) (node_branch node.now) ticks.old)
         result ticks.new }
 {
@@ -121,12 +117,12 @@ fn visit_node(left: u32, node: &Node, ticks: &mut Ticks) -> Result<(), Broken>
 
 /// The visits of frozen values, from left to right.
 #[cycle(visit)]
-fn visit_trees(left: u32, trees: &[Frozen], ticks: &mut Ticks) -> Result<(), Broken>
+fn visit_trees(left: u32, trees: &[Frozen], ticks: &mut Ticks) -> Result<(), Kind>
     ensures { Goes (all_visited (visit_at left) trees.now ticks.old) result ticks.new }
 {
     for i in 0..trees.len() {
-        if let Err(broken) = visit_tree(left, tree_at(trees, i), ticks) {
-            return Err(broken);
+        if let Err(kind) = visit_tree(left, tree_at(trees, i), ticks) {
+            return Err(kind);
         }
     }
     Ok(())
@@ -139,13 +135,13 @@ fn visit_pairs(
     keys: &IndexSet<Key>,
     values: &[Frozen],
     ticks: &mut Ticks,
-) -> Result<(), Broken>
+) -> Result<(), Kind>
     ensures { Goes (all_visited (entry_visited (entered left) (visit_at left))
         (values_in (pairs keys.now.keys values.now)) ticks.old) result ticks.new }
 {
     for i in 0..keys.len().min(values.len()) {
-        if let Err(broken) = visit_entry(left, tree_at(values, i), ticks) {
-            return Err(broken);
+        if let Err(kind) = visit_entry(left, tree_at(values, i), ticks) {
+            return Err(kind);
         }
     }
     Ok(())
@@ -153,13 +149,11 @@ fn visit_pairs(
 
 /// The visit of a key, and then that of its value.
 #[cycle(visit)]
-fn visit_entry(left: u32, tree: &Frozen, ticks: &mut Ticks) -> Result<(), Broken>
+fn visit_entry(left: u32, tree: &Frozen, ticks: &mut Ticks) -> Result<(), Kind>
     ensures { Goes (entry_visited (entered left) (visit_at left) tree.now ticks.old) result
         ticks.new }
 {
-    if let Err(broken) = ticks.enter(left) {
-        return Err(broken);
-    }
+    ticks.enter(left)?;
     visit_tree(left, tree, ticks)
 }
 
@@ -173,13 +167,13 @@ fn slot_at(slots: &[Option<Frozen>], place: usize) -> &Option<Frozen>
 
 /// The visits of the fields that were given, in order.
 #[cycle(visit)]
-fn visit_slots(left: u32, slots: &[Option<Frozen>], ticks: &mut Ticks) -> Result<(), Broken>
+fn visit_slots(left: u32, slots: &[Option<Frozen>], ticks: &mut Ticks) -> Result<(), Kind>
     ensures { Goes (all_visited (slot_visited (visit_at left)) slots.now ticks.old) result
         ticks.new }
 {
     for i in 0..slots.len() {
-        if let Err(broken) = visit_slot(left, slot_at(slots, i), ticks) {
-            return Err(broken);
+        if let Err(kind) = visit_slot(left, slot_at(slots, i), ticks) {
+            return Err(kind);
         }
     }
     Ok(())
@@ -187,7 +181,7 @@ fn visit_slots(left: u32, slots: &[Option<Frozen>], ticks: &mut Ticks) -> Result
 
 /// The visit of a field, where it was given.
 #[cycle(visit)]
-fn visit_slot(left: u32, slot: &Option<Frozen>, ticks: &mut Ticks) -> Result<(), Broken>
+fn visit_slot(left: u32, slot: &Option<Frozen>, ticks: &mut Ticks) -> Result<(), Kind>
     ensures { Goes (slot_visited (visit_at left) slot.now ticks.old) result ticks.new }
 {
     match slot {

@@ -4,7 +4,6 @@ use Rattle.values.specs.Visits.{all_of}
 use Rattle.values.specs.Shape.{shape}
 use Rattle.values.specs.Seeing.{item_value, group_items, table_entries}
 use Rattle.printing.specs.Repr.{commas, printed, printed_entry, print_at, Prints}
-use Rattle.values.proofs.VisitLemmas.{fault-after}
 use Rattle.printing.proofs.ReprLemmas.{opened, fault-inside, parts-next, parts-fault}
 use Rattle.printing.proofs.reprs.+repr.Goals as goal
 
@@ -14,7 +13,7 @@ put_within-returns-in-Err t c =
     let h = c.args.heap.now in
     let v = item_value c.args.item in
     let inside = λ (d : Count). printed (entered (n - 1)) (print_at (n - 1) h) (shape h v) d in
-    subst (λ r. FaultOr r c.in-Err.broken) (sym (opened n h v c.args.ticks.now)) (fault-after (entered n c.args.ticks.now) inside c.in-Err.broken c.in-Err.ensures)
+    opened n h v c.args.ticks.now ∙ ap (λ r. after_tick r inside) c.in-Err.ensures
 
 pub put_within-returns : goal.put_within-returns
 put_within-returns t c =

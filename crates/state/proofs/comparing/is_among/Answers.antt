@@ -1,16 +1,15 @@
-use Rattle.std.proofs.Common.{true, false, Ok, sym, ap, ◌∙◌, subst}
-use Rattle.values.specs.Ticking.{FaultOr}
+use Rattle.std.proofs.Common.{true, false, Ok, Err, sym, ap, ◌∙◌}
 use Rattle.visits.specs.Equal.{equal_at}
 use Rattle.values.specs.Seeing.{group_items, item_value}
 use Rattle.values.specs.declared.ticks.TheConstants.{VISITED_LEVELS}
-use Rattle.state.proofs.Turns.{among-then, among-fault}
+use Rattle.state.proofs.Turns.{among-then}
 use Rattle.state.proofs.comparing.is_among.Goals as goal
 
 pub returns-in-Err : goal.returns-in-Err
 returns-in-Err c =
     let eq = equal_at VISITED_LEVELS c.args.heap.now in
-    subst (λ r. FaultOr r c.in-Err.broken) c.loop-place.invariant
-    (among-fault eq (item_value c.args.x) (group_items c.args.items) c.loop-place.place (item_value c.item.result) c.item.ensures c.loop-place.ticks c.in-Err.broken c.in-Err.ensures)
+    sym c.loop-place.invariant
+    ∙ among-then eq (item_value c.args.x) (group_items c.args.items) c.loop-place.place (item_value c.item.result) c.item.ensures c.loop-place.ticks (Err c.in-Err.kind) c.in-Err.ensures
 
 pub returns-in-Ok-true : goal.returns-in-Ok-true
 returns-in-Ok-true c =

@@ -6,7 +6,7 @@ use Rattle.values.specs.View.{FrozenTree}
 use Rattle.values.specs.Shape.{shape, cell_shape}
 use Rattle.visits.specs.Freeze.{freeze_at, built, frozen_entry, frozen_slot}
 use Rattle.values.specs.declared.value.Value.TheVariants as value
-use Rattle.values.proofs.VisitLemmas.{fault-after, fault-then, with_done, all_of-next, all_of-fault, all_of-length}
+use Rattle.values.proofs.VisitLemmas.{fault-then, with_done, all_of-next, all_of-fault, all_of-length}
 use Rattle.values.proofs.KeyListLemmas.{length-keys_of}
 use Rattle.visits.proofs.RevisitLemmas.{opened, frozen-again}
 use Rattle.visits.proofs.freezes.+freeze.Goals as goal
@@ -35,7 +35,7 @@ freeze_cell-returns-in-Err t c =
     let h = c.args.heap.now in
     let v = value.Cell c.args.number in
     let inside = λ (d : Count). built (entered (n - 1)) (freeze_at (n - 1) h) (shape h v) d in
-    subst (λ r. FaultOr r c.in-Err.broken) (sym (opened n h v c.args.ticks.now)) (fault-after (entered n c.args.ticks.now) inside c.in-Err.broken c.in-Err.ensures)
+    opened n h v c.args.ticks.now ∙ ap (λ r. after_tick r inside) c.in-Err.ensures
 
 pub freeze_cell-returns-in-Some : goal.freeze_cell-returns-in-Some
 freeze_cell-returns-in-Some t c =

@@ -1,11 +1,10 @@
 use Rattle.std.proofs.Common.{◌+◌, ◌-◌, drop, false, refl, sym, ap, ◌∙◌, subst, arith}
 use Rattle.depsets.proofs.Turns.{drop_at}
-use Rattle.values.specs.Ticking.{Count, FaultOr, after_tick, entered}
+use Rattle.values.specs.Ticking.{Count, after_tick, entered}
 use Rattle.values.specs.Tree.{pairs}
 use Rattle.values.specs.View.{node_branch}
 use Rattle.values.proofs.SeeLemmas.{tree_list-trees, slot_list-slots, pairs-short}
 use Rattle.visits.specs.Revisit.{Goes, visit_at, visited, branch_visited, all_visited, entry_visited, slot_visited, values_in}
-use Rattle.values.proofs.VisitLemmas.{fault-after}
 use Rattle.visits.proofs.ExtentLemmas.{not-at-once}
 use Rattle.visits.proofs.RevisitLemmas.{visit-opened, visited-next, visited-fault, visited-end, next-pair}
 use Rattle.visits.proofs.revisit.+visit.Goals as goal
@@ -17,8 +16,7 @@ visit_tree-returns-in-Err t c =
     let now = c.visit_at_once.new.ticks in
     let inside = λ (d : Count). visited (entered (n - 1)) (visit_at (n - 1)) tree d in
     let same = not-at-once c.visit_at_once.result n c.extent.result c.args.ticks.now now c.if-visit_at_once.false c.visit_at_once.ensures in
-    subst (λ d. FaultOr (visit_at n tree d) c.in-Err.broken) same
-    (subst (λ r. FaultOr r c.in-Err.broken) (sym (visit-opened n tree now)) (fault-after (entered n now) inside c.in-Err.broken c.in-Err.ensures))
+    ap (λ d. visit_at n tree d) (sym same) ∙ visit-opened n tree now ∙ ap (λ r. after_tick r inside) c.in-Err.ensures
 
 pub visit_tree-returns : goal.visit_tree-returns
 visit_tree-returns t c =
@@ -35,9 +33,9 @@ visit_tree-returns t c =
 pub visit_trees-returns-in-Err : goal.visit_trees-returns-in-Err
 visit_trees-returns-in-Err t c =
     let ts = c.args.trees.now in
-    subst (λ r. FaultOr r c.in-Err.broken) c.loop-i.invariant
-    (visited-fault (visit_at c.args.left) c.tree_at.result.now (drop c.loop-i.i ts) (drop (c.loop-i.i + 1) ts) c.loop-i.ticks c.in-Err.broken
-    (drop_at ts c.loop-i.i c.tree_at.result.now c.tree_at.ensures) c.in-Err.ensures)
+    sym c.loop-i.invariant
+    ∙ visited-fault (visit_at c.args.left) c.tree_at.result.now (drop c.loop-i.i ts) (drop (c.loop-i.i + 1) ts) c.loop-i.ticks c.in-Err.kind
+    (drop_at ts c.loop-i.i c.tree_at.result.now c.tree_at.ensures) c.in-Err.ensures
 
 pub visit_trees-loop-i-preserved : goal.visit_trees-loop-i-preserved
 visit_trees-loop-i-preserved t c =
@@ -53,11 +51,11 @@ pub visit_pairs-returns-in-Err : goal.visit_pairs-returns-in-Err
 visit_pairs-returns-in-Err t c =
     let ks = c.args.keys.now.keys in
     let ts = c.args.values.now in
-    subst (λ r. FaultOr r c.in-Err.broken) c.loop-i.invariant
-    (visited-fault (entry_visited (entered c.args.left) (visit_at c.args.left)) c.tree_at.result.now
+    sym c.loop-i.invariant
+    ∙ visited-fault (entry_visited (entered c.args.left) (visit_at c.args.left)) c.tree_at.result.now
     (values_in (pairs (drop c.loop-i.i ks) (drop c.loop-i.i ts))) (values_in (pairs (drop (c.loop-i.i + 1) ks) (drop (c.loop-i.i + 1) ts)))
-    c.loop-i.ticks c.in-Err.broken
-    (next-pair ks ts c.loop-i.i c.tree_at.result.now (omega (arith, c.loop-i-test.true, c.min-i-end.ensures, c.len.ensures.len)) c.tree_at.ensures) c.in-Err.ensures)
+    c.loop-i.ticks c.in-Err.kind
+    (next-pair ks ts c.loop-i.i c.tree_at.result.now (omega (arith, c.loop-i-test.true, c.min-i-end.ensures, c.len.ensures.len)) c.tree_at.ensures) c.in-Err.ensures
 
 pub visit_pairs-loop-i-preserved : goal.visit_pairs-loop-i-preserved
 visit_pairs-loop-i-preserved t c =
@@ -101,9 +99,9 @@ visit_node-returns-in-Instance t c =
 pub visit_slots-returns-in-Err : goal.visit_slots-returns-in-Err
 visit_slots-returns-in-Err t c =
     let os = c.args.slots.now in
-    subst (λ r. FaultOr r c.in-Err.broken) c.loop-i.invariant
-    (visited-fault (slot_visited (visit_at c.args.left)) c.slot_at.result.now (drop c.loop-i.i os) (drop (c.loop-i.i + 1) os) c.loop-i.ticks c.in-Err.broken
-    (drop_at os c.loop-i.i c.slot_at.result.now c.slot_at.ensures) c.in-Err.ensures)
+    sym c.loop-i.invariant
+    ∙ visited-fault (slot_visited (visit_at c.args.left)) c.slot_at.result.now (drop c.loop-i.i os) (drop (c.loop-i.i + 1) os) c.loop-i.ticks c.in-Err.kind
+    (drop_at os c.loop-i.i c.slot_at.result.now c.slot_at.ensures) c.in-Err.ensures
 
 pub visit_slots-loop-i-preserved : goal.visit_slots-loop-i-preserved
 visit_slots-loop-i-preserved t c =

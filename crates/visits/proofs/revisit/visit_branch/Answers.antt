@@ -1,8 +1,7 @@
 use Rattle.std.proofs.Common.{◌-◌, sym, ap, ◌∙◌, subst}
-use Rattle.values.specs.Ticking.{Count, FaultOr, after_tick, entered}
+use Rattle.values.specs.Ticking.{Count, after_tick, entered}
 use Rattle.values.specs.Tree.{branch}
 use Rattle.visits.specs.Revisit.{Goes, visit_at, visited, branch_visited}
-use Rattle.values.proofs.VisitLemmas.{fault-after}
 use Rattle.visits.proofs.ExtentLemmas.{not-at-once}
 use Rattle.visits.proofs.RevisitLemmas.{visit-opened}
 use Rattle.visits.proofs.revisit.visit_branch.Goals as goal
@@ -14,8 +13,7 @@ returns-in-Err c =
     let now = c.visit_at_once.new.ticks in
     let inside = λ (d : Count). visited (entered (n - 1)) (visit_at (n - 1)) limb d in
     let same = not-at-once c.visit_at_once.result n c.extent.result c.args.ticks.now now c.if-visit_at_once.false c.visit_at_once.ensures in
-    subst (λ d. FaultOr (visit_at n limb d) c.in-Err.broken) same
-    (subst (λ r. FaultOr r c.in-Err.broken) (sym (visit-opened n limb now)) (fault-after (entered n now) inside c.in-Err.broken c.in-Err.ensures))
+    ap (λ d. visit_at n limb d) (sym same) ∙ visit-opened n limb now ∙ ap (λ r. after_tick r inside) c.in-Err.ensures
 
 pub returns : goal.returns
 returns c =
