@@ -1,14 +1,14 @@
 //! What walks have left.
 ghost use Rattle.std.specs.Prelude.{◌≡◌, ◌+◌, ◌<◌, ◌^◌, ◌∷◌, [], drop, map, IfOk, MatchOption, Some};
 ghost use Rattle.values.specs.Seeing.{seen, item_value, group_items, table_entries};
-ghost use Rattle.values.specs.Shape.{shape, cell_shape};
+ghost use Rattle.values.specs.Shape.{shape};
 ghost use Rattle.values.specs.Visits.{keys_of};
-ghost use Rattle.operations.specs.Walks.{walked_items};
+ghost use Rattle.values.specs.Walks.{walked_items, walked_values};
 ghost use Rattle.evaluator.specs.Walked.{Gives, left_seen, frozen_seen, held_items_seen, held_keys_seen, items_seen, keys_seen, table_keys};
 
 use operands::Operand;
 use std::alloc::AllocError;
-use values::{Branch, Cell, Group, Heap, HeldEntries, HeldItems, Item, Key, Seen, Table, Value};
+use values::{Branch, Group, Heap, HeldEntries, HeldItems, Item, Key, Seen, Table, Value, Walked};
 
 /// The items that a walk has left. Of a value of this evaluation it holds a share, and copies nothing.
 #[derive(Drop)]
@@ -75,24 +75,26 @@ impl<'a> Left<'a> {
         }
     }
 
-    /// All that a value of this evaluation shows that is walked.
+    /// All that a value of this evaluation shows that is walked. What it is of the heap is shared with the walk, and the heap
+    /// stays as it was.
     ///
     /// # Errors
     ///
-    /// `AllocError` where a count is at its greatest.
-    pub(crate) fn own(heap: &Heap, walked: &Value) -> Result<Left<'a>, AllocError>
-        ensures { IfOk result (λ left. left_seen left
-            ≡ walked_items (shape heap.now walked.now)) }
+    /// `AllocError` where there is no memory for a count, or where one is at its greatest.
+    pub(crate) fn own(heap: &mut Heap, walked: &Value) -> Result<Left<'a>, AllocError>
+        ensures same { heap.new ≡ heap.old }
+        ensures ok { IfOk result (λ left. left_seen left
+            ≡ walked_items (shape heap.old walked.now)) }
     {
         match walked {
             Value::Frozen(branch) => {
                 let branch = branch.share()?;
                 Ok(Left::Frozen(FrozenLeft { branch, place: 0 }))
             }
-            Value::Cell(number) => match heap.cell(*number) {
-                Some(cell) => all_in(cell),
-                None => Ok(Left::Nothing),
-            },
+            Value::Cell(number) => {
+                let walked = heap.share(*number)?;
+                Ok(held_from_first(walked))
+            }
             Value::Key(_) | Value::Leaf(_) => Ok(Left::Nothing),
         }
     }
@@ -117,27 +119,15 @@ impl<'a> Left<'a> {
     }
 }
 
-/// All that a walk over a cell goes over.
-fn all_in<'a>(cell: &Cell) -> Result<Left<'a>, AllocError>
-    ensures { IfOk result (λ left. left_seen left ≡ walked_items (cell_shape (Some cell.now))) }
+/// All that is shared of a cell.
+fn held_from_first<'a>(walked: Walked) -> Left<'a>
+    ensures { left_seen result ≡ walked_values walked }
 {
-    match cell {
-        Cell::List(items, _) => held_from_first(items),
-        Cell::Tuple(items) => held_from_first(items),
-        Cell::Dict(entries, _) => {
-            let entries = entries.share()?;
-            Ok(Left::HeldKeys(HeldKeysLeft { entries, place: 0 }))
-        }
-        Cell::Instance(_, _) => Ok(Left::Nothing),
+    match walked {
+        Walked::Items(items) => Left::HeldItems(HeldItemsLeft { items, place: 0 }),
+        Walked::Entries(entries) => Left::HeldKeys(HeldKeysLeft { entries, place: 0 }),
+        Walked::Nothing => Left::Nothing,
     }
-}
-
-/// All items of a cell.
-fn held_from_first<'a>(items: &HeldItems) -> Result<Left<'a>, AllocError>
-    ensures { IfOk result (λ left. left_seen left ≡ items.now) }
-{
-    let items = items.share()?;
-    Ok(Left::HeldItems(HeldItemsLeft { items, place: 0 }))
 }
 
 /// All items.

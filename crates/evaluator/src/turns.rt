@@ -22,7 +22,8 @@ use values::{Broken, Heap, Item, Kind};
 pub(crate) fn tick<W>(whole: &mut Whole<W>) -> Result<(), Broken>
     ensures { Says (of_state tick whole.old) result whole.new }
 {
-    state::tick(&mut whole.state)
+    state::tick(&mut whole.state)?;
+    Ok(())
 }
 
 /// A walk over a value begins, and gives the items that it goes over. Those of what is lent stay where they are.
@@ -32,16 +33,18 @@ pub(crate) fn begin<'a, W>(
 ) -> Result<Left<'a>, Broken>
     ensures { SaysAs left_seen (of_state (begin walked.now) whole.old) result whole.new }
 {
-    let left = left_of(&whole.state.heap, walked)?;
+    let left = left_of(&mut whole.state.heap, walked)?;
     match state::begin(&mut whole.state, walked.item()) {
         Ok(()) => Ok(left),
         Err(broken) => Err(broken),
     }
 }
 
-/// What a walk over a value goes over.
-fn left_of<'a>(heap: &Heap, walked: &Operand<'a>) -> Result<Left<'a>, AllocError>
-    ensures { IfOk result (λ left. left_seen left ≡ walked_items (shape heap.now walked.now)) }
+/// What a walk over a value goes over. The heap stays as it was.
+fn left_of<'a>(heap: &mut Heap, walked: &Operand<'a>) -> Result<Left<'a>, AllocError>
+    ensures same { heap.new ≡ heap.old }
+    ensures ok { IfOk result (λ left. left_seen left
+        ≡ walked_items (shape heap.old walked.now)) }
 {
     match walked.lent_seen() {
         Some(walked) => Ok(Left::lent(&walked)),
