@@ -15,7 +15,7 @@ use operations::Arguments;
 use places::{Place, Works};
 use std::alloc::Global;
 use target_actions::Mnemonics;
-use target_fields::{TargetContext, field, item, offers};
+use target_fields::{FileLists, TargetContext, field, item, offers};
 use values::{Broken, Item, Kind, Leaf, Object, Value};
 use workspace::Label;
 
@@ -23,16 +23,16 @@ use workspace::Label;
 /// these is lent, and so is what was made of the target's attributes. Its work are the Files that it declares and the actions
 /// that it registers.
 #[derive(Drop)]
-pub struct ImplementationPlace<'a, 'b> {
-    pub context: &'a TargetContext<'b>,
+pub struct ImplementationPlace<'a, 'b, I: FileLists> {
+    pub context: &'a TargetContext<'b, I>,
     pub mnemonics: &'a Mnemonics,
 }
 
-impl<'a, 'b> Works for ImplementationPlace<'a, 'b> {
+impl<'a, 'b, I: FileLists> Works for ImplementationPlace<'a, 'b, I> {
     type Work = Work;
 }
 
-impl<'a, 'b> Place<'a> for ImplementationPlace<'a, 'b> {
+impl<'a, 'b, I: FileLists> Place<'a> for ImplementationPlace<'a, 'b, I> {
     ghost use Rattle.implementations.specs.Implementations.{implementation_place};
 
     ghost place = { λ p. implementation_place p.context.now.label.now

@@ -8,7 +8,9 @@ use Rattle.operations.specs.Items.{at_place}
 use Rattle.targets.specs.Placed.{names_of}
 use Rattle.targets.specs.declared.attributes.AttributeValue.{AttributeValue}
 use Rattle.targets.specs.declared.attributes.NamedAttribute.{NamedAttribute}
-use Rattle.contexts.specs.Fields.{value_named}
+use Rattle.contexts.specs.Fields.{value_named, files_or_name, labels_for, files_field}
+use Rattle.targets.specs.Checks.{Dependency}
+use Rattle.targets.specs.declared.target.Target.{Target}
 
 after : (b : Bool) (i : ℕ) (o p : Option ℕ) → p ≡ option_map (λ n. suc n) o → (if b then Some (suc i) else p) ≡ option_map (λ n. suc n) (if b then Some i else o)
 after true i o p h = refl
@@ -45,3 +47,10 @@ named_at x (a ∷ rest) (v ∷ vs) =
 pub mapped_at : {A B : Type 0} (f : A → B) (xs : List A) (o : Option ℕ) → at_place (map f xs) o ≡ option_map f (at_place xs o)
 mapped_at f xs None = refl
 mapped_at f xs (Some i) = slice_get-map f xs i
+
+-- `ctx.files` of a name, by the attribute's place
+pub files_named : (t : Target) (ds : List Dependency) (x : List ℕ) (o : Option ℕ) → o ≡ place_named x (names_of t.rule.attributes)
+    → files_or_name ds (labels_for (at_place t.values o)) ≡ files_field t ds x
+files_named t ds x o h =
+    ap (λ p. files_or_name ds (labels_for (at_place t.values p))) h
+    ∙ ap (λ v. files_or_name ds (labels_for v)) (named_at x t.rule.attributes t.values)

@@ -1,1 +1,2 @@
+pub mod ByPlace
 pub mod Placed

@@ -1,41 +1,49 @@
 //! What the implementation of a target reads.
-ghost use Rattle.std.specs.Prelude.{◌≡◌, IfOk, map, option_map, option_copied};
+ghost use Rattle.std.specs.Prelude.{◌≡◌, ℕ, IfOk, map, option_map};
 ghost use Rattle.values.specs.Seeing.{item_value, option_value};
 ghost use Rattle.operations.specs.Arguments.{place_named};
 ghost use Rattle.operations.specs.Instances.{default_info};
-ghost use Rattle.operations.specs.Items.{at_place};
 ghost use Rattle.targets.specs.Placed.{names_of};
 ghost use Rattle.analysis.specs.Seen.{dependencies_seen};
 ghost use Rattle.operations.specs.Making.{text};
+ghost use Rattle.operations.specs.States.{Gives};
 ghost use Rattle.contexts.specs.Fields.{attribute_value, label_value, value_for};
+ghost use Rattle.target_fields.specs.ByPlace.{files_at};
 
 use crate::attributes::AttributeValues;
 use crate::dependencies::Dependencies;
+use crate::kept::{FileLists, KeptLists};
+use crate::listings::files;
 use analysis::Dependency;
 use field_names::FieldName;
+use operands::{Operand, owned};
 use plain::{Shared, Text};
 use std::alloc::{AllocError, Global};
-use targets::{AttributeValue, Target};
-use values::{Item, Key, Leaf, Provider, Value};
+use targets::Target;
+use values::{Broken, Item, Key, Kind, Leaf, Provider, Value};
 use workspace::Label;
 
 /// A label, its target and the target's dependencies with their outcomes; and what is made of them once, and lent to all that
-/// reads it: the label and its name as values, and what the target has for its attributes.
+/// reads it: the label and its name as values, what the target has for its attributes, and the lists of `ctx.files` that were read.
+/// In the type of these, `I` stands for the target.
 #[derive(Drop)]
-pub struct TargetContext<'a> {
+pub struct TargetContext<'a, I: FileLists> {
     pub label: &'a Label,
     pub target: &'a Target,
     pub dependencies: Dependencies<'a>,
     own_label: Value,
     own_name: Value,
     attributes: AttributeValues<'a>,
+    kept: KeptLists<I>,
     ghost labelled: { own_label ≡ label_value label.now },
     ghost named: { own_name ≡ text label.now.name },
     ghost made: { attributes ≡ map (attribute_value dependencies) target.now.values },
+    ghost listed: { (place : ℕ) → I.list_at place ≡ files_at target.now dependencies place },
 }
 
-impl<'a> TargetContext<'a> {
-    /// That of the target of a label with these dependencies. Their labels are put in order once.
+impl<'a, I: FileLists> TargetContext<'a, I> {
+    /// That of the target of a label with these dependencies. Their labels are put in order once. What `I` is to give is a matter of
+    /// proofs alone: whoever calls picks it, and no target or dependency is refused.
     ///
     /// # Errors
     ///
@@ -46,8 +54,10 @@ impl<'a> TargetContext<'a> {
         target: &'a Target,
         dependencies: &'a [Dependency<'a>],
         info: &'a Shared<Provider>,
-    ) -> Result<TargetContext<'a>, AllocError>
-        requires { info.now ≡ default_info }
+    ) -> Result<TargetContext<'a, I>, AllocError>
+        requires info { info.now ≡ default_info }
+        requires lists { (place : ℕ)
+            → I.list_at place ≡ files_at target.now (dependencies_seen dependencies.now) place }
         ensures label { IfOk result (λ c. c.label.now ≡ label.now) }
         ensures target { IfOk result (λ c. c.target.now ≡ target.now) }
         ensures dependencies { IfOk result
@@ -64,6 +74,7 @@ impl<'a> TargetContext<'a> {
             own_label,
             own_name,
             attributes,
+            kept: KeptLists::new(),
         })
     }
 
@@ -88,6 +99,33 @@ impl<'a> TargetContext<'a> {
     {
         self.attributes.at(attribute_place(self.target, name))
     }
+
+    /// `ctx.files` of the attribute at a place: it is listed at its first read, and lent from then on.
+    pub(crate) fn files_at(&self, alloc: Global, place: usize) -> Result<Operand<'_>, Broken>
+        ensures { Gives (files_at self.now.target.now self.now.dependencies place) result }
+    {
+        if let Some(list) = self.kept.at(place) {
+            return Ok(Operand::lent(list));
+        }
+        let list = self.listed(alloc, place)?;
+        self.kept
+            .keep(alloc, self.target.values.len(), place, list)?;
+        match self.kept.at(place) {
+            Some(list) => Ok(Operand::lent(list)),
+            // No clause says that what was kept is found, so it may be made once more.
+            None => owned(self.listed(alloc, place)),
+        }
+    }
+
+    /// The list of the attribute at a place, made anew.
+    fn listed(&self, alloc: Global, place: usize) -> Result<Value, Broken>
+        ensures { Gives (files_at self.now.target.now self.now.dependencies place) result }
+    {
+        match self.target.values.as_slice().get(place) {
+            Some(value) => files(alloc, &self.dependencies, value),
+            None => Err(Broken::Kind(Kind::Name)),
+        }
+    }
 }
 
 /// A label as a value, which shares its text.
@@ -107,25 +145,8 @@ fn name_value(alloc: Global, label: &Label) -> Result<Value, AllocError>
 }
 
 /// The place of the attribute of a name, which is found by order.
-fn attribute_place(target: &Target, name: &FieldName) -> Option<usize>
+pub(crate) fn attribute_place(target: &Target, name: &FieldName) -> Option<usize>
     ensures { result ≡ place_named name.now (names_of target.now.rule.attributes) }
 {
     target.rule.get().attributes.place(name.text())
-}
-
-/// What a target has for the attribute of a name.
-pub(crate) fn value_for<'a>(target: &'a Target, name: &FieldName) -> Option<&'a AttributeValue>
-    ensures { option_copied result ≡ value_for target.now name.now }
-{
-    value_at(target.values.as_slice(), attribute_place(target, name))
-}
-
-/// The value at a place, if there is one.
-fn value_at<'a>(values: &'a [AttributeValue], place: Option<usize>) -> Option<&'a AttributeValue>
-    ensures { option_copied result ≡ at_place values.now place }
-{
-    match place {
-        Some(place) => values.get(place),
-        None => None,
-    }
 }

@@ -7,24 +7,24 @@ ghost use Rattle.analysis.specs.Seen.{dependency_seen};
 ghost use Rattle.contexts.specs.Fields.{field, object_field, attr_field, files_field, files_or_name, labels_for, context_field, object_value, target_field, dependency_field, depset_value, label_value};
 ghost use Rattle.contexts.specs.Offered.{files_of};
 
-use crate::context::{TargetContext, value_for};
+use crate::context::{TargetContext, attribute_place};
 use crate::dependencies::Dependencies;
 use crate::files::files_in;
-use crate::listings::files;
+use crate::kept::FileLists;
 use field_names::{FieldName, KnownName};
-use operands::{Operand, owned};
+use operands::Operand;
 use std::alloc::Global;
 use values::{Broken, Item, Kind, Leaf, Object, Value};
 
-/// A field of a target or of an object, in the implementation of a target. Each is lent but `ctx.files`, which is listed at each
+/// A field of a target or of an object, in the implementation of a target. Each is lent; a list of `ctx.files` is made at its first
 /// read.
 ///
 /// # Errors
 ///
 /// `name`, where there is no such field; of `ctx.files` `large`, where there are too many Files for a list.
-pub fn field<'a, 'b>(
+pub fn field<'a, 'b, I: FileLists>(
     alloc: Global,
-    context: &'a TargetContext<'b>,
+    context: &'a TargetContext<'b, I>,
     owner: &Leaf,
     name: &FieldName,
 ) -> Result<Operand<'a>, Broken>
@@ -35,7 +35,7 @@ pub fn field<'a, 'b>(
         Leaf::Target(place) => or_name(target_field(&context.dependencies, *place, name)),
         Leaf::Object(Object::Context) => { or_name(context_field(context, name)) }
         Leaf::Object(Object::ContextAttr) => { or_name(attr_field(context, name)) }
-        Leaf::Object(Object::ContextFiles) => owned(files_field(alloc, context, name)),
+        Leaf::Object(Object::ContextFiles) => files_field(alloc, context, name),
         _ => Err(Broken::Kind(Kind::Name)),
     }
 }
@@ -71,7 +71,10 @@ fn target_field<'a, 'b>(
 }
 
 /// A field of `ctx`: the label is lent.
-fn context_field<'a, 'b>(context: &'a TargetContext<'b>, name: &FieldName) -> Option<Operand<'a>>
+fn context_field<'a, 'b, I: FileLists>(
+    context: &'a TargetContext<'b, I>,
+    name: &FieldName,
+) -> Option<Operand<'a>>
     ensures { result ≡ context_field context.now.label.now name.now }
 {
     if name.is(KnownName::Label) {
@@ -95,7 +98,10 @@ fn object_value<'a>(object: Object) -> Operand<'a>
 }
 
 /// A field of `ctx.attr`: the name, and what the target has for an attribute, are lent.
-fn attr_field<'a, 'b>(context: &'a TargetContext<'b>, name: &FieldName) -> Option<Operand<'a>>
+fn attr_field<'a, 'b, I: FileLists>(
+    context: &'a TargetContext<'b, I>,
+    name: &FieldName,
+) -> Option<Operand<'a>>
     ensures { result ≡ attr_field context.now.target.now context.now.dependencies
         context.now.label.now name.now }
 {
@@ -108,16 +114,16 @@ fn attr_field<'a, 'b>(context: &'a TargetContext<'b>, name: &FieldName) -> Optio
     }
 }
 
-/// A field of `ctx.files`.
-fn files_field(
+/// A field of `ctx.files`, which is lent once it was listed.
+fn files_field<'a, 'b, I: FileLists>(
     alloc: Global,
-    context: &TargetContext<'_>,
+    context: &'a TargetContext<'b, I>,
     name: &FieldName,
-) -> Result<Value, Broken>
+) -> Result<Operand<'a>, Broken>
     ensures { Gives (files_field context.now.target.now context.now.dependencies name.now) result }
 {
-    match value_for(context.target, name) {
-        Some(value) => files(alloc, &context.dependencies, value),
+    match attribute_place(context.target, name) {
+        Some(place) => context.files_at(alloc, place),
         None => Err(Broken::Kind(Kind::Name)),
     }
 }

@@ -3,7 +3,8 @@
 //!
 //! Each call gives what its definition in `contexts` says, or answers that memory was refused. Nothing of a dependency is
 //! copied or counted: its label, its depsets and its instances are lent where they lie, and so is what [`TargetContext`] made
-//! once of the target's label and attributes. `ctx.files` alone makes a list, which names each File once more.
+//! once of the target's label and attributes. A list of `ctx.files` names each File once more: it is made at its first read, kept
+//! in [`TargetContext`], and lent from then on.
 #![tactic(auto)]
 
 mod attributes;
@@ -11,10 +12,12 @@ mod context;
 mod dependencies;
 mod fields;
 mod files;
+mod kept;
 mod listings;
 mod offered;
 
 pub use context::TargetContext;
 pub use dependencies::Dependencies;
 pub use fields::field;
+pub use kept::FileLists;
 pub use offered::{item, offers};

@@ -1,5 +1,5 @@
 //! Calls of implementations.
-ghost use Rattle.std.specs.Prelude.{◌≡◌, [], IfOk, length};
+ghost use Rattle.std.specs.Prelude.{◌≡◌, ℕ, [], IfOk, length};
 ghost use Rattle.meaning.specs.Functions.{Files as Codes};
 ghost use Rattle.meaning.specs.Calls.{function_meaning};
 ghost use Rattle.meaning.specs.StatementCode.{code_of};
@@ -10,6 +10,7 @@ ghost use Rattle.analysis.specs.Seen.{dependencies_seen};
 ghost use Rattle.evaluation.specs.Runs.{state_of_target, target_after};
 ghost use Rattle.implementations.specs.Implementations.{implementation_place, target_world};
 ghost use Rattle.running.specs.Target.{context_alone};
+ghost use Rattle.target_fields.specs.ByPlace.{files_at};
 ghost use Rattle.target_outcomes.specs.Implementing.{implement};
 ghost use Rattle.target_outcomes.specs.Seen.{Implements};
 
@@ -26,15 +27,16 @@ use places::Link;
 use plain::Shared;
 use running::{Setting, call_implementation};
 use std::alloc::{AllocError, Global};
+use std::marker::Brand;
 use target_actions::Mnemonics;
-use target_fields::TargetContext;
+use target_fields::{FileLists, TargetContext};
 use targets::Target;
 use values::{FunctionRef, Kind, Provider};
 use workspace::Label;
 
 /// Calls a function with `ctx` alone, in a place where nothing was done.
-fn call<'a, 'b, L: Link<'a>>(
-    setting: &Setting<'a, L, ImplementationPlace<'a, 'b>>,
+fn call<'a, 'b, L: Link<'a>, I: FileLists>(
+    setting: &Setting<'a, L, ImplementationPlace<'a, 'b, I>>,
     label: &Label,
     function: &FunctionRef,
 ) -> Result<Result<Implemented, Placed<Kind>>, AllocError>
@@ -79,8 +81,27 @@ pub(crate) fn implement<'a>(
     ensures { IfOk result (Implements (implement files.now.files files.now.limit label.now
         target.now (dependencies_seen dependencies.now))) }
 {
+    run::<Brand>(alloc, files, info, mnemonics, label, target, dependencies)
+}
+
+/// [`implement`], where `I` has the lists of `ctx.files` of this target.
+fn run<'a, I: FileLists>(
+    alloc: Global,
+    files: &'a LoadedFiles,
+    info: &'a Shared<Provider>,
+    mnemonics: &'a Mnemonics,
+    label: &'a Label,
+    target: &'a Target,
+    dependencies: &'a [Dependency<'a>],
+) -> Result<Result<Implemented, Placed<Kind>>, AllocError>
+    requires info { info.now ≡ default_info }
+    requires lists { (place : ℕ)
+        → I.list_at place ≡ files_at target.now (dependencies_seen dependencies.now) place }
+    ensures { IfOk result (Implements (implement files.now.files files.now.limit label.now
+        target.now (dependencies_seen dependencies.now))) }
+{
     modules::laws::modules_are_found_by_path::<usize, Module, FaultKind, Kind>();
-    let context = TargetContext::new(alloc, label, target, dependencies, info)?;
+    let context = TargetContext::<I>::new(alloc, label, target, dependencies, info)?;
     let place = ImplementationPlace {
         context: &context,
         mnemonics,

@@ -6,7 +6,7 @@ use Rattle.target_fields.proofs.Named.{mapped_at, named_at}
 use Rattle.target_fields.proofs.context.TargetContext.attribute.Goals as goal
 
 pub returns : goal.returns
-returns c =
+returns g c =
     let x = c.args.self.now in let t = x.target.now in let f = attribute_value x.dependencies in
     c.at.ensures ∙ ap (λ vs. at_place vs c.attribute_place.result) x.made
     ∙ mapped_at f t.values c.attribute_place.result

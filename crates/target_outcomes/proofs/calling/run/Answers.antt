@@ -5,10 +5,10 @@ use Rattle.targets.specs.declared.attributes.Rule.{Rule}
 use Rattle.loader.specs.Files.{loads}
 use Rattle.analysis.specs.Seen.{dependencies_seen}
 use Rattle.target_outcomes.proofs.After.{implements}
-use Rattle.target_outcomes.proofs.calling.implement.Goals as goal
+use Rattle.target_outcomes.proofs.calling.run.Goals as goal
 
 pub returns : goal.returns
-returns c =
+returns g c =
     let F = c.args.files.now in
     let p = c.in_ok-context.context in
     implements F.files F.limit c.args.label.now c.args.target.now (dependencies_seen c.args.dependencies.now)

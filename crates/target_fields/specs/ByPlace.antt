@@ -1,0 +1,11 @@
+-- `ctx.files` by the place of an attribute.
+use Rattle.std.specs.Prelude.{ℕ, List, Result, slice_get}
+use Rattle.values.specs.declared.ticks.Kind.{Kind}
+use Rattle.values.specs.declared.value.Value.{Value}
+use Rattle.targets.specs.Checks.{Dependency}
+use Rattle.targets.specs.declared.target.Target.{Target}
+use Rattle.contexts.specs.Fields.{files_or_name, labels_for}
+
+-- what `ctx.files` gives for the attribute at a place among those of the rule
+abbrev pub files_at : Target → List Dependency → ℕ → Result Value Kind
+files_at t ds place = files_or_name ds (labels_for (slice_get t.values place))
