@@ -12,7 +12,7 @@ use crate::idle::Idle;
 use crate::opening::open_board;
 use crate::threads::in_threads;
 use crate::worker::Site;
-use board::{Board, NoMemory, Pass};
+use board::{Board, Pass};
 use edges::Edges;
 use shelves::{Shelf, StealShelf};
 use std::alloc::Global;
@@ -90,7 +90,7 @@ where
         (HasOutcomes (A.cycle a) (A.step a) (A.fits a) graph.now.deps) }
 {
     keep_useful(graph, &mut ends);
-    let Ok(()) = spread(graph, &mut ends) else {
+    let Ok(()) = S::spread(&mut ends, graph.ready(), graph.nodes()) else {
         return Err(Refused::NoMemory);
     };
     let Ok(cycle) = analyse.cyclic(alloc) else {
@@ -124,22 +124,6 @@ fn keep_useful<S: Shelf>(graph: &Edges, ends: &mut Vec<S>)
     ensures shelves { AreEnds S.nodes (length graph.now.deps) ends.new.items }
 {
     ends.truncate(useful_workers(ends.len(), graph.acyclic()));
-}
-
-/// Puts the nodes that depend on none over the ends in turn.
-fn spread<S: Shelf>(graph: &Edges, ends: &mut Vec<S>) -> Result<(), NoMemory>
-    requires some { 0 < vec_len ends.old }
-    requires shelves { AreEnds S.nodes (length graph.now.deps) ends.old.items }
-    ensures size { vec_len ends.new ≡ vec_len ends.old }
-    ensures shelves { AreEnds S.nodes (length graph.now.deps) ends.new.items }
-{
-    let ready = graph.ready();
-    let mut next = 0;
-    for node in ready {
-        ends[next].put(*node)?;
-        next = if next + 1 < ends.len() { next + 1 } else { 0 };
-    }
-    Ok(())
 }
 
 /// All passes of the board, after workers at these ends have ended. The last pass is run's own.

@@ -88,3 +88,36 @@ fn a_worker_steals_from_the_next_one_first(rt: HostRuntime) -> Result<(), Fail> 
     assert!(rt; matches!(are_taken_in_order(ends, 4), Ok(true)));
     Ok(())
 }
+
+/// Whether an end that was asked before gives three nodes in the order in which it was given them, but
+/// for the second, which another takes in between.
+fn are_kept_in_order<S: Shelf>(mut ends: Vec<S>, nodes: usize) -> Result<bool, NoMemory>
+    requires ends { All (λ e. S.nodes e ≡ nodes) ends.items }
+    requires nodes { 3 < nodes }
+{
+    let (Some(mut one), Some(mut other)) = (pop_end(&mut ends, nodes), pop_end(&mut ends, nodes))
+    else {
+        return Ok(false);
+    };
+    let before = one.take();
+    one.put(NodeId::of(3))?;
+    one.put(NodeId::of(1))?;
+    one.put(NodeId::of(2))?;
+    Ok(
+        before.is_none()
+            && other.take() == Some(NodeId::of(1))
+            && one.take() == Some(NodeId::of(3))
+            && one.take() == Some(NodeId::of(2))
+            && one.take().is_none()
+            && other.take().is_none(),
+    )
+}
+
+#[test]
+fn a_worker_keeps_what_it_puts_on_an_empty_deque(rt: HostRuntime) -> Result<(), Fail> {
+    let Ok(ends) = StealShelf::ends(rt.alloc(), 2, 4) else {
+        panic!(rt; "no memory")
+    };
+    assert!(rt; matches!(are_kept_in_order(ends, 4), Ok(true)));
+    Ok(())
+}

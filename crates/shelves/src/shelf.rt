@@ -1,5 +1,5 @@
 //! Where workers find the numbers of nodes that can be started.
-ghost use Rattle.std.specs.Prelude.{◌≡◌, ◌<◌, ℕ, length, IfOk, IfSome};
+ghost use Rattle.std.specs.Prelude.{◌≡◌, ◌<◌, ℕ, length, vec_len, IfOk, IfSome};
 ghost use Rattle.std.specs.List.{All};
 
 use board::NoMemory;
@@ -26,6 +26,27 @@ pub trait Shelf: Drop {
     fn take(&mut self) -> Option<NodeId>
         ensures same { nodes self.new ≡ nodes self.old }
         ensures node { IfSome result (λ n. n < nodes self.old) };
+
+    /// Puts the first nodes of a run over a graph with so many nodes on the shelf: once, before any of its
+    /// ends is asked for one.
+    ///
+    /// It puts them on the ends in turn, if an end has no way of its own. `NoMemory` comes where no
+    /// memory could be had for them.
+    fn spread(ends: &mut Vec<Self>, first: &[NodeId], count: usize) -> Result<(), NoMemory>
+        requires some { 0 < vec_len ends.old }
+        requires shelves { All (λ e. nodes e ≡ count) ends.old.items }
+        requires nodes { All (λ n. n < count) first.now }
+        ensures size { vec_len ends.new ≡ vec_len ends.old }
+        ensures shelves { All (λ e. nodes e ≡ count) ends.new.items }
+    {
+        let _count = count;
+        let mut next = 0;
+        for node in first {
+            ends[next].put(*node)?;
+            next = if next + 1 < ends.len() { next + 1 } else { 0 };
+        }
+        Ok(())
+    }
 }
 
 /// An end of one queue under one lock, which all ends share. Seen as its number of nodes.

@@ -1,5 +1,6 @@
 //! A shelf of deques, one a worker.
-ghost use Rattle.std.specs.Prelude.{◌≡◌, ℕ, ◌<◌, length, IfOk, IfSome, slice_index_or};
+ghost use Rattle.std.specs.Prelude.{◌≡◌, ℕ, ◌<◌, length, vec_len, IfOk, IfSome, slice_index_or};
+ghost use Rattle.std.specs.Option.{ForSome};
 ghost use Rattle.std.specs.List.{All};
 ghost use Rattle.crossbeam_deque.specs.Handles.{view, IsPassOf, stealer_deque, worker_view};
 ghost use Rattle.shelves.specs.Numbers.{told};
@@ -7,11 +8,13 @@ ghost use Rattle.shelves.specs.Numbers.{told};
 use crate::known::Known;
 use crate::shelf::Shelf;
 use board::NoMemory;
-use crossbeam_deque::protocol::{Outcome, Protocol, Split};
+use crossbeam_deque::protocol::{Lesson, Outcome, Protocol, Split};
 use crossbeam_deque::{Pass, Steal, Stealer, Worker};
 use edges::NodeId;
 use std::alloc::{AllocError, Global};
 use std::marker::{Brand, Model};
+use std::sync::Arc;
+use std::sync::atomic::{AtomicUsize, Ordering};
 
 /// How many numbers a new deque has room for. It grows as it fills.
 const FIRST_ROOM: usize = 64;
@@ -40,6 +43,15 @@ impl Outcome<usize, Known> for Moves {
     ghost use Rattle.shelves.specs.Numbers.{Moved};
 
     ghost then = { Moved };
+}
+
+/// A count of what lies in a deque, which tells nothing of it.
+pub struct Counts;
+
+impl Lesson<usize, Known> for Counts {
+    ghost use Rattle.std.specs.Prelude.{⊤};
+
+    ghost fact = { λ v xs. ⊤ };
 }
 
 /// A number of nodes, which each call picks.
@@ -102,14 +114,91 @@ impl Other {
     }
 }
 
+/// The first nodes of a run, which all ends give by one count.
+#[derive(Drop)]
+struct First {
+    numbers: Vec<NodeId>,
+    given: AtomicUsize,
+}
+
+impl First {
+    /// The next of them; `None` where all were given.
+    fn next(&self) -> Option<NodeId> {
+        let at = self.given.fetch_add(1, Ordering::SeqCst);
+        self.numbers.get(at).copied()
+    }
+}
+
 /// A worker's end of the shelf: a deque of its own, and the means to steal from those of the other
 /// workers. Seen as its number of nodes. No call of it waits.
+///
+/// Once it has been asked for a number and has found none of the first nodes left, it keeps one that is
+/// put while its own deque is empty beside that deque. Its next `take` gives this one, and no other end
+/// can.
 #[derive(Drop)]
 pub struct StealShelf {
     own: Own,
     others: Vec<Other>,
     nodes: usize,
+    first: Option<Arc<First>>,
+    kept: Option<NodeId>,
+    was_asked: bool,
     ghost knows: { worker_view own ≡ told nodes },
+    ghost below: { ForSome kept (λ n. n < nodes) },
+}
+
+impl StealShelf {
+    /// Whether the next number is to be kept: it is then the first that this end has.
+    fn keeps_next(&mut self) -> bool
+        ensures { self.new ≡ self.old }
+    {
+        self.was_asked
+            && self.first.is_none()
+            && self.kept.is_none()
+            && self.own.len_as::<Counts>() == 0
+    }
+
+    /// One of the first nodes of the run; `None` where all were given.
+    fn take_first(&mut self) -> Option<NodeId>
+        ensures same { self.new ≡ self.old }
+        ensures node { IfSome result (λ n. n < self.old) }
+    {
+        let first = self.first.as_ref()?;
+        // What was given to all ends isn't known to be of this end's graph, so it is tested.
+        if let Some(n) = first.next()
+            && n.number() < self.nodes
+        {
+            return Some(n);
+        }
+        self.first = None;
+        None
+    }
+
+    /// From now on this end gives these nodes too.
+    fn give_first(&mut self, first: Arc<First>)
+        ensures { self.new ≡ self.old }
+    {
+        self.first = Some(first);
+    }
+
+    /// From its own deque, or else from the first of the others that has a number.
+    fn take_from_deques(&mut self) -> Option<NodeId>
+        ensures same { self.new ≡ self.old }
+        ensures node { IfSome result (λ n. n < self.old) }
+    {
+        if let Some(n) = self.own.pop_as::<Moves>() {
+            return Some(NodeId::of(n));
+        }
+        for other in self.others.iter_mut() {
+            // What another end knows of its number of nodes isn't known here, so it is tested.
+            if let Some(n) = other.steal()
+                && n < self.nodes
+            {
+                return Some(NodeId::of(n));
+            }
+        }
+        None
+    }
 }
 
 impl Model for StealShelf {
@@ -124,27 +213,52 @@ impl Shelf for StealShelf {
     ghost nodes = { λ s. s };
 
     fn put(&mut self, n: NodeId) -> Result<(), NoMemory> {
+        if self.keeps_next() {
+            self.kept = Some(n);
+            return Ok(());
+        }
         match self.own.push_as::<Moves>(n.number()) {
             Ok(()) => Ok(()),
             Err(_) => Err(NoMemory),
         }
     }
 
-    /// From its own deque, or else from the first of the others that has a number.
+    /// The number that was kept, or else one of the first, or one from its own deque or that of another.
     fn take(&mut self) -> Option<NodeId> {
-        if let Some(n) = self.own.pop_as::<Moves>() {
-            return Some(NodeId::of(n));
+        self.was_asked = true;
+        if let Some(n) = self.kept.take() {
+            return Some(n);
         }
-        for other in self.others.iter_mut() {
-            // What another end knows of its number of nodes isn't known here, so it is tested.
-            if let Some(n) = other.steal()
-                && n < self.nodes
-            {
-                return Some(NodeId::of(n));
-            }
+        match self.take_first() {
+            Some(n) => Some(n),
+            None => self.take_from_deques(),
         }
-        None
     }
+
+    /// All ends give these nodes by one count, each node once.
+    fn spread(ends: &mut Vec<StealShelf>, first: &[NodeId], count: usize) -> Result<(), NoMemory> {
+        match share_all(ends, first, count) {
+            Ok(()) => Ok(()),
+            Err(_) => Err(NoMemory),
+        }
+    }
+}
+
+/// Lets all ends give these nodes by one count.
+fn share_all(ends: &mut Vec<StealShelf>, first: &[NodeId], nodes: usize) -> Result<(), AllocError>
+    requires { All (λ e. e ≡ nodes) ends.old.items }
+    ensures size { vec_len ends.new ≡ vec_len ends.old }
+    ensures nodes { All (λ e. e ≡ nodes) ends.new.items }
+{
+    let _nodes = nodes;
+    let alloc = *ends.allocator();
+    let numbers = Vec::from_slice(alloc, first)?;
+    let given = AtomicUsize::new(0);
+    let first = Arc::new(alloc, First { numbers, given })?;
+    for i in 0..ends.len() {
+        ends[i].give_first(Arc::try_clone(&first)?);
+    }
+    Ok(())
 }
 
 /// A deque whose first pass was told the number of nodes.
@@ -203,7 +317,14 @@ fn made(own: Own, others: Vec<Other>, nodes: usize) -> StealShelf
     requires { worker_view own ≡ told nodes }
     ensures { result ≡ nodes }
 {
-    StealShelf { own, others, nodes }
+    StealShelf {
+        own,
+        others,
+        nodes,
+        first: None,
+        kept: None,
+        was_asked: false,
+    }
 }
 
 impl StealShelf {

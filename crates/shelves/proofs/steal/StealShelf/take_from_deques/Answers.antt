@@ -1,5 +1,5 @@
 use Rattle.shelves.proofs.Numbers.{takes, pops}
-use Rattle.shelves.proofs.steal.StealShelfShelf.take.Goals as goal
+use Rattle.shelves.proofs.steal.StealShelf.take_from_deques.Goals as goal
 
 pub pop_as-requires-clause-fifo : goal.pop_as-requires-clause-fifo
 pop_as-requires-clause-fifo c = let s = c.self.inside in λ _. takes _ s.nodes _ 1 s.knows
