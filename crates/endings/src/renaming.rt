@@ -12,8 +12,9 @@ use crate::naming::Naming;
 use crate::parts::{
     Parts, new_dict, new_instance, new_list, new_tuple, or_new, paired, put, put_slot,
 };
+use indexmap::IndexSet;
 use std::alloc::{AllocError, Global};
-use values::{Branch, Frozen, Held, Node, tree_at};
+use values::{Branch, Frozen, Held, Key, Node, tree_at};
 
 /// The field at a place.
 fn slot_at(slots: &[Option<Frozen>], place: usize) -> &Option<Frozen>
@@ -67,6 +68,7 @@ fn rename_node(alloc: Global, naming: &Naming, node: &Node) -> Result<Option<Bra
             Ok(limb)
         }
         Node::Dict(keys, values) => {
+            let keys: &IndexSet<Key> = keys;
             let parts = rename_all(alloc, naming, paired(keys, values.as_slice()))?;
             let limb = new_dict(alloc, keys, parts)?;
             Ok(limb)

@@ -32,7 +32,7 @@ most_le-slots (Some t ∷ os) = omega (arith, most_le-slots os)
 pub branch_deep_le-weight : (n : Node) → IsPaired n → max (deep-Node n) 0 ≤ branch_weight (node_branch n)
 branch_deep_le-weight (list v) h = omega (arith, most_le-weights v.items)
 branch_deep_le-weight (Tuple v) h = omega (arith, most_le-weights v.items)
-branch_deep_le-weight (Dict ks v) h = omega (arith, most_le-pairs ks.keys v.items h)
+branch_deep_le-weight (Dict ks v) h = omega (arith, most_le-pairs ks.value.keys v.items h)
 branch_deep_le-weight (Instance p v) h = omega (arith, most_le-slots v.items)
 
 pub parts_deep_le-weight : (p : Parts) → IsNoted p → max (deep-Parts p) 0 ≤ branch_weight (node_branch p.node)

@@ -25,14 +25,14 @@ tree_of (held.Branch b) = branch b
 abbrev pub node_branch : Node → FrozenBranch
 node_branch (node.List v) = list (trees v.items)
 node_branch (node.Tuple v) = tuple (trees v.items)
-node_branch (node.Dict ks v) = dict (pairs ks.keys v.items)
+node_branch (node.Dict ks v) = dict (pairs ks.value.keys v.items)
 node_branch (node.Instance p v) = instance p (slots v.items)
 
 -- of a dict, the keys and the values stand by place
 abbrev pub IsPaired : Node → Type 0
 IsPaired (node.List v) = Unit {0}
 IsPaired (node.Tuple v) = Unit {0}
-IsPaired (node.Dict ks v) = length ks.keys ≡ length v.items
+IsPaired (node.Dict ks v) = length ks.value.keys ≡ length v.items
 IsPaired (node.Instance p v) = Unit {0}
 
 abbrev pub is_list : FrozenBranch → Bool

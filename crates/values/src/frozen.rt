@@ -51,13 +51,14 @@ pub struct Parts {
 }
 
 /// The parts of a branch. Of a dict the keys and the values stand by place, and of an instance the values, by the place
-/// of their names in the provider, with None for each field that wasn't given.
+/// of their names in the provider, with None for each field that wasn't given. The keys are wide, and few branches are dicts, so
+/// they lie apart.
 #[derive(Drop)]
 #[cycle(frozen)]
 pub enum Node {
     List(Vec<Frozen>),
     Tuple(Vec<Frozen>),
-    Dict(IndexSet<Key>, Vec<Frozen>),
+    Dict(Box<IndexSet<Key>>, Vec<Frozen>),
     Instance(Shared<Provider>, Vec<Option<Frozen>>),
 }
 
@@ -217,6 +218,7 @@ impl Branch {
         ensures { IfOk result (λ b. b ≡ dict (pairs keys.keys values.items)) }
     {
         let parts = of_entries(values.as_slice());
+        let keys = Box::new(alloc, keys)?;
         Branch::of(alloc, Node::Dict(keys, values), parts)
     }
 
@@ -233,6 +235,7 @@ impl Branch {
     }
 
     /// A branch of these parts, of which this is noted.
+    #[inline(always)]
     fn of(alloc: Global, node: Node, parts: Extent) -> Result<Branch, AllocError>
         requires paired { IsPaired node }
         requires noted { IsExtent parts (parts_measure (node_branch node)) }

@@ -1,6 +1,6 @@
 use Rattle.std.proofs.Common.{◌≡◌, ◌++◌, [], ◌∷◌, length, min, take, refl, arith, sym, subst, ap, ◌∙◌}
 use Rattle.std.specs.Prelude.{unwrap_or, is_some}
-use Rattle.values.specs.Tree.{list, tuple, dict, trees, pairs, branch_weight, weights}
+use Rattle.values.specs.Tree.{list, tuple, dict, trees, pairs, branch_weight, weights, pair_weights}
 use Rattle.values.specs.View.{node_branch}
 use Rattle.printing.proofs.TreeTextLemmas.{weight_at}
 use Rattle.evaluation.specs.Naming.{named, slot_named, branch_named}
@@ -44,12 +44,13 @@ rename_fields-loop-i-preserved t c =
 
 pub rename_node-rename_all-requires-in-Dict : goal.rename_node-rename_all-requires-in-Dict
 rename_node-rename_all-requires-in-Dict t c =
-    let ks = c.in-Dict.keys.keys in
+    let ks = c.deref-keys.result.now.keys in
     let vs = c.in-Dict.values.items in
+    let d = ap (λ k. pair_weights (pairs k.keys vs)) c.deref-keys.ensures in
     let e = ap (λ n. branch_weight (node_branch n)) c.in-Dict.is in
     let f = ap (λ l. weights (trees l)) (c.paired.ensures ∙ ap (λ l. take (min (length ks) (length l)) l) c.as_slice-in-Dict.ensures.value) in
     let g = weights_cut ks vs (min (length ks) (length vs)) refl in
-    (omega (arith, c.decreases, e, f, g), tt)
+    (omega (arith, c.decreases, d, e, f, g), tt)
 
 pub rename_node-returns-in_ok-limb-in-List : goal.rename_node-returns-in_ok-limb-in-List
 rename_node-returns-in_ok-limb-in-List t c =
@@ -72,15 +73,16 @@ rename_node-returns-in_ok-limb-in-Tuple t c =
 pub rename_node-returns-in_ok-limb-in-Dict : goal.rename_node-returns-in_ok-limb-in-Dict
 rename_node-returns-in_ok-limb-in-Dict t c =
     let ns = c.args.naming.now in
-    let ks = c.in-Dict.keys.keys in
+    let ks = c.deref-keys.result.now.keys in
     let vs = c.in-Dict.values.items in
     let parts = c.in_ok-parts-in-Dict.parts in
     let done = c.in_ok-parts-in-Dict.ensures in
     let cut = c.paired.ensures ∙ ap (λ l. take (min (length ks) (length l)) l) c.as_slice-in-Dict.ensures.value in
     subst (λ n. unwrap_or c.in_ok-limb-in-Dict.limb (node_branch n) ≡ branch_named ns (node_branch n)) (sym c.in-Dict.is)
+    (subst (λ k. unwrap_or c.in_ok-limb-in-Dict.limb (dict (pairs k.keys vs)) ≡ branch_named ns (dict (pairs k.keys vs))) c.deref-keys.ensures
     (dict_anew ns ks vs c.in_ok-limb-in-Dict.limb
     (made_anew (λ l. dict (pairs (take (length l) ks) l)) (named ns) parts.changed parts.items.items c.paired.result.now (take (min (length ks) (length vs)) vs) c.in_ok-limb-in-Dict.limb
-    cut done.items done.same c.in_ok-limb-in-Dict.ensures))
+    cut done.items done.same c.in_ok-limb-in-Dict.ensures)))
 
 pub rename_node-returns-in_ok-limb-in-Instance : goal.rename_node-returns-in_ok-limb-in-Instance
 rename_node-returns-in_ok-limb-in-Instance t c =

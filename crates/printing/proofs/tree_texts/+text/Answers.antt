@@ -31,8 +31,9 @@ put_node-put_trees-requires-in-Tuple t c =
 pub put_node-put_pairs-requires : goal.put_node-put_pairs-requires
 put_node-put_pairs-requires t c =
     let e = ap (λ n. branch_weight (node_branch n)) c.in-Dict.is in
-    let f = ap (λ l. pair_weights (pairs c.in-Dict.keys.keys l)) c.as_slice-in-Dict.ensures.value in
-    (omega (arith, c.decreases, e, f), tt)
+    let d = ap (λ k. pair_weights (pairs k.keys c.as_slice-in-Dict.result.now)) c.deref.ensures in
+    let f = ap (λ l. pair_weights (pairs c.in-Dict.keys.value.keys l)) c.as_slice-in-Dict.ensures.value in
+    (omega (arith, c.decreases, e, d, f), tt)
 
 pub put_node-put_fields-requires : goal.put_node-put_fields-requires
 put_node-put_fields-requires t c =

@@ -14,7 +14,8 @@ returns-in-Tuple c =
 
 pub returns-in-Dict : goal.returns-in-Dict
 returns-in-Dict c =
-    ap (λ l. entries (zip c.in-Dict.keys.keys l)) c.as_slice-in-Dict.ensures.value ∙ ap entries (zip-pairs c.in-Dict.keys.keys c.in-Dict.values.items)
+    ap (λ k. entries (zip k.keys c.as_slice-in-Dict.result.now)) c.deref.ensures
+    ∙ ap (λ l. entries (zip c.in-Dict.keys.value.keys l)) c.as_slice-in-Dict.ensures.value ∙ ap entries (zip-pairs c.in-Dict.keys.value.keys c.in-Dict.values.items)
     ∙ ap (λ n. branch_shape (node_branch n)) (sym c.in-Dict.is)
 
 pub returns-in-Instance : goal.returns-in-Instance
