@@ -1,12 +1,10 @@
 -- The items that a walk has left, as the values that they are.
-use Rattle.std.specs.Prelude.{◌≡◌, List, [], ◌∷◌, Option, MatchOption, map, drop}
-use Rattle.keys.specs.declared.key.Key.{Key}
+use Rattle.std.specs.Prelude.{◌≡◌, List, [], ◌∷◌, Option, MatchOption, drop}
 use Rattle.values.specs.declared.sees.Table.{Table}
 use Rattle.values.specs.declared.value.Value.{Value}
-use Rattle.values.specs.declared.value.Value.TheVariants as value
 use Rattle.values.specs.Seeing.{group_items, table_entries}
 use Rattle.values.specs.Shape.{branch_shape}
-use Rattle.values.specs.Visits.{keys_of}
+use Rattle.values.specs.Walks.{key_values}
 use Rattle.operations.specs.Walks.{walked_items}
 use Rattle.evaluator.specs.declared.left.FrozenLeft.{FrozenLeft}
 use Rattle.evaluator.specs.declared.left.HeldItemsLeft.{HeldItemsLeft}
@@ -15,10 +13,6 @@ use Rattle.evaluator.specs.declared.left.ItemsLeft.{ItemsLeft}
 use Rattle.evaluator.specs.declared.left.KeysLeft.{KeysLeft}
 use Rattle.evaluator.specs.declared.left.Left.{Left}
 use Rattle.evaluator.specs.declared.left.Left.TheVariants as left
-
--- the keys of entries, as values
-abbrev pub key_values : List (Key × Value) → List Value
-key_values es = map value.Key (keys_of es)
 
 abbrev pub table_keys : Table → List Value
 table_keys t = key_values (table_entries t)

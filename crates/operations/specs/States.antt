@@ -59,14 +59,14 @@ Stays old new = (new.heap ≡ old.heap) × (new.depsets ≡ old.depsets)
 abbrev pub Does : {A : Type 0} → Op A → State → Result A Broken → State → Type 0
 Does f old result new = MatchResult result (λ a. f old ≡ Ok (a, new)) (λ e. Stays old new × FaultOr (f old) e)
 
--- The same, of a call that takes no memory.
-abbrev pub Acts : {A : Type 0} → Op A → State → Result A Kind → State → Type 0
-Acts f old result new = MatchResult result (λ a. f old ≡ Ok (a, new)) (λ k. Stays old new × (f old ≡ Err k))
+-- The same, of a call that never answers want of memory: this is told by its type.
+abbrev pub DoesKind : {A : Type 0} → Op A → State → Result A Kind → State → Type 0
+DoesKind f old result new = MatchResult result (λ a. f old ≡ Ok (a, new)) (λ k. Stays old new × (f old ≡ Err k))
 
 -- A call that reads gives what is to be read.
 abbrev pub Gives : {A : Type 0} → Result A Kind → Result A Broken → Type 0
 Gives r result = MatchResult result (λ a. r ≡ Ok a) (λ e. FaultOr r e)
 
--- The same, of a call that takes no memory.
-abbrev pub Reads : {A : Type 0} → Result A Kind → Result A Kind → Type 0
-Reads r result = MatchResult result (λ a. r ≡ Ok a) (λ k. r ≡ Err k)
+-- The same, of a call that never answers want of memory: this is told by its type.
+abbrev pub GivesKind : {A : Type 0} → Result A Kind → Result A Kind → Type 0
+GivesKind r result = MatchResult result (λ a. r ≡ Ok a) (λ k. r ≡ Err k)

@@ -1,9 +1,9 @@
 //! Equality, and membership of lists and tuples.
 ghost use Rattle.std.specs.Prelude.{◌≡◌, Ok, Err, MatchResult};
-ghost use Rattle.values.specs.Ticking.{Tells};
+ghost use Rattle.values.specs.Ticking.{SaysKind};
 ghost use Rattle.values.specs.Seeing.{item_value, group_items};
 ghost use Rattle.visits.specs.Equal.{equal_at};
-ghost use Rattle.operations.specs.States.{Acts, Stays};
+ghost use Rattle.operations.specs.States.{DoesKind, Stays};
 ghost use Rattle.operations.specs.Equality.{equals, among};
 
 use operations::State;
@@ -16,7 +16,7 @@ use visits::equal;
 ///
 /// Of each pair `steps`, `deep`, and `type` where two values of a type that isn't compared meet. It takes no memory.
 pub fn equals(state: &mut State, x: Item<'_>, y: Item<'_>) -> Result<bool, Kind>
-    ensures { Acts (equals (item_value x.entry) (item_value y.entry)) state.old result state.new }
+    ensures { DoesKind (equals (item_value x.entry) (item_value y.entry)) state.old result state.new }
 {
     match equal(x, y, &state.heap, &mut state.ticks) {
         Ok(same) => Ok(same),
@@ -26,7 +26,7 @@ pub fn equals(state: &mut State, x: Item<'_>, y: Item<'_>) -> Result<bool, Kind>
 
 /// Whether one of the items equals the value: `item == x`, in order, until one does.
 pub fn is_among(heap: &Heap, ticks: &mut Ticks, x: Item<'_>, items: Group<'_>) -> Result<bool, Kind>
-    ensures { Tells (among (equal_at VISITED_LEVELS heap.now) (item_value x.entry)
+    ensures { SaysKind (among (equal_at VISITED_LEVELS heap.now) (item_value x.entry)
         (group_items items.entry) ticks.old) result ticks.new }
 {
     for place in 0..items.len() {

@@ -1,11 +1,11 @@
 //! Ticks, and walks of lists, tuples and dicts.
-ghost use Rattle.std.specs.Prelude.{◌≡◌, Ok, List, MatchResult, None};
+ghost use Rattle.std.specs.Prelude.{◌≡◌, Ok, Err, List, IfErr, MatchResult, None};
 ghost use Rattle.values.specs.Ticking.{FaultOr};
-ghost use Rattle.values.specs.Cells.{walk_begun_at};
+ghost use Rattle.values.specs.Cells.{IsFullAt, walk_begun_at};
 ghost use Rattle.values.specs.declared.cells.Cell.{Cell};
 ghost use Rattle.values.specs.Shape.{shape, value_of};
 ghost use Rattle.values.specs.Seeing.{item_value};
-ghost use Rattle.operations.specs.States.{Acts, Stays, tick};
+ghost use Rattle.operations.specs.States.{DoesKind, Stays, tick};
 ghost use Rattle.operations.specs.Walks.{begin, ended, walked_items};
 
 use operations::State;
@@ -14,7 +14,7 @@ use values::{Broken, Frozen, Held, Item, Kind, Value};
 /// One tick, or `steps`.
 #[inline(always)]
 pub fn tick(state: &mut State) -> Result<(), Kind>
-    ensures { Acts tick state.old result state.new }
+    ensures { DoesKind tick state.old result state.new }
 {
     state.ticks.tick()
 }
@@ -23,37 +23,43 @@ pub fn tick(state: &mut State) -> Result<(), Kind>
 ///
 /// # Errors
 ///
-/// `type`, where the value is no list, tuple or dict.
+/// `type`, where the value is no list, tuple or dict; want of memory where its cell counts 2^64 - 1 walks already, and nowhere
+/// else.
 pub fn begin(state: &mut State, walked: Item<'_>) -> Result<(), Broken>
-    ensures { MatchResult result (λ _. begin (item_value walked.entry) state.old
+    ensures begun { MatchResult result (λ _. begin (item_value walked.entry) state.old
         ≡ Ok (walked_items (shape state.old.heap (item_value walked.entry)), state.new))
         (λ e. Stays state.old state.new × FaultOr (begin (item_value walked.entry) state.old) e) }
+    ensures full { IfErr result (λ e. e ≡ Broken.NoMemory
+        → IsFullAt state.old.heap (item_value walked.entry)) }
 {
     match walked {
         Item::Value(value) => match state.heap.begin_walk(value) {
             Ok(_) => Ok(()),
             Err(broken) => Err(broken),
         },
-        Item::Tree(tree) => tree_walked(tree),
+        Item::Tree(tree) => match tree_walked(tree) {
+            Ok(()) => Ok(()),
+            Err(kind) => Err(Broken::Kind(kind)),
+        },
         Item::Key(_) => Err(Broken::Kind(Kind::Wrong)),
     }
 }
 
 /// A frozen value may be walked where it is a list, a tuple or a dict; no walk over one is counted.
-fn tree_walked(tree: &Frozen) -> Result<(), Broken>
+fn tree_walked(tree: &Frozen) -> Result<(), Kind>
     ensures { (heap : List Cell) → MatchResult result
         (λ _. walk_begun_at heap (value_of tree.now) ≡ Ok (None, heap))
-        (λ e. FaultOr (walk_begun_at heap (value_of tree.now)) e) }
+        (λ k. walk_begun_at heap (value_of tree.now) ≡ Err k) }
 {
     match tree.held() {
         Held::Branch(branch) => {
             if branch.is_walkable() {
                 Ok(())
             } else {
-                Err(Broken::Kind(Kind::Wrong))
+                Err(Kind::Wrong)
             }
         }
-        _ => Err(Broken::Kind(Kind::Wrong)),
+        _ => Err(Kind::Wrong),
     }
 }
 

@@ -1,8 +1,8 @@
 //! Membership.
 ghost use Rattle.std.specs.Prelude.{◌≡◌, Ok, Err, Some, None, MatchResult, is_some};
-ghost use Rattle.values.specs.Ticking.{Tells};
+ghost use Rattle.values.specs.Ticking.{SaysKind};
 ghost use Rattle.values.specs.Seeing.{seen, item_value, table_entries};
-ghost use Rattle.operations.specs.States.{Acts, Reads, Stays};
+ghost use Rattle.operations.specs.States.{DoesKind, GivesKind, Stays};
 ghost use Rattle.operations.specs.Reading.{key_in, of_type};
 ghost use Rattle.operations.specs.Equality.{is_key_of};
 ghost use Rattle.operations.specs.Strings.{member, held_in, part_of};
@@ -18,7 +18,7 @@ use values::{Heap, Item, Key, Kind, Seen, Table, Ticks};
 ///
 /// Those of `==`, where items are compared; else `type`, where `x` can't be in such a value. It takes no memory.
 pub fn member(state: &mut State, x: Item<'_>, y: Item<'_>) -> Result<bool, Kind>
-    ensures { Acts (member (item_value x.entry) (item_value y.entry)) state.old result state.new }
+    ensures { DoesKind (member (item_value x.entry) (item_value y.entry)) state.old result state.new }
 {
     match held_in(&state.heap, &mut state.ticks, x, &state.heap.see_item(y)) {
         Ok(held) => Ok(held),
@@ -28,7 +28,7 @@ pub fn member(state: &mut State, x: Item<'_>, y: Item<'_>) -> Result<bool, Kind>
 
 /// Whether what a value shows has a member.
 fn held_in(heap: &Heap, ticks: &mut Ticks, x: Item<'_>, y: &Seen<'_>) -> Result<bool, Kind>
-    ensures { Tells (held_in heap.now (item_value x.entry) (seen y.now) ticks.old) result ticks.new }
+    ensures { SaysKind (held_in heap.now (item_value x.entry) (seen y.now) ticks.old) result ticks.new }
 {
     match y {
         Seen::List(items) => is_among(heap, ticks, x, *items),
@@ -41,7 +41,7 @@ fn held_in(heap: &Heap, ticks: &mut Ticks, x: Item<'_>, y: &Seen<'_>) -> Result<
 
 /// Whether a dict has the key that a value is, or `type`.
 fn has_key(entries: Table<'_>, key: &Seen<'_>) -> Result<bool, Kind>
-    ensures { Reads (of_type (key_in (seen key.now)) (is_key_of (table_entries entries.entry)))
+    ensures { GivesKind (of_type (key_in (seen key.now)) (is_key_of (table_entries entries.entry)))
         result }
 {
     match key_of(key) {
@@ -52,7 +52,7 @@ fn has_key(entries: Table<'_>, key: &Seen<'_>) -> Result<bool, Kind>
 
 /// Whether a string has a part, or `type`.
 fn has_part(whole: &Key, part: &Seen<'_>) -> Result<bool, Kind>
-    ensures { Reads (part_of whole.now (seen part.now)) result }
+    ensures { GivesKind (part_of whole.now (seen part.now)) result }
 {
     match (whole, text_of(part)) {
         (Key::Text(whole), Some(part)) => Ok(is_within(whole.as_str(), part.as_str())),

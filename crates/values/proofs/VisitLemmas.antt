@@ -18,10 +18,6 @@ module _ {B : Type 0} where
   too-deep (Ok c) f g = refl
   too-deep (Err k) f g = refl
 
-  pub fault-after : (r : Result Count Kind) (f : Count → Result B Kind) (e : Broken) → FaultOr r e → FaultOr (after_tick r f) e
-  fault-after r f (broken.Kind k) h = ap (λ s. after_tick s f) h
-  fault-after r f broken.NoMemory h = tt
-
   -- what is done, and then the rest
   abbrev pub with_done : List B → Ticking (List B) → Ticking (List B)
   with_done done r = then_on r (λ ys e. Ok (done ++ ys, e))
@@ -33,10 +29,6 @@ module _ {B : Type 0} where
   with_done-more : (done : List B) (y : B) (r : Ticking (List B)) → with_done (done ++ y ∷ []) r ≡ with_done done (then_on r (λ ys e. Ok (y ∷ ys, e)))
   with_done-more done y (Ok p) = ap (λ l. Ok (l, p.1)) (append_assoc done (y ∷ []) p.0)
   with_done-more done y (Err k) = refl
-
-pub fault-then : {A B : Type 0} (r : Ticking A) (f : A → Count → Ticking B) (e : Broken) → FaultOr r e → FaultOr (then_on r f) e
-fault-then r f (broken.Kind k) h = ap (λ s. then_on s f) h
-fault-then r f broken.NoMemory h = tt
 
 module _ {A B : Type 0} (f : A → Count → Ticking B) where
   pub all_of-end : (xs : List A) (i : ℕ) (done : List B) (c : Count) → length xs ≤ i → with_done done (all_of f (drop i xs) c) ≡ Ok (done, c)

@@ -1,6 +1,6 @@
 -- New cells and changes of cells. Each change is refused by the first of type, frozen, iterating, index and large.
 -- (Starlark's specification, "Freezing a value" and "For loops"; the limit of size is this project's own.)
-use Rattle.std.specs.Prelude.{◌≡◌, ℕ, zero, suc, ◌+◌, ◌-◌, ℤ, pos, negsuc, List, [], ◌∷◌, ◌++◌, length, Option, Some, None, ◌<◌, Result, Ok, Err, if◌then◌else◌, nat_lt, ◌&&◌, not, slice_set}
+use Rattle.std.specs.Prelude.{◌≡◌, ℕ, zero, suc, ◌+◌, ◌-◌, ℤ, pos, negsuc, List, [], ◌∷◌, ◌++◌, length, Option, Some, None, ◌<◌, Result, Ok, Err, if◌then◌else◌, nat_lt, ◌&&◌, not, slice_get, slice_set, IsSomeAnd, ◌^◌, ◌≤◌}
 use Rattle.indexmap.specs.IndexMap.{insert_entry}
 use Rattle.values.specs.View.{FrozenBranch, is_list, is_dict, is_walkable}
 use Rattle.values.specs.Leaves.{same_key}
@@ -85,6 +85,18 @@ walk_begun (cell.List xs n) = Ok (cell.List xs (n + 1))
 walk_begun (cell.Tuple xs) = Ok (cell.Tuple xs)
 walk_begun (cell.Dict es n) = Ok (cell.Dict es (n + 1))
 walk_begun (cell.Instance p xs) = Err Wrong
+
+-- so many walks are counted in the cell that 64 bits can't tell one more
+abbrev pub IsFull : Cell → Type 0
+IsFull (cell.List xs n) = 2 ^ 64 ≤ n + 1
+IsFull (cell.Tuple xs) = ⊥
+IsFull (cell.Dict es n) = 2 ^ 64 ≤ n + 1
+IsFull (cell.Instance p xs) = ⊥
+
+-- the same of the cell that a value names
+abbrev pub IsFullAt : List Cell → Value → Type 0
+IsFullAt h (value.Cell n) = IsSomeAnd (slice_get h n) IsFull
+IsFullAt h v = ⊥
 
 -- and ends
 abbrev pub walk_over : Cell → Cell

@@ -48,9 +48,10 @@ abbrev pub FaultOr : {A : Type 0} → Result A Kind → Broken → Type 0
 FaultOr r (broken.Kind k) = r ≡ Err k
 FaultOr r broken.NoMemory = Unit {0}
 
--- a call that takes no memory answers what the definition gives, with the ticks as they are then
-abbrev pub Tells : {A : Type 0} → Ticking A → Result A Kind → Count → Type 0
-Tells r result now = MatchResult result (λ x. r ≡ Ok (x, now)) (λ k. r ≡ Err k)
+-- A call that never answers want of memory (this is told by its type) answers what the definition gives, with the ticks
+-- as they are then.
+abbrev pub SaysKind : {A : Type 0} → Ticking A → Result A Kind → Count → Type 0
+SaysKind r result now = MatchResult result (λ x. r ≡ Ok (x, now)) (λ k. r ≡ Err k)
 
 -- a call answers that, or want of memory
 abbrev pub Says : {A : Type 0} → Ticking A → Result A Broken → Count → Type 0

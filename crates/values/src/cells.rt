@@ -135,6 +135,7 @@ impl Model for Fields {
 
 impl Fields {
     /// No fields, with memory for so many.
+    #[inline(always)]
     pub fn with_capacity(alloc: Global, fields: usize) -> Result<Fields, AllocError>
         ensures { IfOk result (λ f. f ≡ []) }
     {
@@ -143,6 +144,7 @@ impl Fields {
     }
 
     /// Puts the value of the next field, or None. After a refusal of memory they are as they were.
+    #[inline(always)]
     pub fn push(&mut self, value: Option<Value>) -> Result<(), AllocError>
         ensures ok { OnOk result (self.new ≡ self.old ++ value ∷ []) }
         ensures err { OnErr result (self.new ≡ self.old) }

@@ -2,9 +2,9 @@
 //!
 //! A change is refused by the first of `type`, `frozen`, `iterating`, `index` and `large`, and a refused
 //! change leaves the heap as it was. Each change finds its cell, and has the one cell changed.
-ghost use Rattle.std.specs.Prelude.{◌≡◌, ◌+◌, ◌-◌, ◌++◌, ◌∷◌, [], ◌<◌, Ok, Some, None, length, take, slice_get, option_copied, IfOk, IfSome, OnErr, MatchResult};
+ghost use Rattle.std.specs.Prelude.{◌≡◌, ◌+◌, ◌-◌, ◌++◌, ◌∷◌, [], ◌<◌, Ok, Some, None, length, take, slice_get, option_copied, IfErr, IfOk, IfSome, OnErr, MatchResult, ◌^◌, ◌≤◌};
 ghost use Rattle.values.specs.Ticking.{FaultOr};
-ghost use Rattle.values.specs.Cells.{made, pushed_items, joined_items, indexed_items, keyed_entries, pushed, joined, indexed, keyed, walk_begun, walk_begun_at, walk_over, walk_ended, ended_at, place_of, list_changed, dict_changed, IsWalked};
+ghost use Rattle.values.specs.Cells.{made, pushed_items, joined_items, indexed_items, keyed_entries, pushed, joined, indexed, keyed, walk_begun, walk_begun_at, IsFull, IsFullAt, walk_over, walk_ended, ended_at, place_of, list_changed, dict_changed, IsWalked};
 ghost use Rattle.values.specs.Shape.{cell_shape};
 ghost use Rattle.values.specs.Walks.{walked_items, walked_values};
 ghost use Rattle.values.specs.declared.cells.Cell.{Cell as Kept};
@@ -217,15 +217,17 @@ impl Heap {
 
     /// A walk over a list, a tuple or a dict begins: until it is over, a list or a dict isn't changed.
     /// All else is `type`. It gives the cell in which the walk is counted, where there is one: in a frozen value
-    /// nothing is counted.
+    /// nothing is counted. Want of memory is its answer where the cell counts 2^64 - 1 walks already, and nowhere else.
     pub fn begin_walk(&mut self, walked: &Value) -> Result<Option<usize>, Broken>
-        ensures { MatchResult result (λ n. walk_begun_at self.old walked.now ≡ Ok (n, self.new))
+        ensures begun { MatchResult result
+            (λ n. walk_begun_at self.old walked.now ≡ Ok (n, self.new))
             (λ e. (self.new ≡ self.old) × FaultOr (walk_begun_at self.old walked.now) e) }
+        ensures full { IfErr result (λ e. e ≡ Broken.NoMemory → IsFullAt self.old walked.now) }
     {
         let number = match self.walked_cell(walked) {
             Ok(Some(number)) => number,
             Ok(None) => return Ok(None),
-            Err(refused) => return Err(refused),
+            Err(kind) => return Err(Broken::Kind(kind)),
         };
         let cell = &mut self.cells[number];
         if let Err(broken) = begin_in(cell) {
@@ -297,24 +299,24 @@ impl Heap {
     }
 
     /// The number of the cell that a walk counts in, None where it counts in none, or why it is refused.
-    fn walked_cell(&self, walked: &Value) -> Result<Option<usize>, Broken>
+    fn walked_cell(&self, walked: &Value) -> Result<Option<usize>, Kind>
         ensures { MatchResult result (IsWalked self.now walked.now)
-            (λ e. FaultOr (walk_begun_at self.now walked.now) e) }
+            (λ k. walk_begun_at self.now walked.now ≡ Err k) }
     {
         match walked {
-            Value::Key(_) | Value::Leaf(_) => Err(Broken::Kind(Kind::Wrong)),
+            Value::Key(_) | Value::Leaf(_) => Err(Kind::Wrong),
             Value::Frozen(branch) => {
                 if branch.is_walkable() {
                     Ok(None)
                 } else {
-                    Err(Broken::Kind(Kind::Wrong))
+                    Err(Kind::Wrong)
                 }
             }
             Value::Cell(number) => {
                 if *number < self.cells.len() {
                     Ok(Some(*number))
                 } else {
-                    Err(Broken::Kind(Kind::Wrong))
+                    Err(Kind::Wrong)
                 }
             }
         }
@@ -464,8 +466,9 @@ fn share_in(cell: &mut Cell, alloc: Global) -> Result<Walked, AllocError>
 
 /// Counts a walk over a cell.
 fn begin_in(cell: &mut Cell) -> Result<(), Broken>
-    ensures { MatchResult result (λ _. walk_begun cell.old ≡ Ok cell.new)
+    ensures begun { MatchResult result (λ _. walk_begun cell.old ≡ Ok cell.new)
         (λ e. (cell.new ≡ cell.old) × FaultOr (walk_begun cell.old) e) }
+    ensures full { IfErr result (λ e. e ≡ Broken.NoMemory → IsFull cell.old) }
 {
     match cell {
         Cell::List(_, walks) => {
@@ -488,7 +491,7 @@ fn begin_in(cell: &mut Cell) -> Result<(), Broken>
 /// One walk more. More than a `u64` counts are answered as want of memory.
 fn count_up(walks: &mut u64) -> Result<(), Broken>
     ensures { MatchResult result (λ _. walks.new ≡ walks.old + 1)
-        (λ e. (walks.new ≡ walks.old) × (e ≡ Broken.NoMemory)) }
+        (λ e. (walks.new ≡ walks.old) × (e ≡ Broken.NoMemory) × (2 ^ 64 ≤ walks.old + 1)) }
 {
     match walks.checked_add(1) {
         Some(more) => {

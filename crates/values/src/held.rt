@@ -65,7 +65,7 @@ impl HeldItems {
     /// # Errors
     ///
     /// `AllocError` where there is no memory for the count, or where it is at its greatest.
-    pub fn share(&mut self, alloc: Global) -> Result<HeldItems, AllocError>
+    pub(crate) fn share(&mut self, alloc: Global) -> Result<HeldItems, AllocError>
         ensures same { self.new ≡ self.old }
         ensures ok { IfOk result (λ h. h ≡ self.old) }
     {
@@ -184,7 +184,7 @@ impl HeldEntries {
     }
 
     /// Another name of the same entries: a count more, which no other thread sees, and no copy.
-    pub fn share(&self) -> Result<HeldEntries, AllocError>
+    pub(crate) fn share(&self) -> Result<HeldEntries, AllocError>
         ensures { IfOk result (λ h. h ≡ self.now) }
     {
         let entries = self.entries.clone()?;

@@ -65,9 +65,6 @@ given-one None (Some y) xs ys = refl
 given-one (Some x) None xs ys = refl
 given-one (Some x) (Some y) xs ys = refl
 
-pub given-end : (xs ys : List (Option Value)) (i : ℕ) → length xs ≤ i → length xs ≡ length ys → same_given (drop i xs) (drop i ys) ≡ true
-given-end xs ys i l e = λ j. same_given (drop_of_length-le xs l j) (drop_of_length-le ys (let m : length ys ≤ i = omega (arith, l, e) in m) j)
-
 pub given-lengths : (xs ys : List (Option Value)) → length xs ≢ length ys → same_given xs ys ≡ false
 given-lengths [] [] h = absurd (h refl)
 given-lengths [] (y ∷ ys) h = refl

@@ -146,7 +146,3 @@ at-once false n e before now whole levels h = h
 -- what came of trying
 pub not-at-once : (r : Bool) (n : ℕ) (e : Extent) (before now : Count) → r ≡ false → AtOnce r n e before now → now ≡ before
 not-at-once r n e before now is h = subst (λ x. AtOnce x n e before now) is h
-
-pub done-at-once : (r : Bool) (n : ℕ) (e : Extent) (before now : Count) → r ≡ true → AtOnce r n e before now → (t : FrozenTree) → IsExtent e (measure t)
-    → visit_at n t before ≡ Ok now
-done-at-once r n e before now is h = subst (λ x. AtOnce x n e before now) is h

@@ -47,7 +47,7 @@ unfoldable pub visit_at : ℕ → FrozenTree → Count → Result Count Kind
 visit_at zero t c = after_tick (entered zero c) (λ d. Err Deep)
 visit_at (suc n) t c = after_tick (entered (suc n) c) (λ d. visited (entered n) (visit_at n) t d)
 
--- a call without a value answers what the definition gives
+-- A call that gives no value, and never answers want of memory, does what the definition gives.
 abbrev pub Goes : Result Count Kind → Result (Unit {0}) Kind → Count → Type 0
 Goes r result now = MatchResult result (λ _. r ≡ Ok now) (λ k. r ≡ Err k)
 

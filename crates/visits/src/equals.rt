@@ -2,7 +2,7 @@
 ghost use Rattle.std.specs.Prelude.{◌≡◌, ◌<◌, ◌&&◌, [], ◌∷◌, length, slice_get, Ok, Err, Some, MatchResult};
 ghost use Rattle.std.specs.Str.{bytes_eq};
 ghost use Rattle.values.specs.Leaves.{same_key};
-ghost use Rattle.values.specs.Ticking.{Tells};
+ghost use Rattle.values.specs.Ticking.{SaysKind};
 ghost use Rattle.values.specs.Seeing.{seen, item_value, option_value, group_items, table_entries, slot_values};
 ghost use Rattle.visits.specs.Equal.{equal_at, compared, leaf_equal, same_object, pairs_equal, items_equal, entries_equal, slot_equal, same_given};
 
@@ -17,7 +17,7 @@ use values::{
 /// `steps` at the tick past the limit; `deep` at a pair at depth 65; `type` where two values of a type that
 /// isn't compared meet; each pair is tested in this order. It takes no memory. After a fault the ticks are open.
 pub fn equal(a: Item<'_>, b: Item<'_>, heap: &Heap, ticks: &mut Ticks) -> Result<bool, Kind>
-    ensures { Tells (equal_at VISITED_LEVELS heap.now (item_value a.entry) (item_value b.entry)
+    ensures { SaysKind (equal_at VISITED_LEVELS heap.now (item_value a.entry) (item_value b.entry)
         ticks.old) result ticks.new }
 {
     equal_within(VISITED_LEVELS, a, b, heap, ticks)
@@ -80,7 +80,7 @@ fn equal_within(
     heap: &Heap,
     ticks: &mut Ticks,
 ) -> Result<bool, Kind>
-    ensures { Tells (equal_at left heap.now (item_value a.entry) (item_value b.entry) ticks.old)
+    ensures { SaysKind (equal_at left heap.now (item_value a.entry) (item_value b.entry) ticks.old)
         result ticks.new }
 {
     if let Err(kind) = ticks.enter(left) {
@@ -100,7 +100,7 @@ fn shapes(
     heap: &Heap,
     ticks: &mut Ticks,
 ) -> Result<bool, Kind>
-    ensures { Tells (compared (equal_at left heap.now) (seen a.now) (seen b.now) ticks.old) result
+    ensures { SaysKind (compared (equal_at left heap.now) (seen a.now) (seen b.now) ticks.old) result
         ticks.new }
 {
     match (a, b) {
@@ -129,7 +129,7 @@ fn groups(
     heap: &Heap,
     ticks: &mut Ticks,
 ) -> Result<bool, Kind>
-    ensures { Tells (items_equal (equal_at left heap.now) (group_items xs.now) (group_items ys.now)
+    ensures { SaysKind (items_equal (equal_at left heap.now) (group_items xs.now) (group_items ys.now)
         ticks.old) result ticks.new }
 {
     if xs.len() != ys.len() {
@@ -156,7 +156,7 @@ fn tables(
     heap: &Heap,
     ticks: &mut Ticks,
 ) -> Result<bool, Kind>
-    ensures { Tells (entries_equal (equal_at left heap.now) (table_entries xs.now)
+    ensures { SaysKind (entries_equal (equal_at left heap.now) (table_entries xs.now)
         (table_entries ys.now) ticks.old) result ticks.new }
 {
     if xs.len() != ys.len() {
@@ -215,7 +215,7 @@ fn slots(
     heap: &Heap,
     ticks: &mut Ticks,
 ) -> Result<bool, Kind>
-    ensures { Tells (pairs_equal (slot_equal (equal_at left heap.now)) (slot_values xs.now)
+    ensures { SaysKind (pairs_equal (slot_equal (equal_at left heap.now)) (slot_values xs.now)
         (slot_values ys.now) ticks.old) result ticks.new }
 {
     for i in 0..xs.len().min(ys.len()) {
@@ -239,7 +239,7 @@ fn both_slots(
     heap: &Heap,
     ticks: &mut Ticks,
 ) -> Result<bool, Kind>
-    ensures { Tells (slot_equal (equal_at left heap.now) (option_value x.entry)
+    ensures { SaysKind (slot_equal (equal_at left heap.now) (option_value x.entry)
         (option_value y.entry) ticks.old) result ticks.new }
 {
     match (x, y) {

@@ -42,6 +42,7 @@ pub fn freeze(
 }
 
 /// The visit of a key, and its frozen value.
+#[inline(always)]
 fn freeze_key(left: u32, key: &Key, ticks: &mut Ticks) -> Result<Frozen, Broken>
     ensures { Says (after_tick (entered left ticks.old) (λ d. Ok (key_tree key.now, d))) result
         ticks.new }
@@ -64,6 +65,7 @@ fn leaf_tree(leaf: &Leaf) -> Result<Frozen, Broken>
 }
 
 /// The visit of a leaf, and its frozen value.
+#[inline(always)]
 fn freeze_leaf(left: u32, leaf: &Leaf, ticks: &mut Ticks) -> Result<Frozen, Broken>
     ensures { Says (after_tick (entered left ticks.old) (λ d. with_count (frozen_leaf leaf.now) d))
         result ticks.new }
@@ -73,6 +75,7 @@ fn freeze_leaf(left: u32, leaf: &Leaf, ticks: &mut Ticks) -> Result<Frozen, Brok
 }
 
 /// Puts a frozen value last.
+#[inline(always)]
 fn keep(kept: &mut Vec<Frozen>, tree: Frozen) -> Result<(), AllocError>
     ensures { OnOk result (kept.new.items ≡ kept.old.items ++ tree ∷ []) }
 {
@@ -81,6 +84,7 @@ fn keep(kept: &mut Vec<Frozen>, tree: Frozen) -> Result<(), AllocError>
 }
 
 /// The value at a place.
+#[inline(always)]
 fn value_at(values: &[Value], place: usize) -> &Value
     requires { place < length values.now }
     ensures { slice_get values.now place ≡ Some result.now }
@@ -89,6 +93,7 @@ fn value_at(values: &[Value], place: usize) -> &Value
 }
 
 /// The field at a place.
+#[inline(always)]
 fn slot_at(slots: &[Option<Value>], place: usize) -> &Option<Value>
     requires { place < length slots.now }
     ensures { slice_get slots.now place ≡ Some result.now }
@@ -97,6 +102,7 @@ fn slot_at(slots: &[Option<Value>], place: usize) -> &Option<Value>
 }
 
 /// Puts what a field has last.
+#[inline(always)]
 fn keep_slot(kept: &mut Vec<Option<Frozen>>, tree: Option<Frozen>) -> Result<(), AllocError>
     ensures { OnOk result (kept.new.items ≡ kept.old.items ++ tree ∷ []) }
 {
@@ -314,6 +320,7 @@ fn freeze_slots(
 
 /// The tree of a field, where it was given.
 #[cycle(freeze)]
+#[inline(always)]
 fn freeze_slot(
     alloc: Global,
     left: u32,

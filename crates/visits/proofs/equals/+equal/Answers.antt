@@ -1,5 +1,5 @@
 use Rattle.std.proofs.Common.{◌≡◌, ◌-◌, arith, sym, ap, ◌∙◌, refl, subst, Ok, Some, slice_get}
-use Rattle.values.specs.Ticking.{Tells}
+use Rattle.values.specs.Ticking.{SaysKind}
 use Rattle.visits.specs.Equal.{equal_at, compared, slot_equal}
 use Rattle.values.specs.Seeing.{group_items, table_entries, slot_values, item_value, option_value}
 use Rattle.visits.proofs.EqualLemmas.{stopped, went, pairs-then, pairs-end, items-pairs, matches-then, entries-matches}
@@ -12,7 +12,7 @@ equal_within-returns-in-Err t c =
 pub equal_within-returns : goal.equal_within-returns
 equal_within-returns t c =
     let eq = equal_at (c.args.left - 1) c.args.heap.now in
-    subst (λ r. Tells r c.shapes.result c.shapes.new.ticks)
+    subst (λ r. SaysKind r c.shapes.result c.shapes.new.ticks)
     (sym (went c.args.heap.now (item_value c.args.a) (item_value c.args.b) c.args.ticks.now c.args.left c.enter.new.self c.in_default.ensures.0 c.in_default.ensures.1
     ∙ (λ j. compared eq (sym c.see_item-x.ensures j) (sym c.see_item-y.ensures j) c.enter.new.self))) c.shapes.ensures
 

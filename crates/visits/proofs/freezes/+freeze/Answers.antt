@@ -6,7 +6,7 @@ use Rattle.values.specs.View.{FrozenTree}
 use Rattle.values.specs.Shape.{shape, cell_shape}
 use Rattle.visits.specs.Freeze.{freeze_at, built, frozen_entry, frozen_slot}
 use Rattle.values.specs.declared.value.Value.TheVariants as value
-use Rattle.values.proofs.VisitLemmas.{fault-then, with_done, all_of-next, all_of-fault, all_of-length}
+use Rattle.values.proofs.VisitLemmas.{with_done, all_of-next, all_of-fault, all_of-length}
 use Rattle.values.proofs.KeyListLemmas.{length-keys_of}
 use Rattle.visits.proofs.RevisitLemmas.{opened, frozen-again}
 use Rattle.visits.proofs.freezes.+freeze.Goals as goal
