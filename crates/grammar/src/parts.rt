@@ -272,11 +272,11 @@ pub fn no_items(alloc: Global) -> Several
     }
 }
 
-/// Adds an item. A list of one takes no more memory than for it.
+/// Adds an item. A list of one or two takes no more memory than for these.
 fn add_item(items: &mut Vec<Expr>, item: Expr) -> Result<(), AllocError>
     ensures { OnOk result (items.new.items ≡ items.old.items ++ item ∷ []) }
 {
-    if items.is_empty() {
+    if items.len() < 2 {
         items.reserve_exact(1)?;
     }
     items.push(item)?;
@@ -313,6 +313,10 @@ pub fn with_pair(found: Pairs, pair: (Part, Part)) -> Result<Pairs, AllocError>
     let (key, value) = pair;
     let depth = found.depth.max(key.depth.max(value.depth));
     let mut entries = found.entries;
+    // One alone takes no more memory than for it.
+    if entries.is_empty() {
+        entries.reserve_exact(1)?;
+    }
     entries.push(Entry {
         key: Box::into_inner(key.expr),
         value: Box::into_inner(value.expr),
@@ -358,6 +362,10 @@ pub fn with_keyword(arguments: Arguments, name: Text, part: Part) -> Result<Argu
 {
     let depth = arguments.depth.max(part.depth);
     let mut named = arguments.named;
+    // One alone takes no more memory than for it.
+    if named.is_empty() {
+        named.reserve_exact(1)?;
+    }
     named.push(Keyword {
         name,
         value: Box::into_inner(part.expr),
@@ -393,6 +401,10 @@ pub fn with_for(
 {
     let depth = found.depth.max(part.depth);
     let mut clauses = found.clauses;
+    // One alone takes no more memory than for it.
+    if clauses.is_empty() {
+        clauses.reserve_exact(1)?;
+    }
     clauses.push(Clause::For(first, others, Box::into_inner(part.expr)))?;
     Ok(Conditions { clauses, depth })
 }

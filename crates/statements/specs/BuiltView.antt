@@ -10,7 +10,7 @@ use Rattle.statements.specs.declared.blocks.Pending.{Pending}
 abbrev pub body_of : Body → built.Belongs
 body_of Nothing = built.nothing
 body_of Block = built.block
-body_of (Statement f) = built.statement (form_of f)
+body_of (Statement f) = built.statement (form_of f.value)
 
 abbrev pub read_of : Read → built.Made
 read_of r = record { number = r.number; column = r.column; form = form_of r.form; body = body_of r.body }

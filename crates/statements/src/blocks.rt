@@ -15,8 +15,8 @@ pub(crate) enum Body {
     Nothing,
     /// The block that follows.
     Block,
-    /// A statement on the line itself.
-    Statement(Form),
+    /// A statement on the line itself, behind a `Box` since few lines have one.
+    Statement(Box<Form>),
 }
 
 /// A logical line that was read.
@@ -103,7 +103,7 @@ fn block_of(
             let mut lines = Vec::with_capacity(alloc, 1)?;
             lines.push(Line {
                 number,
-                form,
+                form: Box::into_inner(form),
                 block: Vec::new(alloc),
             })?;
             Ok(lines)

@@ -1,6 +1,6 @@
 //! The form of a logical line, read by descent: its head or its simple statement, with the expressions in it.
 
-ghost use Rattle.std.specs.Prelude.{◌≡◌, ◌-◌, [], IfOk, Some, map};
+ghost use Rattle.std.specs.Prelude.{◌≡◌, ◌++◌, ◌∷◌, ◌-◌, [], IfOk, OnOk, Some, map};
 ghost use Rattle.std.specs.Option.{option_map};
 ghost use Rattle.grammar.specs.Ahead.{given, Makes, Reads, is_done, string_at, tokens_seen};
 ghost use Rattle.grammar.specs.BareLines as bare;
@@ -21,7 +21,7 @@ use grammar::parts::{Part, Row, Several};
 use grammar::{Expr, Form, Item, MAX_DEPTH, Param, Target, parts};
 use lexer::{Bracket, Lines, NoMemory, Token, unescape};
 use plain::Text;
-use std::alloc::Global;
+use std::alloc::{AllocError, Global};
 
 /// Reads the parts of a line.
 #[derive(Clone, Copy)]
@@ -74,6 +74,17 @@ fn alone(ahead: &Ahead<'_>, form: Form) -> Result<Form, Stop>
     } else {
         Err(Stop::NoForm)
     }
+}
+
+/// Adds a parameter. A list of one or two takes no more memory than for these.
+fn add_param(found: &mut Vec<Param>, param: Param) -> Result<(), AllocError>
+    ensures { OnOk result (found.new.items ≡ found.old.items ++ param ∷ []) }
+{
+    if found.len() < 2 {
+        found.reserve_exact(1)?;
+    }
+    found.push(param)?;
+    Ok(())
 }
 
 impl FormReader {
@@ -224,7 +235,7 @@ impl FormReader {
             return Ok(Body::Block);
         }
         let form = self.simple(ahead)?;
-        Ok(Body::Statement(form))
+        Ok(Body::Statement(Box::new(self.alloc, form)?))
     }
 
     /// A head with its body.
@@ -264,7 +275,7 @@ impl FormReader {
                 return Ok(found);
             }
             let param = self.param(ahead)?;
-            found.push(param)?;
+            add_param(&mut found, param)?;
             if ahead.close(Bracket::Round) {
                 return Ok(found);
             }

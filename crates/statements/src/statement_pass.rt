@@ -197,38 +197,40 @@ fn top_of(kind: FileKind) -> Place
 }
 
 /// The same as [`read_file`].
-fn blocks_of(alloc: Global, lines: &Lines, kind: FileKind) -> Result<Vec<Line>, ParseStop>
+fn blocks_of(alloc: Global, lines: Lines, kind: FileKind) -> Result<Vec<Line>, ParseStop>
     ensures tree { IfOk result (λ ls. (tree : Block)
-        × (file_reads (top_of kind) (map laid lines.now.lines) ≡ Ok tree)
+        × (file_reads (top_of kind) (map laid lines.entry.lines) ≡ Ok tree)
         × (view.lines ls.items ≡ bare_lines tree)) }
     ensures fault { FaultsAt FaultKind.Statement
-        (file_reads (top_of kind) (map laid lines.now.lines)) result }
+        (file_reads (top_of kind) (map laid lines.entry.lines)) result }
 {
-    let read = match read_lines(alloc, lines) {
+    let read = match read_lines(alloc, &lines) {
         Ok(read) => read,
         Err(NoMemory) => return Err(ParseStop::NoMemory),
     };
+    drop(lines);
     match lines_stand(alloc, read.outlines.as_slice(), top_of(kind)) {
         Ok(()) => {}
         Err(stop) => return Err(stop),
     }
+    drop(read.outlines);
     Ok(file_lines(alloc, read.reads)?)
 }
 
 /// Reads the logical lines of a file and puts them into their blocks. No expression in them is more than
-/// [`grammar::MAX_DEPTH`] deep.
+/// [`grammar::MAX_DEPTH`] deep. The logical lines are given back before the blocks are made.
 ///
 /// # Errors
 ///
 /// A fault of the statements at the first line that has no form, or stands where it may not. Want of memory may be
 /// answered in its place.
-pub fn read_file(alloc: Global, lines: &Lines, kind: FileKind) -> Result<Vec<Line>, ParseStop>
+pub fn read_file(alloc: Global, lines: Lines, kind: FileKind) -> Result<Vec<Line>, ParseStop>
     ensures tree { IfOk result (λ ls. (tree : Block)
-        × (file_reads (top_of kind) (map laid lines.now.lines) ≡ Ok tree)
+        × (file_reads (top_of kind) (map laid lines.entry.lines) ≡ Ok tree)
         × (view.lines ls.items ≡ bare_lines tree)) }
     ensures shallow { IfOk result (λ ls. lines_depth (view.lines ls.items) ≤ 200) }
     ensures fault { FaultsAt FaultKind.Statement
-        (file_reads (top_of kind) (map laid lines.now.lines)) result }
+        (file_reads (top_of kind) (map laid lines.entry.lines)) result }
 {
     blocks_of(alloc, lines, kind)
 }

@@ -60,7 +60,7 @@ fn read(alloc: Global, text: &str, kind: FileKind) -> Result<Parsed, ParseStop>
         Ok(read) => read,
         Err(stop) => return Err(stop),
     };
-    let lines = match read_file(alloc, &read, kind) {
+    let lines = match read_file(alloc, read, kind) {
         Ok(lines) => lines,
         Err(stop) => return Err(stop),
     };

@@ -12,7 +12,7 @@ pub returns-in-Err-lines_stand-clause-fault : goal.returns-in-Err-lines_stand-cl
 returns-in-Err-lines_stand-clause-fault c f e =
     let same : c.in-Err-lines_stand.stop ≡ Fault f = cc in
     let found = c.in-Err-lines_stand.ensures.fault f (ap Err same) in
-    let lines = map laid c.args.lines.now.lines in
+    let lines = map laid c.args.lines.lines in
     let slice = c.as_slice.ensures.value in
     let read = c.in-Ok.ensures.outlines in
     let outlines : c.as_slice.result.now ≡ map outline_read lines = cc in (
@@ -23,7 +23,7 @@ returns-in-Err-lines_stand-clause-fault c f e =
 
 pub returns-clause-tree : goal.returns-clause-tree
 returns-clause-tree c =
-    let lines = map laid c.args.lines.now.lines in
+    let lines = map laid c.args.lines.lines in
     let slice = c.as_slice.ensures.value in
     let read = c.in-Ok.ensures.outlines in
     let outlines : c.as_slice.result.now ≡ map outline_read lines = cc in
@@ -31,4 +31,4 @@ returns-clause-tree c =
     let tree =
     has_tree (top_of c.args.kind) lines passed.0
     (sym (ap (λ os. pass os (top_level c.top_of.result ∷ [])) outlines ∙ ap (λ t. pass (map outline_read lines) (top_level t ∷ [])) c.top_of.ensures) ∙ passed.1) in
-    (tree.0, tree.1, c.in_ok-file_lines.ensures ∙ ap built c.in-Ok.ensures.reads ∙ read_built (top_of c.args.kind) c.args.lines.now.lines tree.0 tree.1)
+    (tree.0, tree.1, c.in_ok-file_lines.ensures ∙ ap built c.in-Ok.ensures.reads ∙ read_built (top_of c.args.kind) c.args.lines.lines tree.0 tree.1)

@@ -1,4 +1,4 @@
-use Rattle.std.proofs.Common.{◌≡◌, ◌≤◌, true, false, map, sym, ap, subst, Ok}
+use Rattle.std.proofs.Common.{◌≡◌, ◌≤◌, true, false, map, sym, subst, Ok}
 use Rattle.grammar.specs.BareDepth.{lines_depth}
 use Rattle.grammar.specs.BareLines.{bare_lines}
 use Rattle.grammar.specs.Blocks.{Block, laid}
@@ -13,7 +13,7 @@ use Rattle.statements.proofs.statement_pass.read_file.Goals as goal
 pub returns-clause-shallow : goal.returns-clause-shallow
 returns-clause-shallow c =
     let p = top_of c.args.kind in
-    let lines = c.args.lines.now.lines in
+    let lines = c.args.lines.lines in
     if_ok_then c.blocks_of.result
     (λ ls. (tree : Block) × (file_reads p (map laid lines) ≡ Ok tree) × (view.lines ls.items ≡ bare_lines tree))
     (λ ls. lines_depth (view.lines ls.items) ≤ 200)
