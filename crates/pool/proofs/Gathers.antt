@@ -53,7 +53,7 @@ module _ {V : Type 0} where
 
   module _ (step : ℕ → List V → V) (fits : ℕ → List V → Type 0) (b : BoardView) where
     -- run's own pass did nothing
-    new_is_quiet : (p : PassView V) → IsNew b p → IsQuiet step fits b p
+    pub new_is_quiet : (p : PassView V) → IsNew b p → IsQuiet step fits b p
     new_is_quiet p new =
         record {
           sound = record { of = new.0; settled = λ n is. let e : times n p.journal.finished ≡ 0 = ap (λ (j : Journal). times n j.finished) new.1 in absurd (omega arith) };

@@ -1,10 +1,9 @@
 //! A run: the board of a graph, the first nodes on the shelf, the workers, and what they found.
-ghost use Rattle.std.specs.Prelude.{◌≡◌, ◌+◌, ◌<◌, ◌≤◌, ℕ, length, max, take, IfOk, vec_len};
-ghost use Rattle.std.specs.List.{All};
-ghost use Rattle.board.specs.Views.{IsNew};
+ghost use Rattle.std.specs.Prelude.{◌≡◌, ◌+◌, ◌<◌, ◌≤◌, length, max, take, IfOk, vec_len};
 ghost use Rattle.pool.specs.Gathered.{HasOutcomes};
 ghost use Rattle.pool.specs.Ends.{AreEnds, CanRun, IsGathering};
 
+use crate::alone::alone;
 use crate::analyse::Analyse;
 use crate::gate::Gate;
 use crate::gathered::Gathered;
@@ -28,7 +27,9 @@ pub enum Refused {
     NoThread,
 }
 
-/// The outcome of every node of the graph, by so many workers, from 1 to 64, with a deque each.
+/// The outcome of every node of the graph, by so many workers, from 1 to 64, with a deque each. Several
+/// run in threads of their own. One alone runs in the thread that calls, whose stack should be as
+/// large as theirs: 2 MiB.
 ///
 /// Whenever it answers `Ok`, the outcomes are those along edges: whatever the number of workers,
 /// whichever of them ran which node, and whatever the gate does. Cyclic nodes have theirs without a
@@ -159,6 +160,9 @@ where
         gate,
         idle: &idle,
     };
+    if ends.len() == 1 {
+        return alone(&site, ends, passes);
+    }
     in_threads(&site, ends, passes)
 }
 

@@ -122,7 +122,7 @@ where
 }
 
 /// Whether the worker was refused nothing.
-fn ended_well(ending: Ending) -> bool
+pub fn ended_well(ending: Ending) -> bool
     ensures { (j : Journal) → EndingSays ending j → OnTrue result (EndedWell j) }
 {
     match ending {

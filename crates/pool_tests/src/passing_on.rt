@@ -1,5 +1,5 @@
 //! Shelves and their ends.
-ghost use Rattle.std.specs.Prelude.{◌≡◌, ◌<◌, IfSome};
+ghost use Rattle.std.specs.Prelude.{◌≡◌, ◌<◌, IfSome, vec_len};
 ghost use Rattle.std.specs.List.{All};
 
 use board::NoMemory;
@@ -119,5 +119,45 @@ fn a_worker_keeps_what_it_puts_on_an_empty_deque(rt: HostRuntime) -> Result<(), 
         panic!(rt; "no memory")
     };
     assert!(rt; matches!(are_kept_in_order(ends, 4), Ok(true)));
+    Ok(())
+}
+
+/// Whether two ends that were given first nodes together give each of them once, in order, whichever is asked.
+fn are_spread<S: Shelf>(mut ends: Vec<S>, first: &[NodeId], nodes: usize) -> Result<bool, NoMemory>
+    requires some { 0 < vec_len ends }
+    requires ends { All (λ e. S.nodes e ≡ nodes) ends.items }
+    requires first { All (λ n. n < nodes) first.now }
+{
+    S::spread(&mut ends, first, nodes)?;
+    let (Some(mut one), Some(mut other)) = (pop_end(&mut ends, nodes), pop_end(&mut ends, nodes))
+    else {
+        return Ok(false);
+    };
+    Ok(
+        one.take() == Some(NodeId::of(2))
+            && other.take() == Some(NodeId::of(0))
+            && one.take() == Some(NodeId::of(3))
+            && other.take().is_none()
+            && one.take().is_none(),
+    )
+}
+
+#[test]
+fn ends_of_a_queue_give_each_first_node_once(rt: HostRuntime) -> Result<(), Fail> {
+    let Ok(ends) = LockShelf::ends(&rt, rt.alloc(), 2, 4) else {
+        panic!(rt; "no memory")
+    };
+    let first = [NodeId::of(2), NodeId::of(0), NodeId::of(3)];
+    assert!(rt; matches!(are_spread(ends, &first, 4), Ok(true)));
+    Ok(())
+}
+
+#[test]
+fn deques_give_each_first_node_once(rt: HostRuntime) -> Result<(), Fail> {
+    let Ok(ends) = StealShelf::ends(rt.alloc(), 2, 4) else {
+        panic!(rt; "no memory")
+    };
+    let first = [NodeId::of(2), NodeId::of(0), NodeId::of(3)];
+    assert!(rt; matches!(are_spread(ends, &first, 4), Ok(true)));
     Ok(())
 }
