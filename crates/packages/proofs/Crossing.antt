@@ -11,10 +11,10 @@ use Rattle.packages.specs.contracts.kept.DeclaredTargets as DeclaredTargets
 use Rattle.packages.specs.contracts.kept.Package as Package
 
 pub package_targets_send : IsSend PackageTargets.the_row
-package_targets_send = search (target_send, text.the_send, std.crosses, sendable) depth 60 fits 20000
+package_targets_send = search (target_send, text.the_send, label.the_send, label.the_sync, std.crosses, sendable) depth 60 fits 20000
 
 pub package_targets_sync : IsSync PackageTargets.the_row
-package_targets_sync = search (target_sync, text.the_sync, std.crosses, sendable) depth 60 fits 20000
+package_targets_sync = search (target_sync, text.the_sync, label.the_send, label.the_sync, std.crosses, sendable) depth 60 fits 20000
 
 pub needed_send : IsSend Needed.the_row
 needed_send = search (frozen_send, label.the_send, label.the_sync, std.crosses, sendable) depth 60 fits 20000

@@ -69,6 +69,3 @@ module _ (p : List ℕ) where
 
   pub targets_last : (es : List (List ℕ × Target)) (t : Target) → map (λ e. e.1) (es ++ (t.label.name, t) ∷ []) ≡ map (λ e. e.1) es ++ t ∷ []
   targets_last es t = map-append (λ e. e.1) es ((t.label.name, t) ∷ [])
-
-pub same_text : (a b : List ℕ) → bytes_eq a b ≡ true → a ≡ b
-same_text a b h = (bytes_eq-Decides a b).0 h

@@ -1,9 +1,10 @@
 //! The targets of a package.
-ghost use Rattle.std.specs.Prelude.{◌≡◌, ◌<◌, ◌++◌, ◌∷◌, [], true, false, None, Some, length, slice_get, MatchOption, IfOk, IfSome, OnOk, OnErr, option_copied};
+ghost use Rattle.std.specs.Prelude.{◌≡◌, ◌<◌, ◌++◌, ◌∷◌, [], true, false, None, Some, length, slice_get, MatchOption, IfSome, OnOk, OnErr, option_copied};
 ghost use Rattle.targets.specs.RuleCalls.{has_declared};
 ghost use Rattle.targets.specs.Resolving.{target_with};
 ghost use Rattle.rule_calls.specs.Packages.{are_named};
 
+use crate::name_key::NameKey;
 use indexmap::{Equivalent, IndexMap};
 use plain::{Shared, Text};
 use std::alloc::{AllocError, Global};
@@ -12,11 +13,11 @@ use std::marker::Model;
 use targets::Target;
 use workspace::Label;
 
-/// The targets that a package has declared so far, in order, each found by its name.
+/// The targets that a package has declared so far, in order, each found by its name, which is a part of its label's text.
 #[derive(Drop)]
 pub struct PackageTargets {
     package: Text,
-    by_name: IndexMap<Text, Target>,
+    by_name: IndexMap<NameKey, Target>,
 }
 
 impl Model for PackageTargets {
@@ -88,14 +89,20 @@ impl<'a> Equivalent<Text> for Name<'a> {
     }
 }
 
-/// The name of a label as a text: this one, where it is the name, and else a new one.
-#[tactic(auto, using(crate::proofs::Named::same_text))]
-fn name_of(alloc: Global, label: &Label, known: Option<&Text>) -> Result<Text, AllocError>
-    ensures { IfOk result (λ t. t ≡ label.now.name) }
-{
-    match known {
-        Some(text) if text.as_str() == label.name() => text.share(),
-        _ => Text::new(alloc, label.name()),
+impl<'a> Equivalent<NameKey> for Name<'a> {
+    ghost use Rattle.std.specs.Hash as fed;
+    ghost use Rattle.std.specs.Str.{bytes_eq};
+    ghost use Rattle.std.specs.Cmp.Lexicographic.{bytes_decides, nat_list_eq_equiv};
+    ghost use Rattle.std.proofs.Common.{ap};
+
+    ghost equivalent = { λ q k. bytes_eq q.text.now k };
+
+    ghost respects_hash = { λ q k h. ap fed.str ((bytes_decides q.text.now k).0 h) };
+
+    ghost respects_eq = { λ q x y. nat_list_eq_equiv.congr q.text.now x y };
+
+    fn equivalent(&self, key: &NameKey) -> bool {
+        self.text == key.as_str()
     }
 }
 
@@ -167,7 +174,7 @@ impl PackageTargets {
     }
 
     /// Puts a target last. After a refusal of memory they are as they were.
-    pub fn push(&mut self, alloc: Global, target: Target) -> Result<(), AllocError>
+    pub fn push(&mut self, target: Target) -> Result<(), AllocError>
         requires here { target.label.«package» ≡ self.old.«package» }
         requires new { has_declared self.old.targets target.label ≡ false }
         ensures ok { OnOk result (self.new ≡ record {
@@ -176,25 +183,7 @@ impl PackageTargets {
         }) }
         ensures err { OnErr result (self.new ≡ self.old) }
     {
-        self.push_as(alloc, None, target)
-    }
-
-    /// The same, where this text may be the target's name: then it is shared.
-    pub(crate) fn push_as(
-        &mut self,
-        alloc: Global,
-        known: Option<&Text>,
-        target: Target,
-    ) -> Result<(), AllocError>
-        requires here { target.label.«package» ≡ self.old.«package» }
-        requires new { has_declared self.old.targets target.label ≡ false }
-        ensures ok { OnOk result (self.new ≡ record {
-          «package» = self.old.«package»;
-          targets = self.old.targets ++ target ∷ [];
-        }) }
-        ensures err { OnErr result (self.new ≡ self.old) }
-    {
-        let name = name_of(alloc, target.label.get(), known)?;
+        let name = NameKey::of(&target.label)?;
         self.by_name.insert(name, target)?;
         Ok(())
     }

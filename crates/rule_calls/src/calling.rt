@@ -13,11 +13,8 @@ use crate::given::ByName;
 use crate::here::Here;
 use crate::reading::{label_from, values_for};
 use crate::repeats::repeats_given;
-use making::given_for;
-use operands::Operand;
 use operations::{Arguments, State};
-use plain::{Shared, Text};
-use state::text_of;
+use plain::Shared;
 use std::alloc::Global;
 use targets::{AttributeValue, Rule, Sequence, Target};
 use values::{Broken, Heap, Kind};
@@ -87,18 +84,9 @@ pub fn call_rule(
         Ok(target) => target,
         Err(broken) => return Err(broken),
     };
-    let name = name_in(&state.heap, arguments.names, arguments.values);
-    match declared.push_as(alloc, name, target) {
+    match declared.push(target) {
         Ok(()) => Ok(()),
         Err(_) => Err(Broken::NoMemory),
-    }
-}
-
-/// The text that a call gives as `name`, if it gives one.
-fn name_in<'h>(heap: &'h Heap, names: &[Text], values: &'h [Operand<'_>]) -> Option<&'h Text> {
-    match given_for("name", names, values) {
-        Some(name) => text_of(&heap.see_item(name.item())),
-        None => None,
     }
 }
 

@@ -12,6 +12,7 @@ mod freezing;
 mod given;
 mod here;
 mod lists;
+mod name_key;
 mod reading;
 mod repeats;
 mod typing;
