@@ -1,16 +1,17 @@
 //! The report on labels of a workspace.
-ghost use Rattle.std.specs.Prelude.{◌≡◌, ◌<◌, List, IfOk, Err, length, map};
+ghost use Rattle.std.specs.Prelude.{◌≡◌, ◌<◌, ℕ, List, IfOk, Err, length, map};
 ghost use Rattle.std.specs.List.{All};
 ghost use Rattle.workspace.specs.Labels.{LabelParts};
 ghost use Rattle.workspace.specs.Workspaces.{IsWorkspace, Pair};
 ghost use Rattle.reporting.specs.Seen.{nodes_seen};
+ghost use Rattle.loader.specs.Files.{faults};
 ghost use Rattle.loader.specs.Loaded.{AreFilesOf};
 ghost use Rattle.graph.specs.Graphs.{IsGraphOf};
 ghost use Rattle.graph.specs.Reached.{TooManyReached};
 ghost use Rattle.graph.specs.Same.{same_label};
 ghost use Rattle.outcomes.specs.Workspaces.{dependencies};
 ghost use Rattle.answers.specs.Nodes.{AreOutcomesOf, nodes_of};
-ghost use Rattle.label_order.specs.Ordered.{entry_seen, AreInOrder};
+ghost use Rattle.label_order.specs.Ordered.{entry_seen};
 ghost use Rattle.plain_workspaces.specs.Workspaces.{evaluated};
 ghost use Rattle.answers.specs.Reports.{IsTooMany, Reports};
 
@@ -21,7 +22,9 @@ use crate::team::{Deques, Shelving, Team};
 use edges::NodeId;
 use graph::Graph;
 use label_order::{Entry, by_label};
+use lexer::FaultKind;
 use loader::LoadedFiles;
+use modules::FileFault;
 use packages::Targets;
 use pool::{Gate, Gathered, Shelf, StealShelf};
 use reporting::{Node, Report, make_report};
@@ -29,6 +32,7 @@ use std::alloc::{AllocError, Global};
 use std::sync::Wait;
 use std::thread::Threads;
 use targets::Outcome;
+use values::Kind;
 use workspace::{Label, Workspace};
 
 /// How many labels an answer has at most. (This project's own limit.)
@@ -54,25 +58,26 @@ fn nodes_of<'a>(
     Ok(nodes)
 }
 
-/// The report of what was found of the nodes of a graph, written by so many threads.
+/// The report of files that fail, and of what was found of the nodes of a graph, written by so many threads.
 fn told<R: Threads + Sync>(
     rt: &R,
     alloc: Global,
-    targets: &Targets,
+    failing: &[FileFault<FaultKind, Kind>],
     graph: &Graph,
     found: &Gathered<Outcome>,
     threads: usize,
 ) -> Result<Report, AllocError>
     requires nodes { found.now.nodes ≡ length graph.now.labels }
-    ensures { let w = evaluated targets.now.files targets.now.limit in
-        (workspace : List Pair) (asked : List LabelParts) → IsWorkspace workspace
-        → AreFilesOf workspace targets.now.files → IsGraphOf (dependencies w) asked graph.now
-        → AreOutcomesOf w graph.now.labels found.now
-        → IfOk result (Reports workspace asked targets.now.limit) }
+    ensures { (files workspace : List Pair) (limit : ℕ) (asked : List LabelParts)
+        → failing.now ≡ faults files limit → IsWorkspace workspace → AreFilesOf workspace files
+        → IsGraphOf (dependencies (evaluated files limit)) asked graph.now
+        → AreOutcomesOf (evaluated files limit) graph.now.labels found.now
+        → IfOk result (Reports workspace asked limit) }
 {
     let entries = by_label(alloc, graph)?;
     let nodes = nodes_of(alloc, found, &entries)?;
-    make_report(rt, alloc, targets.faults(), &nodes, threads)
+    drop(entries);
+    make_report(rt, alloc, failing, &nodes, threads)
 }
 
 /// The targets of a workspace that is read and evaluated, where each evaluation may use so many ticks, by so many threads.
@@ -104,8 +109,72 @@ fn graph_of(alloc: Global, targets: &Targets, labels: &[Label]) -> Result<Graph,
     }
 }
 
-/// The report on the labels of a graph, by a team of workers at any shelf. What it was made of is let go by several threads,
-/// where there are several workers.
+/// The report of what was found of the nodes of a graph, by one thread. The targets are let go before it is told, so that targets
+/// and report are never in memory at once.
+fn told_alone<R: Threads + Sync>(
+    rt: &R,
+    alloc: Global,
+    targets: Targets,
+    graph: &Graph,
+    found: &Gathered<Outcome>,
+) -> Result<Report, AllocError>
+    requires nodes { found.now.nodes ≡ length graph.now.labels }
+    ensures { let w = evaluated targets.files targets.limit in
+        (workspace : List Pair) (asked : List LabelParts) → IsWorkspace workspace
+        → AreFilesOf workspace targets.files → IsGraphOf (dependencies w) asked graph.now
+        → AreOutcomesOf w graph.now.labels found.now
+        → IfOk result (Reports workspace asked targets.limit) }
+{
+    let failing = targets.into_faults();
+    told(rt, alloc, &failing, graph, found, 1)
+}
+
+/// The report of what was found of the nodes of a graph, by so many threads. What it was made of is let go after it, each part by
+/// a thread.
+fn told_together<R: Threads + Sync>(
+    rt: &R,
+    alloc: Global,
+    targets: Targets,
+    graph: Graph,
+    found: Gathered<Outcome>,
+    threads: usize,
+) -> Result<Report, AllocError>
+    requires nodes { found.nodes ≡ length graph.labels }
+    ensures { let w = evaluated targets.files targets.limit in
+        (workspace : List Pair) (asked : List LabelParts) → IsWorkspace workspace
+        → AreFilesOf workspace targets.files → IsGraphOf (dependencies w) asked graph
+        → AreOutcomesOf w graph.labels found
+        → IfOk result (Reports workspace asked targets.limit) }
+{
+    let report = told(rt, alloc, targets.faults(), &graph, &found, threads);
+    let_go(rt, found, graph, targets);
+    report
+}
+
+/// The report of what was found of the nodes of a graph, by one thread or by several. What it was made of is let go.
+fn told_of<R: Threads + Sync>(
+    rt: &R,
+    alloc: Global,
+    targets: Targets,
+    graph: Graph,
+    found: Gathered<Outcome>,
+    threads: usize,
+) -> Result<Report, AllocError>
+    requires nodes { found.nodes ≡ length graph.labels }
+    ensures { let w = evaluated targets.files targets.limit in
+        (workspace : List Pair) (asked : List LabelParts) → IsWorkspace workspace
+        → AreFilesOf workspace targets.files → IsGraphOf (dependencies w) asked graph
+        → AreOutcomesOf w graph.labels found
+        → IfOk result (Reports workspace asked targets.limit) }
+{
+    if threads > 1 {
+        told_together(rt, alloc, targets, graph, found, threads)
+    } else {
+        told_alone(rt, alloc, targets, &graph, &found)
+    }
+}
+
+/// The report on the labels of a graph, by a team of workers at any shelf. What it was made of is let go.
 fn report_on_graph<R, S, F, G>(
     rt: &R,
     alloc: Global,
@@ -126,10 +195,7 @@ where
     ensures few { result ≡ Err NoReport.TooMany → ⊥ }
 {
     let found = found::<R, S, F, G>(rt, alloc, &targets, &graph, team)?;
-    let report = told(rt, alloc, &targets, &graph, &found, team.workers);
-    if team.workers > 1 {
-        let_go(rt, found, graph, targets);
-    }
+    let report = told_of(rt, alloc, targets, graph, found, team.workers);
     Ok(report?)
 }
 
@@ -166,9 +232,10 @@ pub fn report_on<R: Threads + Wait + Sync, G: Gate>(
 /// The report on labels of a workspace, by a team of workers at any shelf.
 ///
 /// `rt` is the permission to start threads and to wait. The labels are analysed by so many workers in threads of their own,
-/// which have ended when this returns; what the report says depends on none of them, nor on the shelf. The gate is called round
-/// each label, by the worker that analyses it. Before them files are read and `BUILD` files evaluated by as many threads, and
-/// afterwards the lines of many labels are written by as many; modules are evaluated by the thread that calls.
+/// which have ended when this returns; one alone analyses them in the thread that calls. What the report says depends on none of
+/// them, nor on the shelf. The gate is called round each label, by the worker that analyses it. Before them files are read and
+/// `BUILD` files evaluated by as many threads, and afterwards the lines of many labels are written by as many; modules are
+/// evaluated by the thread that calls.
 ///
 /// # Errors
 ///

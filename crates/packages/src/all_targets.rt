@@ -128,6 +128,19 @@ impl Targets {
         &self.faults
     }
 
+    /// The same files and reasons; all else is let go.
+    pub fn into_faults(self) -> Vec<FileFault<FaultKind, Kind>>
+        ensures { result.items ≡ faults self.files self.limit }
+    {
+        let Targets {
+            alloc: _,
+            files: _,
+            packages: _,
+            faults,
+        } = self;
+        faults
+    }
+
     /// The declaration of a label.
     fn find(&self, label: &Label) -> Declaration<'_>
         ensures named { let packages = package_at self.now.files self.now.limit in

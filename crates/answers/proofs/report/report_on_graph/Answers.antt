@@ -1,11 +1,4 @@
-use denote.Param.Send.{sendable}
-use Rattle.std.proofs.Crossing as std
-use Rattle.pool.proofs.gathered.Gathered.TheSendSync as gathered
-use Rattle.reporting.proofs.Crossing.{outcome_send, outcome_sync}
 use Rattle.answers.proofs.report.report_on_graph.Goals as goal
-
-pub let_go-requires-send-A : goal.let_go-requires-send-A
-let_go-requires-send-A g c κs within = search (gathered.the_send, outcome_send, outcome_sync, std.crosses, sendable) depth 60 fits 20000
 
 pub returns-clause-report : goal.returns-clause-report
 returns-clause-report g c = λ workspace asked legal are is.

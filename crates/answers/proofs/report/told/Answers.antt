@@ -6,10 +6,9 @@ use Rattle.answers.proofs.Told.{reports}
 use Rattle.answers.proofs.report.told.Goals as goal
 
 pub returns : goal.returns
-returns g c = λ workspace asked legal are is found.
-    let t = c.args.targets.now in
+returns g c = λ files workspace limit asked failing legal are is found.
     let told = c.args.found.now in
-    reports t.files t.limit asked c.args.graph.now told (map entry_seen c.in_ok-entries.entries.items) is (c.in_ok-entries.ensures.order is.nodes.once) found workspace legal are
-    c.faults.result.now (nodes_seen c.deref-2.result.now) c.make_report.result c.faults.ensures
+    reports files limit asked c.args.graph.now told (map entry_seen c.in_ok-entries.entries.items) is (c.in_ok-entries.ensures.order is.nodes.once) found workspace legal are
+    c.args.failing.now (nodes_seen c.deref-2.result.now) c.make_report.result failing
     (ap nodes_seen c.deref-2.ensures.value ∙ c.in_ok-nodes.ensures ∙ ap (λ es. nodes_of told (map entry_seen es)) c.deref.ensures.value)
     c.make_report.ensures.text c.make_report.ensures.loud
