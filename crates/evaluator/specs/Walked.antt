@@ -4,7 +4,7 @@ use Rattle.values.specs.declared.sees.Table.{Table}
 use Rattle.values.specs.declared.value.Value.{Value}
 use Rattle.values.specs.Seeing.{group_items, table_entries}
 use Rattle.values.specs.Shape.{branch_shape}
-use Rattle.values.specs.Walks.{key_values}
+use Rattle.values.specs.Walks.{keys_as_values}
 use Rattle.operations.specs.Walks.{walked_items}
 use Rattle.evaluator.specs.declared.left.FrozenLeft.{FrozenLeft}
 use Rattle.evaluator.specs.declared.left.HeldItemsLeft.{HeldItemsLeft}
@@ -15,13 +15,13 @@ use Rattle.evaluator.specs.declared.left.Left.{Left}
 use Rattle.evaluator.specs.declared.left.Left.TheVariants as left
 
 abbrev pub table_keys : Table → List Value
-table_keys t = key_values (table_entries t)
+table_keys t = keys_as_values (table_entries t)
 
 abbrev pub held_items_seen : HeldItemsLeft → List Value
 held_items_seen l = drop l.place l.items
 
 abbrev pub held_keys_seen : HeldKeysLeft → List Value
-held_keys_seen l = drop l.place (key_values l.entries)
+held_keys_seen l = drop l.place (keys_as_values l.entries)
 
 abbrev pub frozen_seen : FrozenLeft → List Value
 frozen_seen l = drop l.place (walked_items (branch_shape l.branch))

@@ -59,7 +59,7 @@ Stays old new = (new.heap ≡ old.heap) × (new.depsets ≡ old.depsets)
 abbrev pub Does : {A : Type 0} → Op A → State → Result A Broken → State → Type 0
 Does f old result new = MatchResult result (λ a. f old ≡ Ok (a, new)) (λ e. Stays old new × FaultOr (f old) e)
 
--- The same, of a call that never answers want of memory: this is told by its type.
+-- The same, of a call that never answers want of memory, as its type says.
 abbrev pub DoesKind : {A : Type 0} → Op A → State → Result A Kind → State → Type 0
 DoesKind f old result new = MatchResult result (λ a. f old ≡ Ok (a, new)) (λ k. Stays old new × (f old ≡ Err k))
 
@@ -67,6 +67,6 @@ DoesKind f old result new = MatchResult result (λ a. f old ≡ Ok (a, new)) (λ
 abbrev pub Gives : {A : Type 0} → Result A Kind → Result A Broken → Type 0
 Gives r result = MatchResult result (λ a. r ≡ Ok a) (λ e. FaultOr r e)
 
--- The same, of a call that never answers want of memory: this is told by its type.
+-- The same, of a call that never answers want of memory, as its type says.
 abbrev pub GivesKind : {A : Type 0} → Result A Kind → Result A Kind → Type 0
 GivesKind r result = MatchResult result (λ a. r ≡ Ok a) (λ k. r ≡ Err k)

@@ -19,9 +19,7 @@ use values::{Broken, Group, Item, Items, Kind, Leaf, Seen, Value};
 pub fn append(state: &mut State, list: &Value, item: Value) -> Result<Value, Broken>
     ensures { Does (append list.now item) state.old result state.new }
 {
-    if let Err(broken) = state.heap.append(list, item) {
-        return Err(broken);
-    }
+    state.heap.append(list, item)?;
     Ok(Value::Leaf(Leaf::None))
 }
 
@@ -35,13 +33,8 @@ pub fn extend(
 ) -> Result<Value, Broken>
     ensures { Does (extend list.now sequence.now) state.old result state.new }
 {
-    let items = match more_of(alloc, state, list, sequence.item()) {
-        Ok(items) => items,
-        Err(broken) => return Err(broken),
-    };
-    if let Err(broken) = state.heap.extend(list, items) {
-        return Err(broken);
-    }
+    let items = more_of(alloc, state, list, sequence.item())?;
+    state.heap.extend(list, items)?;
     Ok(Value::Leaf(Leaf::None))
 }
 
@@ -54,9 +47,7 @@ fn more_of(alloc: Global, state: &State, list: &Value, sequence: Item<'_>) -> Re
     let Some(items) = sequence_of(&state.heap.see_item(sequence)) else {
         return Err(Broken::Kind(Kind::Wrong));
     };
-    if let Err(broken) = room(&state.heap, Item::Value(list), items) {
-        return Err(broken);
-    }
+    room(&state.heap, Item::Value(list), items)?;
     let items = copied(alloc, items)?;
     Ok(items)
 }

@@ -16,12 +16,10 @@ use visits::equal;
 ///
 /// Of each pair `steps`, `deep`, and `type` where two values of a type that isn't compared meet. It takes no memory.
 pub fn equals(state: &mut State, x: Item<'_>, y: Item<'_>) -> Result<bool, Kind>
-    ensures { DoesKind (equals (item_value x.entry) (item_value y.entry)) state.old result state.new }
+    ensures { DoesKind (equals (item_value x.entry) (item_value y.entry)) state.old result
+        state.new }
 {
-    match equal(x, y, &state.heap, &mut state.ticks) {
-        Ok(same) => Ok(same),
-        Err(kind) => Err(kind),
-    }
+    equal(x, y, &state.heap, &mut state.ticks)
 }
 
 /// Whether one of the items equals the value: `item == x`, in order, until one does.

@@ -169,9 +169,7 @@ fn extension_in(
     let Some(more) = extension(&state.heap.see_item(x), &state.heap.see_item(y)) else {
         return Ok(None);
     };
-    if let Err(broken) = room(&state.heap, x, more) {
-        return Err(broken);
-    }
+    room(&state.heap, x, more)?;
     let items = copied(alloc, more)?;
     Ok(Some(items))
 }

@@ -23,8 +23,7 @@ pub fn tick(state: &mut State) -> Result<(), Kind>
 ///
 /// # Errors
 ///
-/// `type`, where the value is no list, tuple or dict; want of memory where its cell counts 2^64 - 1 walks already, and nowhere
-/// else.
+/// `type`, where the value is no list, tuple or dict; want of memory only where its cell counts 2^64 - 1 walks already.
 pub fn begin(state: &mut State, walked: Item<'_>) -> Result<(), Broken>
     ensures begun { MatchResult result (λ _. begin (item_value walked.entry) state.old
         ≡ Ok (walked_items (shape state.old.heap (item_value walked.entry)), state.new))

@@ -55,7 +55,8 @@ fn join_items(
 
 /// Texts joined, as a value.
 fn join_texts(alloc: Global, separator: &Text, texts: &[&Text]) -> Result<Value, Broken>
-    ensures { Gives (then_give (or_string_fault (join_of separator.now (map (λ t. t.now) texts.now)))
+    ensures { Gives (then_give
+        (or_string_fault (join_of separator.now (map (λ t. t.now) texts.now)))
         (λ u. Ok (text u))) result }
 {
     match strings::join(alloc, separator.as_str(), texts) {

@@ -18,17 +18,16 @@ use values::{Heap, Item, Key, Kind, Seen, Table, Ticks};
 ///
 /// Those of `==`, where items are compared; else `type`, where `x` can't be in such a value. It takes no memory.
 pub fn member(state: &mut State, x: Item<'_>, y: Item<'_>) -> Result<bool, Kind>
-    ensures { DoesKind (member (item_value x.entry) (item_value y.entry)) state.old result state.new }
+    ensures { DoesKind (member (item_value x.entry) (item_value y.entry)) state.old result
+        state.new }
 {
-    match held_in(&state.heap, &mut state.ticks, x, &state.heap.see_item(y)) {
-        Ok(held) => Ok(held),
-        Err(kind) => Err(kind),
-    }
+    held_in(&state.heap, &mut state.ticks, x, &state.heap.see_item(y))
 }
 
 /// Whether what a value shows has a member.
 fn held_in(heap: &Heap, ticks: &mut Ticks, x: Item<'_>, y: &Seen<'_>) -> Result<bool, Kind>
-    ensures { SaysKind (held_in heap.now (item_value x.entry) (seen y.now) ticks.old) result ticks.new }
+    ensures { SaysKind (held_in heap.now (item_value x.entry) (seen y.now) ticks.old) result
+        ticks.new }
 {
     match y {
         Seen::List(items) => is_among(heap, ticks, x, *items),

@@ -1,9 +1,9 @@
 -- Laws of what a visit of a frozen value finds.
-use Rattle.std.proofs.Common.{◌≡◌, ℕ, ◌+◌, ◌-◌, ◌<◌, ◌≤◌, List, [], ◌∷◌, Option, Some, None, drop, length, slice_get, true, refl, sym, ap, subst, ◌∙◌, arith}
+use Rattle.std.proofs.Common.{◌≡◌, ℕ, ◌+◌, ◌-◌, ◌<◌, List, [], ◌∷◌, Option, Some, None, drop, length, slice_get, true, refl, sym, ap, subst, ◌∙◌, arith}
 use Rattle.depsets.proofs.Turns.{drop_at}
-use Rattle.values.specs.Tree.{pairs, slots, trees}
+use Rattle.values.specs.Tree.{pairs, slots}
 use Rattle.values.specs.View.{FrozenTree}
-use Rattle.values.specs.Extents.{Measure, IsExtent, beside, one, measure, trees_measure, pairs_measure, slots_measure, values_measure, with_slot}
+use Rattle.values.specs.Extents.{Measure, IsExtent, beside, one, measure, pairs_measure, slots_measure, values_measure, with_slot}
 use Rattle.values.specs.declared.extent.Extent.{Extent}
 use Rattle.keys.specs.declared.key.Key.{Key}
 

@@ -86,7 +86,7 @@ walk_begun (cell.Tuple xs) = Ok (cell.Tuple xs)
 walk_begun (cell.Dict es n) = Ok (cell.Dict es (n + 1))
 walk_begun (cell.Instance p xs) = Err Wrong
 
--- so many walks are counted in the cell that 64 bits can't tell one more
+-- so many walks are counted in the cell that 64 bits can't count one more
 abbrev pub IsFull : Cell → Type 0
 IsFull (cell.List xs n) = 2 ^ 64 ≤ n + 1
 IsFull (cell.Tuple xs) = ⊥

@@ -2,7 +2,7 @@
 -- frozen. The value itself counts as one, on the first level. A key of a dict is a value of its own, beside the key's
 -- value; the name of a field is none. (This project's own words; the specification says only that freezing is deep.)
 use Rattle.std.specs.Prelude.{◌≡◌, ◌+◌, ◌≤◌, ℕ, Bool, true, false, max, List, [], ◌∷◌, Option, Some, None}
-use Rattle.values.specs.Tree.{Tree, Branch, Trees, Pairs, Slots, key, leaf, branch, list, tuple, dict, instance, none, more, stop, pair, end, missing, given}
+use Rattle.values.specs.Tree.{Trees, Pairs, Slots, key, leaf, branch, list, tuple, dict, instance, none, more, stop, pair, end, missing, given}
 use Rattle.values.specs.View.{FrozenTree, FrozenBranch, IsPaired, node_branch}
 use Rattle.values.specs.declared.frozen.Parts.{Parts}
 use Rattle.values.specs.declared.leaf.Leaf.{Leaf}

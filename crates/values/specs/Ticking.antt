@@ -48,7 +48,7 @@ abbrev pub FaultOr : {A : Type 0} → Result A Kind → Broken → Type 0
 FaultOr r (broken.Kind k) = r ≡ Err k
 FaultOr r broken.NoMemory = Unit {0}
 
--- A call that never answers want of memory (this is told by its type) answers what the definition gives, with the ticks
+-- A call that never answers want of memory (as its type says) answers what the definition gives, with the ticks
 -- as they are then.
 abbrev pub SaysKind : {A : Type 0} → Ticking A → Result A Kind → Count → Type 0
 SaysKind r result now = MatchResult result (λ x. r ≡ Ok (x, now)) (λ k. r ≡ Err k)

@@ -9,17 +9,17 @@ use Rattle.values.specs.declared.held.Walked.{Walked}
 use Rattle.values.specs.declared.held.Walked.TheVariants as walked
 
 -- the keys of entries, as values
-abbrev pub key_values : List (Key × Value) → List Value
-key_values es = map value.Key (keys_of es)
+abbrev pub keys_as_values : List (Key × Value) → List Value
+keys_as_values es = map value.Key (keys_of es)
 
 -- what a walk goes over: items, and of a dict its keys, in order of insertion
 abbrev pub walked_items : Shape → List Value
 walked_items (items j xs) = xs
-walked_items (entries es) = key_values es
+walked_items (entries es) = keys_as_values es
 walked_items _ = []
 
 -- the same, of what is shared for a walk
 abbrev pub walked_values : Walked → List Value
 walked_values (walked.Items xs) = xs
-walked_values (walked.Entries es) = key_values es
+walked_values (walked.Entries es) = keys_as_values es
 walked_values walked.Nothing = []

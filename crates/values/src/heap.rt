@@ -217,7 +217,7 @@ impl Heap {
 
     /// A walk over a list, a tuple or a dict begins: until it is over, a list or a dict isn't changed.
     /// All else is `type`. It gives the cell in which the walk is counted, where there is one: in a frozen value
-    /// nothing is counted. Want of memory is its answer where the cell counts 2^64 - 1 walks already, and nowhere else.
+    /// nothing is counted. Want of memory is its answer only where the cell counts 2^64 - 1 walks already.
     pub fn begin_walk(&mut self, walked: &Value) -> Result<Option<usize>, Broken>
         ensures begun { MatchResult result
             (λ n. walk_begun_at self.old walked.now ≡ Ok (n, self.new))

@@ -1,10 +1,10 @@
 -- Where all of a frozen value can be frozen, and as many levels and ticks are left as it has, its visit takes those ticks.
-use Rattle.std.proofs.Common.{◌≡◌, ℕ, zero, suc, ◌+◌, ◌≤◌, Bool, true, false, Result, Ok, Err, if◌then◌else◌, nat_lt, refl, sym, ap, subst, ◌∙◌, arith, max}
+use Rattle.std.proofs.Common.{◌≡◌, ℕ, zero, suc, ◌+◌, ◌≤◌, Bool, true, false, Result, Ok, Err, if◌then◌else◌, nat_lt, refl, sym, ap, subst, ◌∙◌, arith}
 use Rattle.values.specs.Tree.{Trees, Pairs, Slots, key, leaf, branch, list, tuple, dict, instance, none, more, stop, pair, end, missing, given, tree_list, slot_list}
 use Rattle.values.specs.View.{FrozenTree, FrozenBranch}
 use Rattle.values.specs.Ticking.{Count, Spends, ticked, spent, after_tick, entered}
-use Rattle.values.specs.Extents.{Measure, IsExtent, both, one, beside, above, measure, branch_measure, parts_measure, trees_measure, pairs_measure, slots_measure, can_freeze}
-use Rattle.visits.specs.Revisit.{AtOnce, values_in, all_visited, entry_visited, slot_visited, branch_visited, leaf_visited, visited, visit_at}
+use Rattle.values.specs.Extents.{Measure, IsExtent, both, one, beside, above, measure, branch_measure, trees_measure, pairs_measure, slots_measure, can_freeze}
+use Rattle.visits.specs.Revisit.{AtOnce, values_in, all_visited, entry_visited, slot_visited, branch_visited, leaf_visited, visit_at}
 use Rattle.values.specs.declared.extent.Extent.{Extent}
 use Rattle.keys.specs.declared.key.Key.{Key}
 use Rattle.values.specs.declared.leaf.Leaf.{Leaf}

@@ -100,8 +100,8 @@ fn shapes(
     heap: &Heap,
     ticks: &mut Ticks,
 ) -> Result<bool, Kind>
-    ensures { SaysKind (compared (equal_at left heap.now) (seen a.now) (seen b.now) ticks.old) result
-        ticks.new }
+    ensures { SaysKind (compared (equal_at left heap.now) (seen a.now) (seen b.now) ticks.old)
+        result ticks.new }
 {
     match (a, b) {
         (Seen::Key(x), Seen::Key(y)) => Ok(keys(x, y)),
@@ -129,8 +129,8 @@ fn groups(
     heap: &Heap,
     ticks: &mut Ticks,
 ) -> Result<bool, Kind>
-    ensures { SaysKind (items_equal (equal_at left heap.now) (group_items xs.now) (group_items ys.now)
-        ticks.old) result ticks.new }
+    ensures { SaysKind (items_equal (equal_at left heap.now) (group_items xs.now)
+        (group_items ys.now) ticks.old) result ticks.new }
 {
     if xs.len() != ys.len() {
         return Ok(false);

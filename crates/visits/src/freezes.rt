@@ -74,12 +74,16 @@ fn freeze_leaf(left: u32, leaf: &Leaf, ticks: &mut Ticks) -> Result<Frozen, Brok
     leaf_tree(leaf)
 }
 
-/// Puts a frozen value last.
+/// Puts a frozen value last. Where room was taken for it before, that takes no look for more.
 #[inline(always)]
 fn keep(kept: &mut Vec<Frozen>, tree: Frozen) -> Result<(), AllocError>
     ensures { OnOk result (kept.new.items ≡ kept.old.items ++ tree ∷ []) }
 {
-    kept.push(tree)?;
+    if kept.len() < kept.capacity() {
+        kept.push_reserved(tree);
+    } else {
+        kept.push(tree)?;
+    }
     Ok(())
 }
 
@@ -101,12 +105,16 @@ fn slot_at(slots: &[Option<Value>], place: usize) -> &Option<Value>
     &slots[place]
 }
 
-/// Puts what a field has last.
+/// Puts what a field has last, likewise.
 #[inline(always)]
 fn keep_slot(kept: &mut Vec<Option<Frozen>>, tree: Option<Frozen>) -> Result<(), AllocError>
     ensures { OnOk result (kept.new.items ≡ kept.old.items ++ tree ∷ []) }
 {
-    kept.push(tree)?;
+    if kept.len() < kept.capacity() {
+        kept.push_reserved(tree);
+    } else {
+        kept.push(tree)?;
+    }
     Ok(())
 }
 
@@ -154,6 +162,7 @@ fn instance_of(
 
 /// The tree of a value, with this many levels left.
 #[cycle(freeze)]
+#[inline(always)]
 fn freeze_within(
     alloc: Global,
     left: u32,

@@ -1,4 +1,4 @@
-use Rattle.std.proofs.Common.{◌≡◌, map, sym, ap, ◌∙◌, subst}
+use Rattle.std.proofs.Common.{map, sym, ap, ◌∙◌, subst}
 use Rattle.values.specs.Ticking.{FaultOr}
 use Rattle.values.specs.Shape.{shape}
 use Rattle.values.specs.Seeing.{group_items, item_value}

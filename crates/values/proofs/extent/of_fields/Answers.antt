@@ -1,7 +1,7 @@
-use Rattle.std.proofs.Common.{◌≡◌, sym, subst, refl, true, drop, length, arith}
+use Rattle.std.proofs.Common.{◌≡◌, sym, subst, true, drop, length, arith}
 use Rattle.std.proofs.Math.Seq.{drop-length}
-use Rattle.values.specs.Tree.{trees, slots}
-use Rattle.values.specs.Extents.{IsExtent, beside, one, measure, trees_measure, slots_measure, values_measure, with_slot}
+use Rattle.values.specs.Tree.{slots}
+use Rattle.values.specs.Extents.{IsExtent, slots_measure, with_slot}
 use Rattle.values.proofs.ExtentLemmas.{gathered, slots-next}
 use Rattle.values.proofs.extent.of_fields.Goals as goal
 

@@ -1,6 +1,6 @@
-use Rattle.std.proofs.Common.{◌≡◌, ◌≤◌, length, drop}
-use Rattle.values.specs.Tree.{trees, slots}
-use Rattle.values.specs.Extents.{IsExtent, trees_measure, slots_measure, values_measure}
+use Rattle.std.proofs.Common.{◌≤◌, length, drop}
+use Rattle.values.specs.Tree.{slots}
+use Rattle.values.specs.Extents.{IsExtent, slots_measure}
 use Rattle.values.proofs.extent.of_fields.Given as goal
 
 abbrev pub invariant-loop-place : goal.invariant-loop-place

@@ -1,8 +1,8 @@
 use Rattle.std.proofs.Common.{◌≡◌, sym, subst, refl, true, drop, length, arith}
 use Rattle.std.proofs.Math.Seq.{drop-length}
-use Rattle.values.specs.Tree.{trees, slots}
-use Rattle.values.specs.Extents.{IsExtent, beside, one, measure, trees_measure, slots_measure, values_measure, with_slot}
-use Rattle.values.proofs.ExtentLemmas.{gathered, slots-next}
+use Rattle.values.specs.Tree.{trees}
+use Rattle.values.specs.Extents.{IsExtent, beside, measure, trees_measure}
+use Rattle.values.proofs.ExtentLemmas.{gathered}
 use Rattle.values.proofs.extent.of_items.Goals as goal
 
 pub loop-place-init : goal.loop-place-init

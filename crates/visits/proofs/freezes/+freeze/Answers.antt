@@ -1,8 +1,7 @@
-use Rattle.std.proofs.Common.{◌+◌, ◌-◌, drop, length, Ok, Some, option_copied, sym, ap, ◌∙◌, subst, true, false, List}
-use Rattle.values.specs.Ticking.{Count, Ticking, FaultOr, Says, after_tick, entered}
+use Rattle.std.proofs.Common.{◌+◌, ◌-◌, drop, length, Ok, Some, option_copied, sym, ap, ◌∙◌, subst}
+use Rattle.values.specs.Ticking.{Count, FaultOr, Says, after_tick, entered}
 use Rattle.values.specs.Visits.{all_of, keys_of}
-use Rattle.values.specs.Tree.{branch, instance, slots}
-use Rattle.values.specs.View.{FrozenTree}
+use Rattle.values.specs.Tree.{branch}
 use Rattle.values.specs.Shape.{shape, cell_shape}
 use Rattle.visits.specs.Freeze.{freeze_at, built, frozen_entry, frozen_slot}
 use Rattle.values.specs.declared.value.Value.TheVariants as value
