@@ -1,6 +1,7 @@
 -- Calls, as the machine of `meaning` does them.
 use Rattle.std.proofs.Common.{◌≡◌, ◌∙◌, List, ◌∷◌, ap, sym, subst, length, nat_lt, true, false, Ok}
 use Rattle.std.specs.Prelude.{Some, Option, Result, MatchResult}
+use Rattle.std.specs.Global.{Box}
 use Rattle.std.specs.List.{list_any}
 use Rattle.values.specs.declared.ticks.Kind.{Kind}
 use Rattle.values.specs.declared.value.Value.{Value}
@@ -11,15 +12,15 @@ use Rattle.meaning.specs.Instructions.{FunctionCode, Codes, code_at}
 use Rattle.meaning.specs.Machine.{Frame, Next, calls, choose, continuing, doing, faults, frame_of, start, starting, starts}
 use Rattle.frames.specs.declared.frame.Frame.{Frame as Kept}
 use Rattle.frames.specs.declared.stop.Stop.{Stop}
-use Rattle.frames.specs.Seen.{Stops, seen}
-use Rattle.call_stack.specs.CallView.{Begins}
+use Rattle.frames.specs.Seen.{Stops}
+use Rattle.call_stack.specs.CallView.{Begins, frame_seen}
 
 module _ {T S : Type 0} (rest : T → List Value) where
   -- what begins as one thing begins as what is equal to it
-  pub begins_same : (x y : List (Frame Value) → Next S Value Kind) (r : Result (Kept T) Stop) (active : List FunctionId) (s : S) →
+  pub begins_same : (x y : List (Frame Value) → Next S Value Kind) (r : Result (Box (Kept T)) Stop) (active : List FunctionId) (s : S) →
       ((below : List (Frame Value)) → x below ≡ y below) → Begins rest y r active s → Begins rest x r active s
   begins_same x y r active s e h below =
-      subst (λ z. MatchResult r (λ f. z ≡ continuing (seen rest f) below active s) (Stops z)) (sym (e below)) (h below)
+      subst (λ z. MatchResult r (λ f. z ≡ continuing (frame_seen rest f) below active s) (Stops z)) (sym (e below)) (h below)
 
 -- the arguments fit
 pub starts_fits : {S V K : Type 0} (ops : Operations S V K) (codes : Codes) (here : Here) (f : FunctionId) (a : Arguments V)

@@ -8,8 +8,9 @@ use Rattle.meaning.specs.Machine.{Frame, Next, all_ended, on_top, returning}
 use Rattle.frames.specs.declared.frame.Walk.{Walk}
 use Rattle.frames.specs.declared.stop.Step.{Step}
 use Rattle.frames.specs.declared.stop.Stop.{Stop}
-use Rattle.frames.specs.Seen.{Stops, seen, shown, walks_seen}
+use Rattle.frames.specs.Seen.{Stops, shown, walks_seen}
 use Rattle.call_stack.specs.ActiveView.{ids_seen}
+use Rattle.call_stack.specs.CallView.{frame_seen}
 use Rattle.call_stack.specs.RunView.{Moves}
 use Rattle.call_stack.specs.declared.running.Running.{Running}
 
@@ -18,7 +19,7 @@ module _ {T S : Type 0} (rest : T → List Value) where
   pub moves_same : (x y : Next S Value Kind) (result : Result Step Stop) (r : Running T) (s : S) → x ≡ y → Moves rest y result r s →
       Moves rest x result r s
   moves_same x y result r s e h =
-      subst (λ z. MatchResult result (λ q. z ≡ shown rest (map (seen rest) r.below) (ids_seen r.active) q r.top s) (Stops z)) (sym e) h
+      subst (λ z. MatchResult result (λ q. z ≡ shown rest (map (frame_seen rest) r.below) (ids_seen r.active) q r.top.value s) (Stops z)) (sym e) h
 
   -- the top is given back when all walks have ended
   pub gives_top : (ops : Operations S Value Kind) (values vs : List Value) (v : Value) (o p : Option (Walk T)) (outer : List (Walk T)) (s t : S)

@@ -1,5 +1,5 @@
--- What one parameter gets.
-use Rattle.std.specs.Prelude.{ℕ, zero, suc, Option, Some, None, List, bytes_eq, slice_get}
+-- What one parameter gets, and whether all fit.
+use Rattle.std.specs.Prelude.{ℕ, zero, suc, Bool, true, false, Option, Some, None, List, bytes_eq, slice_get}
 use Rattle.std.specs.Map.{lookup}
 use Rattle.syntax.specs.Names.{Name, or_else}
 
@@ -18,3 +18,8 @@ abbrev pub default_at : {V : Type 0} → ℕ → ℕ → List V → Option V
 default_at zero i ds = slice_get ds i
 default_at (suc n) zero ds = None
 default_at (suc n) (suc i) ds = default_at n i ds
+
+-- the slots, where the arguments fit
+abbrev pub fitting : {A : Type 0} → Bool → A → Option A
+fitting true slots = Some slots
+fitting false slots = None

@@ -16,7 +16,7 @@ use std::marker::Model;
 #[derive(Drop)]
 pub struct Active<'a, T> {
     functions: Vec<FunctionId>,
-    ended: Stack<Frame<'a, T>>,
+    ended: Stack<Box<Frame<'a, T>>>,
 }
 
 impl<'a, T> Model for Active<'a, T> {
@@ -80,21 +80,21 @@ impl<'a, T: Drop> Active<'a, T> {
         let _left = self.functions.pop();
     }
 
-    /// A frame for the next call: the memory of one that has ended, or of none.
+    /// A frame for the next call: one that has ended, or a new one.
     #[inline(always)]
-    pub(crate) fn spare(&mut self, alloc: Global) -> Frame<'a, T>
+    pub(crate) fn spare(&mut self, alloc: Global) -> Result<Box<Frame<'a, T>>, AllocError>
         ensures { self.new ≡ self.old }
     {
         match self.ended.pop() {
-            Some(frame) => frame,
-            None => Frame::new(alloc),
+            Some(frame) => Ok(frame),
+            None => Ok(Box::new(alloc, Frame::new(alloc))?),
         }
     }
 
     /// What is in the frame of a function that has ended is let go, and its memory is kept for the next call, unless memory for
     /// that is refused.
     #[inline(always)]
-    pub(crate) fn keep(&mut self, frame: Frame<'a, T>)
+    pub(crate) fn keep(&mut self, frame: Box<Frame<'a, T>>)
         ensures { self.new ≡ self.old }
     {
         let mut frame = frame;

@@ -6,18 +6,16 @@ ghost use Rattle.meaning.specs.Entry.{called};
 ghost use Rattle.meaning.specs.Instructions.{Codes, code_at};
 ghost use Rattle.meaning.specs.Machine as machine;
 ghost use Rattle.frames.specs.Answers.{id_seen, callee_seen};
-ghost use Rattle.frames.specs.Seen.{seen};
 ghost use Rattle.call_stack.specs.ActiveView.{ids_seen};
-ghost use Rattle.call_stack.specs.CallView.{Begins, Enters, arguments_seen, here_at};
+ghost use Rattle.call_stack.specs.CallView.{Begins, Enters, arguments_seen, frame_seen, here_at};
 ghost use Rattle.call_stack.specs.LinkedView.{codes_of};
 
 use crate::active::Active;
 use crate::filling::slots_at_entry;
 use crate::linked::Linked;
-use frames::{Callee, Frame, FunctionId, Operate, Refusal, Slots, Stack, Stop, refused, stop_at};
+use frames::{Callee, Frame, FunctionId, Operate, Refusal, Stack, Stop, refused, stop_at};
 use operands::Operand;
 use plain::Text;
-use std::mem::replace;
 
 /// The arguments of a call: those by position, the first at the top, and those by name with their names, the first at the
 /// top.
@@ -39,43 +37,24 @@ pub struct Place {
 #[derive(Drop)]
 pub enum Called<'a, T> {
     Value(Operand<'a>),
-    Frame(Frame<'a, T>),
+    Frame(Box<Frame<'a, T>>),
 }
 
 /// A function may be active once, and 128 functions at most.
 const MOST_ACTIVE: usize = 128;
 
-/// A frame at the first instruction of a function, in the memory of one that has ended.
+/// A frame at the first instruction of a function, with the slots that it has; what else was in it is let go.
 #[inline(always)]
 pub fn frame_at_entry<'a, T: Drop>(
-    ended: Frame<'a, T>,
+    frame: Box<Frame<'a, T>>,
     function: FunctionId,
-    slots: Slots<'a>,
-) -> Frame<'a, T>
-    ensures { (rest : T → List held.Value) → seen rest result ≡ machine.frame_of (id_seen
-        function) slots.entry }
+) -> Box<Frame<'a, T>>
+    ensures { (rest : T → List held.Value) → frame_seen rest result ≡ machine.frame_of (id_seen
+        function) frame.entry.value.slots }
 {
-    let Frame {
-        function: _,
-        place: _,
-        slots: _,
-        mut values,
-        mut callees,
-        walk: _,
-        mut outer,
-    } = ended;
-    values.clear();
-    callees.clear();
-    outer.clear();
-    Frame {
-        function,
-        place: 0,
-        slots,
-        values,
-        callees,
-        walk: None,
-        outer,
-    }
+    let mut frame = frame;
+    frame.start(function);
+    frame
 }
 
 /// A function whose arguments fit becomes active, if it isn't yet and if not too many are, with the tick of its call.
@@ -84,16 +63,14 @@ fn enter<'a, W: Operate<'a>>(
     world: &W,
     place: Place,
     function: FunctionId,
-    slots: Slots<'a>,
-    ended: Frame<'a, W::Walk>,
+    frame: Box<Frame<'a, W::Walk>>,
     active: &mut Active<'a, W::Walk>,
     state: &mut W::State,
-) -> Result<Frame<'a, W::Walk>, Stop>
+) -> Result<Box<Frame<'a, W::Walk>>, Stop>
     ensures { (codes : Codes) → Begins W.rest (λ below. machine.starting (W.operations world.now)
         codes
-        (here_at place (ids_seen active.old)) (id_seen function) below state.old (Some slots.entry))
-        result
-        (ids_seen active.new) state.new }
+        (here_at place (ids_seen active.old)) (id_seen function) below state.old
+        (Some frame.entry.value.slots)) result (ids_seen active.new) state.new }
 {
     if active.contains(function) {
         return Err(refused(world, Refusal::Recursion, place.file, place.line));
@@ -105,7 +82,7 @@ fn enter<'a, W: Operate<'a>>(
         return Err(stop_at(broken, place.file, place.line));
     }
     active.enter(function)?;
-    Ok(frame_at_entry(ended, function, slots))
+    Ok(frame_at_entry(frame, function))
 }
 
 /// A function written in Starlark is called: the tests of the call, its tick, and a new frame.
@@ -118,7 +95,7 @@ pub fn call_function<'a, W: Operate<'a>>(
     arguments: Arguments<'a>,
     active: &mut Active<'a, W::Walk>,
     state: &mut W::State,
-) -> Result<Frame<'a, W::Walk>, Stop>
+) -> Result<Box<Frame<'a, W::Walk>>, Stop>
     ensures { Begins W.rest (λ below. machine.starts (W.operations world.now) (codes_of linked.now)
         (here_at place (ids_seen active.old)) (id_seen function) (arguments_seen arguments.entry)
         below state.old
@@ -132,12 +109,11 @@ pub fn call_function<'a, W: Operate<'a>>(
         names,
         named,
     } = arguments;
-    let mut ended = active.spare(world.alloc());
-    let mut empty = replace(&mut ended.slots, Slots::new(world.alloc()));
-    empty.let_go();
+    let mut frame = active.spare(world.alloc())?;
     let defaults = world.defaults(state, function);
-    let entry = slots_at_entry(
-        empty,
+    let kept = &mut *frame;
+    let fits = slots_at_entry(
+        &mut kept.slots,
         code.params(),
         code.slots(),
         defaults,
@@ -145,10 +121,10 @@ pub fn call_function<'a, W: Operate<'a>>(
         names,
         named,
     )?;
-    let Some(slots) = entry else {
+    if !fits {
         return Err(refused(world, Refusal::Arity, place.file, place.line));
-    };
-    enter(world, place, function, slots, ended, active, state)
+    }
+    enter(world, place, function, frame, active, state)
 }
 
 /// Which function written in Starlark is called, if one is.

@@ -7,7 +7,7 @@ ghost use Rattle.meaning.specs.Entry.{all_known, defaults_of, entry, filled, pai
 ghost use Rattle.frames.specs.Answers.{given};
 ghost use Rattle.operands.specs.Lying.{stored_value};
 ghost use Rattle.frames.specs.Kept.{defaults_seen};
-ghost use Rattle.call_stack.specs.Filled.{default_at, got};
+ghost use Rattle.call_stack.specs.Filled.{default_at, fitting, got};
 
 use frames::{Defaults, Slots, Stack};
 use operands::{Operand, Stored};
@@ -107,33 +107,33 @@ fn default_of<'a, 'b>(
     }
 }
 
-/// What the parameters get, in their order, in slots that have none yet; None where the arguments don't fit them.
+/// What the parameters get, in their order, in slots that have none yet; whether the arguments fit them.
 fn fill<'a>(
-    empty: Slots<'a>,
+    slots: &mut Slots<'a>,
     params: &[Text],
     defaults: Defaults<'a, '_>,
     items: Stack<Operand<'a>>,
     names: &[Text],
     named: &[Operand<'a>],
-) -> Result<Option<Slots<'a>>, AllocError>
-    requires { empty ≡ [] }
-    ensures { IfOk result (λ o. o ≡ filled params.now items.entry (paired names.now named.now)
+) -> Result<bool, AllocError>
+    requires { slots.old ≡ [] }
+    ensures { IfOk result (λ fits. fitting fits slots.new
+        ≡ filled params.now items.entry (paired names.now named.now)
         (defaults_of params.now (defaults_seen defaults.entry))) }
 {
     let mut items = items;
-    let mut slots = empty;
     let without = params.len().saturating_sub(defaults.len());
     for (index, param) in params.iter().enumerate() {
         let default = default_of(defaults, without, index);
         match given_to(param, items.pop(), names, named, default)? {
             Some(value) => slots.push(Some(value))?,
-            None => return Ok(None),
+            None => return Ok(false),
         }
     }
     if items.len() > 0 {
-        return Ok(None);
+        return Ok(false);
     }
-    Ok(Some(slots))
+    Ok(true)
 }
 
 /// So many slots more, in which nothing is set.
@@ -156,32 +156,29 @@ pub fn unset<'a>(alloc: Global, count: usize) -> Result<Slots<'a>, AllocError>
     Ok(slots)
 }
 
-/// The slots at the entry of a function, in slots that have none yet; None where the arguments don't fit its parameters.
+/// The slots at the entry of a function, in the memory of these; whether the arguments fit its parameters.
 #[tactic(auto, unfolding(meaning::specs::Entry::entry))]
 pub(crate) fn slots_at_entry<'a>(
-    empty: Slots<'a>,
+    slots: &mut Slots<'a>,
     params: &[Text],
     count: usize,
     defaults: Defaults<'a, '_>,
     items: Stack<Operand<'a>>,
     names: &[Text],
     named: Stack<Operand<'a>>,
-) -> Result<Option<Slots<'a>>, AllocError>
-    requires { empty ≡ [] }
-    ensures { IfOk result (λ o. o ≡ entry params.now count (defaults_seen defaults.entry)
-        (given items.entry names.now named.entry)) }
+) -> Result<bool, AllocError>
+    ensures { IfOk result (λ fits. fitting fits slots.new ≡ entry params.now count
+        (defaults_seen defaults.entry) (given items.entry names.now named.entry)) }
 {
     let named = named.into_vec();
     if !are_known(params, names, named.as_slice()) {
-        return Ok(None);
+        return Ok(false);
     }
-    let mut empty = empty;
-    empty.reserve(count)?;
-    match fill(empty, params, defaults, items, names, named.as_slice())? {
-        None => Ok(None),
-        Some(mut slots) => {
-            pad(&mut slots, count.saturating_sub(params.len()))?;
-            Ok(Some(slots))
-        }
+    slots.let_go();
+    slots.reserve(count)?;
+    if !fill(slots, params, defaults, items, names, named.as_slice())? {
+        return Ok(false);
     }
+    pad(slots, count.saturating_sub(params.len()))?;
+    Ok(true)
 }

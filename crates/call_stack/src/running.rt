@@ -6,9 +6,9 @@ ghost use Rattle.meaning.specs.Entry.{paired};
 ghost use Rattle.meaning.specs.Instructions as instr;
 ghost use Rattle.meaning.specs.Machine as machine;
 ghost use Rattle.frames.specs.Answers.{Says, callee_seen, id_seen};
-ghost use Rattle.frames.specs.Seen.{here_of, seen, walk_seen, walks_seen};
+ghost use Rattle.frames.specs.Seen.{here_of, walk_seen, walks_seen};
 ghost use Rattle.call_stack.specs.ActiveView.{ids_seen};
-ghost use Rattle.call_stack.specs.CallView.{arguments_seen, entered};
+ghost use Rattle.call_stack.specs.CallView.{arguments_seen, entered, frame_seen};
 ghost use Rattle.call_stack.specs.LinkedView.{codes_of};
 ghost use Rattle.call_stack.specs.RunView.{Calling, Does, Moves, asked};
 
@@ -26,8 +26,8 @@ use values::{Broken, Value};
 /// A run that goes on: the frame of the function that runs, those of its callers, and the functions that are active.
 #[derive(Drop)]
 pub struct Running<'a, T> {
-    pub top: Frame<'a, T>,
-    pub below: Stack<Frame<'a, T>>,
+    pub top: Box<Frame<'a, T>>,
+    pub below: Stack<Box<Frame<'a, T>>>,
     pub active: Active<'a, T>,
 }
 
@@ -84,12 +84,14 @@ fn go_on<'a, W: Operate<'a>>(
     r: &mut Running<'a, W::Walk>,
 ) -> Result<Step, Stop>
     ensures { (s : W.State) → Moves W.rest
-        (entered W.rest (seen W.rest r.old.top ∷ map (seen W.rest) r.old.below) (ids_seen
-        r.old.active) called.entry s) result
-        r.new s }
+        (entered W.rest (frame_seen W.rest r.old.top ∷ map (frame_seen W.rest) r.old.below)
+        (ids_seen r.old.active) called.entry s) result r.new s }
 {
     match called {
-        Called::Value(value) => r.top.values.push(value)?,
+        Called::Value(value) => {
+            let top = &mut *r.top;
+            top.values.push(value)?;
+        }
         Called::Frame(frame) => {
             let caller = replace(&mut r.top, frame);
             r.below.push(caller)?;
@@ -106,8 +108,8 @@ fn leave_with<'a, W: Operate<'a>>(
     r: &mut Running<'a, W::Walk>,
 ) -> Result<Step, Stop>
     ensures { (s : W.State) → Moves W.rest
-        (machine.returning value.entry (map (seen W.rest) r.old.below) (machine.outer (ids_seen
-        r.old.active)) s) result r.new s }
+        (machine.returning value.entry (map (frame_seen W.rest) r.old.below) (machine.outer
+        (ids_seen r.old.active)) s) result r.new s }
 {
     r.active.leave();
     match r.below.pop() {
@@ -115,7 +117,8 @@ fn leave_with<'a, W: Operate<'a>>(
         Some(caller) => {
             let ended = replace(&mut r.top, caller);
             r.active.keep(ended);
-            r.top.values.push(value)?;
+            let top = &mut *r.top;
+            top.values.push(value)?;
             Ok(Step::More)
         }
     }
@@ -138,12 +141,12 @@ fn end_outer<'a, W: Operate<'a>>(
 /// All walks of a frame end, the innermost first.
 fn end_walks<'a, W: Operate<'a>>(
     world: &W,
-    walk: Option<Walk<'a, W::Walk>>,
+    walk: &Option<Walk<'a, W::Walk>>,
     outer: &mut Stack<Walk<'a, W::Walk>>,
     state: &mut W::State,
 )
     ensures { state.new ≡ machine.all_ended (W.operations world.now) (walks_seen W.rest
-        walk.entry outer.old) state.old }
+        walk.now outer.old) state.old }
 {
     if let Some(walk) = walk {
         world.end(state, walk.of.item());
@@ -162,9 +165,10 @@ pub(crate) fn call_asked<'a, W: Operate<'a>>(
     state: &mut W::State,
 ) -> Result<Step, Stop>
     ensures { Moves W.rest (machine.start (W.operations world.now) (codes_of linked.now)
-        (here_of r.old.top line (ids_seen r.old.active)) (callee_seen asked.entry.callee)
+        (here_of r.old.top.value line (ids_seen r.old.active)) (callee_seen asked.entry.callee)
         (arguments_seen asked.entry.arguments)
-        (seen W.rest r.old.top ∷ map (seen W.rest) r.old.below) state.old) result r.new state.new }
+        (frame_seen W.rest r.old.top ∷ map (frame_seen W.rest) r.old.below) state.old) result r.new
+        state.new }
 {
     let Asked { callee, arguments } = asked;
     let place = Place {
@@ -196,16 +200,16 @@ pub fn call_with<'a, W: Operate<'a>>(
     r: &mut Running<'a, W::Walk>,
     state: &mut W::State,
 ) -> Result<Step, Stop>
-    requires { r.old.top.place < 2 ^ 63 }
+    requires { r.old.top.value.place < 2 ^ 63 }
     ensures { Does W.rest (W.operations world.now) (codes_of linked.now) line (instr.call count
         names.now) r.old state.old
         result r.new state.new }
 {
-    let top = &mut r.top;
+    let top = &mut *r.top;
     let Some(asked) = take_call(world, count, names, &mut top.values, &mut top.callees)? else {
         return Ok(Step::Stuck);
     };
-    r.top.place += 1;
+    top.place += 1;
     call_asked(world, linked, line, asked, r, state)
 }
 
@@ -221,11 +225,11 @@ pub fn give_back<'a, W: Operate<'a>>(
         instr.give_back r.old state.old result
         r.new state.new }
 {
-    let Some(value) = r.top.values.pop() else {
+    let top = &mut *r.top;
+    let Some(value) = top.values.pop() else {
         return Ok(Step::Stuck);
     };
-    let walk = r.top.walk.take();
-    end_walks(world, walk, &mut r.top.outer, state);
+    end_walks(world, &top.walk, &mut top.outer, state);
     leave_with(world, value, r)
 }
 
@@ -243,7 +247,7 @@ pub fn again<'a, W: Operate<'a>>(
     if r.top.walk.is_none() {
         leave_with(world, Operand::own(world.none()), r)
     } else {
-        frames::again(world, line, &mut r.top)
+        frames::again(world, line, &mut *r.top)
     }
 }
 
@@ -261,7 +265,7 @@ pub fn stop_walk<'a, W: Operate<'a>>(
     if r.top.walk.is_none() {
         leave_with(world, Operand::own(world.none()), r)
     } else {
-        frames::stop_walk(world, line, &mut r.top, state)
+        frames::stop_walk(world, line, &mut *r.top, state)
     }
 }
 
@@ -296,24 +300,25 @@ pub fn define<'a, W: Operate<'a>>(
     r: &mut Running<'a, W::Walk>,
     state: &mut W::State,
 ) -> Result<Step, Stop>
-    requires { r.old.top.place < 2 ^ 63 }
+    requires { r.old.top.value.place < 2 ^ 63 }
     ensures { Does W.rest (W.operations world.now) (codes_of linked.now) line (instr.define
         defined.function defined.defaults)
         r.old state.old result r.new state.new }
 {
+    let top = &mut *r.top;
     let mut defaults = Stack::new(world.alloc());
-    if !take(defined.defaults, &mut r.top.values, &mut defaults)? {
+    if !take(defined.defaults, &mut top.values, &mut defaults)? {
         return Ok(Step::Stuck);
     }
     let function = FunctionId {
-        file: r.top.function.file,
+        file: top.function.file,
         number: defined.function,
     };
     let value = match made(world, linked, function, defaults, state) {
         Ok(value) => value,
-        Err(broken) => return Err(stop_at(broken, r.top.function.file, line)),
+        Err(broken) => return Err(stop_at(broken, top.function.file, line)),
     };
-    r.top.values.push(Operand::own(value))?;
-    r.top.place += 1;
+    top.values.push(Operand::own(value))?;
+    top.place += 1;
     Ok(Step::More)
 }

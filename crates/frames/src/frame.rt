@@ -65,6 +65,22 @@ impl<'a, T: Drop> Frame<'a, T> {
         }
     }
 
+    /// The frame stands at the first instruction of a function, with the slots that it has, and nothing else is in it.
+    #[inline(always)]
+    pub fn start(&mut self, function: FunctionId)
+        ensures { (rest : T → List held.Value) → seen rest self.new
+            ≡ frame_of (id_seen function) self.old.slots }
+    {
+        self.function = function;
+        self.place = 0;
+        self.values.clear();
+        self.callees.clear();
+        if self.walk.is_some() {
+            self.walk = None;
+        }
+        self.outer.clear();
+    }
+
     /// Lets go all that is in the frame; its memory is kept for another function, up to 1,024 items of each list.
     pub fn let_go(&mut self)
         ensures { (rest : T → List held.Value) → seen rest self.new
@@ -73,7 +89,9 @@ impl<'a, T: Drop> Frame<'a, T> {
         self.slots.let_go();
         self.values.clear();
         self.callees.clear();
-        self.walk = None;
+        if self.walk.is_some() {
+            self.walk = None;
+        }
         self.outer.clear();
     }
 }

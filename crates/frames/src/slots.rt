@@ -41,8 +41,12 @@ impl<'a> Slots<'a> {
     pub fn let_go(&mut self)
         ensures { self.new ≡ [] }
     {
-        self.items.clear();
-        self.items.shrink_to(KEPT);
+        if self.items.len() > 0 {
+            self.items.clear();
+        }
+        if self.items.capacity() > KEPT {
+            self.items.shrink_to(KEPT);
+        }
     }
 
     /// Memory for so many slots more.

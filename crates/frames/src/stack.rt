@@ -82,8 +82,12 @@ impl<T> Stack<T> {
         T: Drop,
         ensures { self.new ≡ [] }
     {
-        self.items.clear();
-        self.items.shrink_to(KEPT);
+        if self.items.len() > 0 {
+            self.items.clear();
+        }
+        if self.items.capacity() > KEPT {
+            self.items.shrink_to(KEPT);
+        }
     }
 
     /// The items, the top first.

@@ -1,6 +1,6 @@
 //! Runs, from their start to their end.
 
-ghost use Rattle.std.specs.Prelude.{◌≡◌, []};
+ghost use Rattle.std.specs.Prelude.{◌≡◌, [], IfOk};
 ghost use Rattle.values.specs.declared.value.Value as held;
 ghost use Rattle.values.specs.declared.ticks.Kind as kinds;
 ghost use Rattle.meaning.specs.Correct.{call_start, function_start, top_start};
@@ -15,8 +15,8 @@ use crate::stepping::step;
 use call_stack::{
     Active, Arguments, Called, Linked, Place, Running, call, call_function, frame_at_entry, unset,
 };
-use frames::{Callee, Frame, FunctionId, Operate, Refusal, Stack, Step, Stop, refused};
-use std::alloc::Global;
+use frames::{Callee, Frame, FunctionId, Operate, Refusal, Slots, Stack, Step, Stop, refused};
+use std::alloc::{AllocError, Global};
 use values::{Kind, Value};
 
 /// What is run.
@@ -38,7 +38,11 @@ pub(crate) enum Begun<'a, T> {
 }
 
 /// A function runs, which has no caller.
-fn alone<'a, T: Drop>(alloc: Global, top: Frame<'a, T>, active: Active<'a, T>) -> Running<'a, T>
+fn alone<'a, T: Drop>(
+    alloc: Global,
+    top: Box<Frame<'a, T>>,
+    active: Active<'a, T>,
+) -> Running<'a, T>
     ensures { result ≡ record { top = top.entry; below = []; active = active.entry } }
 {
     Running {
@@ -100,6 +104,22 @@ fn begin_function<'a, W: Operate<'a>>(
     }
 }
 
+/// A frame with these slots, in which nothing else is.
+fn frame_with<'a, T: Drop>(alloc: Global, slots: Slots<'a>) -> Result<Box<Frame<'a, T>>, AllocError>
+    ensures { IfOk result (λ frame. frame.value.slots ≡ slots.entry) }
+{
+    let frame = Frame {
+        function: FunctionId { file: 0, number: 0 },
+        place: 0,
+        slots,
+        values: Stack::new(alloc),
+        callees: Stack::new(alloc),
+        walk: None,
+        outer: Stack::new(alloc),
+    };
+    Ok(Box::new(alloc, frame)?)
+}
+
 /// The top level of a file begins: no function is active, nothing is set in its slots, and it takes no tick.
 fn begin_top<'a, W: Operate<'a>>(
     world: &W,
@@ -115,7 +135,8 @@ fn begin_top<'a, W: Operate<'a>>(
         return Err(refused(world, Refusal::WrongType, file, 0));
     };
     let slots = unset(world.alloc(), code.slots())?;
-    let top = frame_at_entry(Frame::new(world.alloc()), function, slots);
+    let frame = frame_with(world.alloc(), slots)?;
+    let top = frame_at_entry(frame, function);
     let active = Active::new(world.alloc());
     Ok(Begun::Running(alone(world.alloc(), top, active)))
 }

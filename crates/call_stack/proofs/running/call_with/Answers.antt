@@ -2,9 +2,9 @@ use Rattle.std.proofs.Common.{◌≡◌, ◌∙◌, suc, ◌+◌, ◌∷◌, ap,
 use Rattle.std.specs.Prelude.{map}
 use Rattle.meaning.specs.Machine.{start}
 use Rattle.frames.specs.Answers.{callee_seen}
-use Rattle.frames.specs.Seen.{here_of, seen}
+use Rattle.frames.specs.Seen.{here_of}
 use Rattle.call_stack.specs.ActiveView.{ids_seen}
-use Rattle.call_stack.specs.CallView.{arguments_seen}
+use Rattle.call_stack.specs.CallView.{arguments_seen, frame_seen}
 use Rattle.call_stack.specs.LinkedView.{codes_of}
 use Rattle.call_stack.specs.RunView.{Calling, asked}
 use Rattle.call_stack.proofs.Moving.{moves_same}
@@ -15,23 +15,23 @@ returns-in_default g c =
     let rest = g.W.Operate.rest in
     let ops = g.W.Operate.operations c.args.world.now in
     let r = c.args.r.now in
-    let here = here_of r.top c.args.line (ids_seen r.active) in
-    let f = seen rest r.top in
+    let here = here_of r.top.value c.args.line (ids_seen r.active) in
+    let f = frame_seen rest r.top in
     let go : Calling g.row.W-State.Denot = λ x a os gs.
-    start ops (codes_of c.args.linked.now) here x a (record f { pc = suc r.top.place; values = os; callees = gs } ∷ map (seen rest) r.below) c.args.state.now in
-    c.in_ok-asked.ensures go ∙ ap (λ o. asked o c.take_call.new.values c.take_call.new.callees go) c.in_default.is
+    start ops (codes_of c.args.linked.now) here x a (record f { pc = suc r.top.value.place; values = os; callees = gs } ∷ map (frame_seen rest) r.below) c.args.state.now in
+    (rw c.deref_mut-top.ensures.value at (c.in_ok-asked.ensures go)) ∙ ap (λ o. asked o c.take_call.new.values c.take_call.new.callees go) c.in_default.is
 
 pub returns : goal.returns
 returns g c =
     let rest = g.W.Operate.rest in
     let ops = g.W.Operate.operations c.args.world.now in
     let r = c.args.r.now in
-    let here = here_of r.top c.args.line (ids_seen r.active) in
-    let f = seen rest r.top in
+    let here = here_of r.top.value c.args.line (ids_seen r.active) in
+    let f = frame_seen rest r.top in
     let go : Calling g.row.W-State.Denot = λ x a os gs.
-    start ops (codes_of c.args.linked.now) here x a (record f { pc = suc r.top.place; values = os; callees = gs } ∷ map (seen rest) r.below) c.args.state.now in
-    let k : suc r.top.place ≡ r.top.place + 1 = omega arith in
+    start ops (codes_of c.args.linked.now) here x a (record f { pc = suc r.top.value.place; values = os; callees = gs } ∷ map (frame_seen rest) r.below) c.args.state.now in
+    let k : suc r.top.value.place ≡ r.top.value.place + 1 = omega arith in
     moves_same rest _ _ c.call_asked.result c.call_asked.new.r c.call_asked.new.state
-    (c.in_ok-asked.ensures go ∙ (ap (λ o. asked o c.take_call.new.values c.take_call.new.callees go) c.in-Some.is
+    ((rw c.deref_mut-top.ensures.value at (c.in_ok-asked.ensures go)) ∙ (ap (λ o. asked o c.take_call.new.values c.take_call.new.callees go) c.in-Some.is
     ∙ ap (λ n. start ops (codes_of c.args.linked.now) here (callee_seen c.in-Some.asked.callee) (arguments_seen c.in-Some.asked.arguments)
-    (record f { pc = n; values = c.take_call.new.values; callees = map callee_seen c.take_call.new.callees } ∷ map (seen rest) r.below) c.args.state.now) k)) c.call_asked.ensures
+    (record f { pc = n; values = c.take_call.new.values; callees = map callee_seen c.take_call.new.callees } ∷ map (frame_seen rest) r.below) c.args.state.now) k)) (rw c.deref_mut-top.ensures.value at c.call_asked.ensures)

@@ -1,8 +1,9 @@
 use Rattle.std.proofs.Common.{◌∙◌, ap, Ok}
 use Rattle.std.specs.Prelude.{map}
 use Rattle.meaning.specs.Machine.{more, over, stuck}
-use Rattle.frames.specs.Seen.{seen, shown}
+use Rattle.frames.specs.Seen.{shown}
 use Rattle.call_stack.specs.ActiveView.{ids_seen}
+use Rattle.call_stack.specs.CallView.{frame_seen}
 use Rattle.call_stack.specs.LinkedView.{codes_of}
 use Rattle.call_stack.specs.RunView.{config_of}
 use Rattle.machine.specs.StartView.{start_of, started}
@@ -26,7 +27,7 @@ loop-value-smaller g c =
     let r = c.step.new.r in
     falls ops codes (start_of ops codes c.args.start c.args.state.now) (counted ops codes c.args.linked.now.compiled c.args.start c.args.state.now).0
     (config_of rest c.loop-value.running c.loop-value.state) (config_of rest r c.step.new.state)
-    (c.in-Ok-More.ensures ∙ ap (λ q. shown rest (map (seen rest) r.below) (ids_seen r.active) q r.top c.step.new.state) c.in-Ok-More.field-0-is)
+    (c.in-Ok-More.ensures ∙ ap (λ q. shown rest (map (frame_seen rest) r.below) (ids_seen r.active) q r.top.value c.step.new.state) c.in-Ok-More.field-0-is)
     c.loop-value.invariant
 
 pub loop-value-preserved : goal.loop-value-preserved
@@ -37,7 +38,7 @@ loop-value-preserved g c =
     let r = c.step.new.r in
     came_on ops codes (start_of ops codes c.args.start c.args.state.now) (counted ops codes c.args.linked.now.compiled c.args.start c.args.state.now).0
     (config_of rest c.loop-value.running c.loop-value.state) (more (config_of rest r c.step.new.state))
-    (c.in-Ok-More.ensures ∙ ap (λ q. shown rest (map (seen rest) r.below) (ids_seen r.active) q r.top c.step.new.state) c.in-Ok-More.field-0-is)
+    (c.in-Ok-More.ensures ∙ ap (λ q. shown rest (map (frame_seen rest) r.below) (ids_seen r.active) q r.top.value c.step.new.state) c.in-Ok-More.field-0-is)
     c.loop-value.invariant
 
 pub returns-in-Ok-Over-step : goal.returns-in-Ok-Over-step
@@ -50,7 +51,7 @@ returns-in-Ok-Over-step g c =
     let most = (counted ops codes c.args.linked.now.compiled c.args.start c.args.state.now).0 in
     came_over ops codes x most (Ok (c.in-Ok-Over-step.value, c.step.new.state))
     (came_on ops codes x most (config_of rest c.loop-value.running c.loop-value.state) (over (Ok (c.in-Ok-Over-step.value, c.step.new.state)))
-    (c.in-Ok-Over-step.ensures ∙ ap (λ q. shown rest (map (seen rest) r.below) (ids_seen r.active) q r.top c.step.new.state) c.in-Ok-Over-step.field-0-is)
+    (c.in-Ok-Over-step.ensures ∙ ap (λ q. shown rest (map (frame_seen rest) r.below) (ids_seen r.active) q r.top.value c.step.new.state) c.in-Ok-Over-step.field-0-is)
     c.loop-value.invariant)
 
 pub unreachable-requires : goal.unreachable-requires
@@ -63,7 +64,7 @@ unreachable-requires g c =
     let most = (counted ops codes c.args.linked.now.compiled c.args.start c.args.state.now).0 in
     never_stuck ops codes x most
     (came_on ops codes x most (config_of rest c.loop-value.running c.loop-value.state) stuck
-    (c.in-Ok-Stuck.ensures ∙ ap (λ q. shown rest (map (seen rest) r.below) (ids_seen r.active) q r.top c.step.new.state) c.in-Ok-Stuck.field-0-is)
+    (c.in-Ok-Stuck.ensures ∙ ap (λ q. shown rest (map (frame_seen rest) r.below) (ids_seen r.active) q r.top.value c.step.new.state) c.in-Ok-Stuck.field-0-is)
     c.loop-value.invariant)
 
 pub returns-in-Err-step : goal.returns-in-Err-step
