@@ -1,3 +1,4 @@
 mod Small
 mod FieldRows
 mod ActionRows
+mod Declared

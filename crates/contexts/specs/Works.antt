@@ -9,6 +9,11 @@ same_file f g = bytes_eq f.path g.path && bytes_eq f.owner g.owner
 abbrev pub is_among : FileRef → List FileRef → Bool
 is_among f fs = list_any (same_file f) fs
 
+-- the many, or, where there are none of them, the few
+abbrev pub many_or_few : List FileRef → List FileRef → List FileRef
+many_or_few [] few = few
+many_or_few (f ∷ fs) few = f ∷ fs
+
 -- some File stands there twice: it is among those before it
 abbrev pub repeats_after : List FileRef → List FileRef → Bool
 repeats_after seen [] = false

@@ -19,7 +19,7 @@ use Rattle.workspace.specs.Labels.{LabelParts, is_label, label_text}
 use Rattle.graph.specs.Same.{label_at, same_label, no_label, same_label-decides}
 use Rattle.actions.specs.Ascending.{AreAscending}
 use Rattle.actions.proofs.Ascending.{sorted_ascends}
-use Rattle.label_order.specs.Ordered.{Entry, entry_seen, entries, AreInOrder}
+use Rattle.label_order.specs.Ordered.{Entry, entry_seen, entries, Keyed, keyed_seen, IsKeyed, AreInOrder}
 use Rattle.outcomes.proofs.Owners.{texts_apart}
 
 -- ---- the entries of all nodes
@@ -55,16 +55,16 @@ map_behind f [] x = refl
 map_behind f (y ∷ xs) x = ap (λ l. f y ∷ l) (map_behind f xs x)
 
 -- another entry behind those of the nodes before it
-pub one_more : (labels : List LabelParts) (old new : List (Bor LabelParts × ℕ)) (x : Bor LabelParts × ℕ) (n : ℕ) → new ≡ old ++ x ∷ [] → x.1 ≡ n → x.0.now ≡ label_at labels n → is_label x.0.now ≡ true
-    → (map entry_seen old ≡ map (λ m. (label_at labels m, m)) (range_with_len 0 n)) × All (λ e. is_label e.0.now ≡ true) old
-    → (map entry_seen new ≡ map (λ m. (label_at labels m, m)) (range_with_len 0 (n + 1))) × All (λ e. is_label e.0.now ≡ true) new
-one_more labels old new x n grown at is legal before =
-    let seen : entry_seen x ≡ (label_at labels n, n) = λ i. (is i, at i) in (
-      ap (map entry_seen) grown ∙ map_behind entry_seen old x
-          ∙ ap (λ l. l ++ entry_seen x ∷ []) before.0
+pub one_more : (labels : List LabelParts) (old new : List Keyed) (x : Keyed) (n : ℕ) → new ≡ old ++ x ∷ [] → x.1.1 ≡ n → x.1.0.now ≡ label_at labels n → IsKeyed x
+    → (map keyed_seen old ≡ map (λ m. (label_at labels m, m)) (range_with_len 0 n)) × All IsKeyed old
+    → (map keyed_seen new ≡ map (λ m. (label_at labels m, m)) (range_with_len 0 (n + 1))) × All IsKeyed new
+one_more labels old new x n grown at is keyed before =
+    let seen : keyed_seen x ≡ (label_at labels n, n) = λ i. (is i, at i) in (
+      ap (map keyed_seen) grown ∙ map_behind keyed_seen old x
+          ∙ ap (λ l. l ++ keyed_seen x ∷ []) before.0
           ∙ ap (λ e. map (λ m. (label_at labels m, m)) (range_with_len 0 n) ++ e ∷ []) seen
           ∙ sym (map-range_with_len_more (λ m. (label_at labels m, m)) 0 n n (omega arith)),
-      subst (All (λ (e : Bor LabelParts × ℕ). is_label e.0.now ≡ true)) (sym grown) (All-push (λ (e : Bor LabelParts × ℕ). is_label e.0.now ≡ true) old x before.1 legal),
+      subst (All IsKeyed) (sym grown) (All-push IsKeyed old x before.1 keyed),
     )
 
 -- ---- no two texts are the same
@@ -90,29 +90,39 @@ texts_distinct (x ∷ xs) ps d = (each_differs x xs ps.0 ps.1 (IsDistinct-head s
 
 -- ---- sorted
 
--- by text, and then by number
-abbrev pub entry_cmp : Bor LabelParts × ℕ → Bor LabelParts × ℕ → Ordering
-entry_cmp x y = ordering_then (slice_cmp nat_cmp (label_text x.0.now) (label_text y.0.now)) (nat_cmp x.1 y.1)
+-- by text, and then as entries
+abbrev pub keyed_cmp : Keyed → Keyed → Ordering
+keyed_cmp x y = ordering_then (slice_cmp nat_cmp x.0.now y.0.now)
+    (ordering_then (slice_cmp nat_cmp (label_text x.1.0.now) (label_text y.1.0.now)) (nat_cmp x.1.1 y.1.1))
 
 first_decides : (a b : Ordering) → is_lt (ordering_then a b) ≡ false → is_lt a ≡ false
 first_decides Less b h = h
 first_decides Equal b h = refl
 first_decides Greater b h = refl
 
-seen_text : Bor LabelParts × ℕ → List ℕ
+abbrev pub seen_text : Bor LabelParts × ℕ → List ℕ
 seen_text e = label_text e.0.now
 
-texts_sorted : (es : List (Bor LabelParts × ℕ)) → IsSorted entry_cmp es → IsSorted (slice_cmp nat_cmp) (map (λ (e : Bor LabelParts × ℕ). label_text e.0.now) es)
-texts_sorted [] up k d low high = absurd (omega (arith, high))
-texts_sorted (e ∷ es) up k d low high =
-    let f : Bor LabelParts × ℕ → List ℕ = λ (x : Bor LabelParts × ℕ). label_text x.0.now in
-    let size = length-map (e ∷ es) f in
+abbrev pub key_text : Keyed → List ℕ
+key_text k = k.0.now
+
+abbrev pub entry_of : Keyed → Bor LabelParts × ℕ
+entry_of k = k.1
+
+keys_sorted : (ks : List Keyed) → IsSorted keyed_cmp ks → IsSorted (slice_cmp nat_cmp) (map key_text ks)
+keys_sorted [] up k d low high = absurd (omega (arith, high))
+keys_sorted (e ∷ es) up k d low high =
+    let size = length-map (e ∷ es) key_text in
     let x = get_or (e ∷ es) (k + 1) e in
     let y = get_or (e ∷ es) k e in
-    let p = get_or-map f (e ∷ es) (k + 1) e d (omega (arith, high, size)) in
-    let q = get_or-map f (e ∷ es) k e d (omega (arith, high, size)) in
-    ap (λ t. is_lt (slice_cmp nat_cmp t (get_or (map f (e ∷ es)) k d))) p ∙ ap (λ t. is_lt (slice_cmp nat_cmp (f x) t)) q
-    ∙ first_decides (slice_cmp nat_cmp (f x) (f y)) (nat_cmp x.1 y.1) (up k e low (omega (arith, high, size)))
+    let p = get_or-map key_text (e ∷ es) (k + 1) e d (omega (arith, high, size)) in
+    let q = get_or-map key_text (e ∷ es) k e d (omega (arith, high, size)) in
+    ap (λ t. is_lt (slice_cmp nat_cmp t (get_or (map key_text (e ∷ es)) k d))) p ∙ ap (λ t. is_lt (slice_cmp nat_cmp (key_text x) t)) q
+    ∙ first_decides (slice_cmp nat_cmp (key_text x) (key_text y)) (ordering_then (slice_cmp nat_cmp (label_text x.1.0.now) (label_text y.1.0.now)) (nat_cmp x.1.1 y.1.1)) (up k e low (omega (arith, high, size)))
+
+own_texts : (ks : List Keyed) → AllByRecursion IsKeyed ks → map key_text ks ≡ map seen_text (map entry_of ks)
+own_texts [] h = refl
+own_texts (k ∷ ks) h = λ i. h.0.1 i ∷ own_texts ks h.1 i
 
 all_back : {A B : Type 0} (f : A → B) (P : B → Type 0) (xs : List A) → All P (map f xs) → All (λ x. P (f x)) xs
 all_back f P xs h k d low = let size = length-map xs f in subst P (get_or-map f xs k d (f d) low) (h k (f d) (omega (arith, low, size)))
@@ -150,11 +160,11 @@ module _ (labels : List LabelParts) (before after : List (Bor LabelParts × ℕ)
   texts_are : map (λ (e : Entry). label_text e.0) (map entry_seen before) ≡ map label_text labels
   texts_are = sym (map_twice (λ (e : Entry). e.0) label_text (map entry_seen before)) ∙ ap (map label_text) firsts_are
 
-  texts_ascend : IsSorted entry_cmp after → IsDistinct same_label labels → AreAscending (map (λ (e : Entry). label_text e.0) (map entry_seen after))
+  texts_ascend : IsSorted (slice_cmp nat_cmp) (map seen_text after) → IsDistinct same_label labels → AreAscending (map (λ (e : Entry). label_text e.0) (map entry_seen after))
   texts_ascend up apart =
       let ts = map (λ (e : Entry). label_text e.0) (map entry_seen after) in
       sorted_ascends ts
-      (subst (IsSorted (slice_cmp nat_cmp)) (sym (map_twice entry_seen (λ (e : Entry). label_text e.0) after)) (texts_sorted after up))
+      (subst (IsSorted (slice_cmp nat_cmp)) (sym (map_twice entry_seen (λ (e : Entry). label_text e.0) after)) up)
       (IsDistinct-IsPermutation bytes_eq nat_list_eq_equiv.symm (map label_text labels) ts
       (subst (λ l. IsPermutation l ts) texts_are (IsPermutation-map (λ (e : Entry). label_text e.0) (map entry_seen before) (map entry_seen after) shuffled))
       (texts_distinct labels labels_legal apart))
@@ -171,5 +181,32 @@ module _ (labels : List LabelParts) (before after : List (Bor LabelParts × ℕ)
       (IsPermutation-map (λ (e : Entry). e.0) (map entry_seen before) (map entry_seen after) shuffled)
       (subst (λ ls. Contains ls l) (sym firsts_are) h)
 
-  pub in_order : IsSorted entry_cmp after → IsDistinct same_label labels → AreInOrder labels (map entry_seen after)
+  pub in_order : IsSorted (slice_cmp nat_cmp) (map seen_text after) → IsDistinct same_label labels → AreInOrder labels (map entry_seen after)
   in_order up apart = record { all = λ l. (there l, back l); ordered = texts_ascend up apart; numbered = are_numbered }
+
+-- ---- what is sorted are the texts with the entries
+
+module _ (labels : List LabelParts) (before after : List Keyed) (es : List (Bor LabelParts × ℕ)) (all : map keyed_seen before ≡ entries labels) (keyed : All IsKeyed before)
+    (moved : IsPermutation before after) (made : es ≡ map entry_of after) where
+  all_entries : map entry_seen (map entry_of before) ≡ entries labels
+  all_entries = map_twice entry_of entry_seen before ∙ all
+
+  all_legal : All (λ e. is_label e.0.now ≡ true) (map entry_of before)
+  all_legal = All-map (λ e. is_label e.0.now ≡ true) entry_of before (λ k d low. let at = keyed k d low in at.0)
+
+  moved_entries : IsPermutation (map entry_of before) es
+  moved_entries = subst (IsPermutation (map entry_of before)) (sym made) (IsPermutation-map entry_of before after moved)
+
+  keyed_after : All IsKeyed after
+  keyed_after k d low =
+      All-contains IsKeyed before (get_or after k d) keyed
+      (Contains-permutation after before (get_or after k d) (IsPermutation-sym before after moved) (Contains-get_or after k d low))
+
+  pub keyed_within : All (λ e. e.1 < length labels) es
+  keyed_within = within labels (map entry_of before) es all_entries all_legal moved_entries
+
+  pub keyed_in_order : IsSorted keyed_cmp after → IsDistinct same_label labels → AreInOrder labels (map entry_seen es)
+  keyed_in_order up apart =
+      in_order labels (map entry_of before) es all_entries all_legal moved_entries
+      (subst (IsSorted (slice_cmp nat_cmp)) (own_texts after (recursion_from_All IsKeyed after keyed_after) ∙ ap (map seen_text) (sym made)) (keys_sorted after up))
+      apart

@@ -1,9 +1,9 @@
 -- The labels of a graph's nodes, in the order of their texts (this project's own).
-use Rattle.std.specs.Prelude.{◌≡◌, ◌↔◌, ℕ, ◌<◌, List, length, map, Contains, All}
+use Rattle.std.specs.Prelude.{◌≡◌, ◌↔◌, ℕ, ◌<◌, true, List, length, map, Contains, All}
 use Rattle.std.specs.List.{range_with_len}
 use Rattle.std.specs.Borrow.{Bor}
 use Rattle.actions.specs.Ascending.{AreAscending}
-use Rattle.workspace.specs.Labels.{LabelParts, label_text}
+use Rattle.workspace.specs.Labels.{LabelParts, is_label, label_text}
 use Rattle.graph.specs.Same.{label_at}
 
 -- a label, and the number of its node
@@ -12,6 +12,17 @@ Entry = LabelParts × ℕ
 
 abbrev pub entry_seen : Bor LabelParts × ℕ → Entry
 entry_seen e = (e.0.now, e.1)
+
+-- a text, and the label that has it with its number
+abbrev pub Keyed : Type 0
+Keyed = Bor (List ℕ) × (Bor LabelParts × ℕ)
+
+abbrev pub keyed_seen : Keyed → Entry
+keyed_seen k = entry_seen k.1
+
+-- the label is legal, and the text is the label's
+abbrev pub IsKeyed : Keyed → Type 0
+IsKeyed k = (is_label k.1.0.now ≡ true) × (k.0.now ≡ label_text k.1.0.now)
 
 -- those of all nodes, by number
 abbrev pub entries : List LabelParts → List Entry

@@ -4,7 +4,7 @@ ghost use Rattle.std.specs.List.{All};
 ghost use Rattle.workspace.specs.Labels.{is_label};
 ghost use Rattle.graph.specs.Same.{label_at, same_label};
 ghost use Rattle.std.specs.List.{IsDistinct};
-ghost use Rattle.label_order.specs.Ordered.{entry_seen, entries, AreInOrder};
+ghost use Rattle.label_order.specs.Ordered.{entry_seen, entries, keyed_seen, IsKeyed, AreInOrder};
 
 use edges::NodeId;
 use graph::Graph;
@@ -25,14 +25,29 @@ fn label_of(graph: &Graph, n: usize) -> &Label
     label
 }
 
-/// All labels, with the numbers of their nodes, in the order of numbers.
-fn numbered(alloc: Global, graph: &Graph) -> Result<Vec<Entry<'_>>, AllocError>
-    ensures entries { IfOk result (λ v. map entry_seen v.items ≡ entries graph.now.labels) }
-    ensures legal { IfOk result (λ v. All (λ e. is_label e.0.now ≡ true) v.items) }
+/// The text of a label, by which it is compared where the text lies, and its entry.
+type Keyed<'g> = (&'g str, Entry<'g>);
+
+/// All labels by their texts, with the numbers of their nodes, in the order of numbers.
+fn numbered(alloc: Global, graph: &Graph) -> Result<Vec<Keyed<'_>>, AllocError>
+    ensures entries { IfOk result (λ v. map keyed_seen v.items ≡ entries graph.now.labels) }
+    ensures keyed { IfOk result (λ v. All IsKeyed v.items) }
 {
-    let mut all: Vec<Entry<'_>> = Vec::with_capacity(alloc, graph.nodes())?;
+    let mut all: Vec<Keyed<'_>> = Vec::with_capacity(alloc, graph.nodes())?;
     for n in 0..graph.nodes() {
-        all.push((label_of(graph, n), n))?;
+        let label = label_of(graph, n);
+        all.push((label.text(), (label, n)))?;
+    }
+    Ok(all)
+}
+
+/// The entries of these, in their order.
+fn entries_of<'g>(alloc: Global, keyed: &[Keyed<'g>]) -> Result<Vec<Entry<'g>>, AllocError>
+    ensures { IfOk result (λ v. v.items ≡ map (λ k. k.1) keyed.now) }
+{
+    let mut all: Vec<Entry<'g>> = Vec::with_capacity(alloc, keyed.len())?;
+    for one in keyed {
+        all.push(one.1)?;
     }
     Ok(all)
 }
@@ -47,7 +62,8 @@ pub fn by_label(alloc: Global, graph: &Graph) -> Result<Vec<Entry<'_>>, AllocErr
     ensures order { IfOk result (λ v. IsDistinct same_label graph.now.labels
         → AreInOrder graph.now.labels (map entry_seen v.items)) }
 {
-    let mut all = numbered(alloc, graph)?;
-    all.sort_unstable();
-    Ok(all)
+    let mut keyed = numbered(alloc, graph)?;
+    keyed.sort_unstable();
+    let entries = entries_of(alloc, &keyed)?;
+    Ok(entries)
 }

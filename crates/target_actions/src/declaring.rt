@@ -79,5 +79,10 @@ fn path_below(alloc: Global, package: &str, name: &Text) -> Result<Text, AllocEr
     if package.is_empty() {
         return name.share();
     }
-    Text::from_string(format!(in alloc; "{package}/{}", name.as_str())?)
+    let length = package.len().saturating_add(name.len()).saturating_add(1);
+    let mut path = String::with_capacity(alloc, length)?;
+    path.push_str(package)?;
+    path.push('/')?;
+    path.push_str(name.as_str())?;
+    Text::from_string(path)
 }

@@ -1,12 +1,13 @@
-use Rattle.label_order.proofs.Ordered.{in_order, within}
+use Rattle.std.proofs.Common.{◌∙◌, ap, map}
+use Rattle.label_order.proofs.Ordered.{entry_of, keyed_in_order, keyed_within}
 use Rattle.label_order.proofs.order.by_label.Goals as goal
 
 pub returns-clause-numbers : goal.returns-clause-numbers
 returns-clause-numbers c =
-    within c.args.graph.now.labels c.in_ok-all.all.items c.sort_unstable.new.self.items c.in_ok-all.ensures.entries c.in_ok-all.ensures.legal
-    c.sort_unstable.ensures.permutation
+    keyed_within c.args.graph.now.labels c.in_ok-keyed.keyed.items c.sort_unstable.new.self.items c.in_ok-entries.entries.items c.in_ok-keyed.ensures.entries c.in_ok-keyed.ensures.keyed
+    c.sort_unstable.ensures.permutation (c.in_ok-entries.ensures ∙ ap (map entry_of) c.deref.ensures.value)
 
 pub returns-clause-order : goal.returns-clause-order
 returns-clause-order c apart =
-    in_order c.args.graph.now.labels c.in_ok-all.all.items c.sort_unstable.new.self.items c.in_ok-all.ensures.entries c.in_ok-all.ensures.legal
-    c.sort_unstable.ensures.permutation c.sort_unstable.ensures.sorted apart
+    keyed_in_order c.args.graph.now.labels c.in_ok-keyed.keyed.items c.sort_unstable.new.self.items c.in_ok-entries.entries.items c.in_ok-keyed.ensures.entries c.in_ok-keyed.ensures.keyed
+    c.sort_unstable.ensures.permutation (c.in_ok-entries.ensures ∙ ap (map entry_of) c.deref.ensures.value) c.sort_unstable.ensures.sorted apart

@@ -4,5 +4,5 @@ use Rattle.label_order.proofs.order.numbered.Goals as goal
 
 pub loop-n-preserved : goal.loop-n-preserved
 loop-n-preserved c =
-    one_more c.args.graph.now.labels c.loop-n.all.items c.push.new.self.items (c.label_of.result, c.loop-n.n) c.loop-n.n c.in_ok-push.ensures.items refl
-    c.label_of.ensures.value c.label_of.ensures.legal c.loop-n.invariant
+    one_more c.args.graph.now.labels c.loop-n.all.items c.push.new.self.items (c.text.result, (c.label_of-label.result, c.loop-n.n)) c.loop-n.n c.in_ok-push.ensures.items refl
+    c.label_of-label.ensures.value (c.label_of-label.ensures.legal, c.text.ensures) c.loop-n.invariant
