@@ -231,9 +231,9 @@ pub fn report_on<R: Threads + Wait + Sync, G: Gate>(
 
 /// The report on labels of a workspace, by a team of workers at any shelf.
 ///
-/// `rt` is the permission to start threads and to wait. The labels are analysed by so many workers in threads of their own,
-/// which have ended when this returns; one alone analyses them in the thread that calls. What the report says depends on none of
-/// them, nor on the shelf. The gate is called round each label, by the worker that analyses it. Before them files are read and
+/// `rt` is the permission to start threads and to wait. The labels are analysed by so many workers, one in the thread that
+/// calls and the others in threads of their own, which have ended when this returns. What the report says depends on none of them,
+/// nor on the shelf. The gate is called round each label, by the worker that analyses it. Before them files are read and
 /// `BUILD` files evaluated by as many threads, and afterwards the lines of many labels are written by as many; modules are
 /// evaluated by the thread that calls.
 ///

@@ -51,7 +51,7 @@ impl<'r, R: Wait> Shelving<LockShelf<'r, R>> for OneQueue<'r, R> {
     }
 }
 
-/// Workers that analyse labels in threads of their own; one alone in the thread that calls.
+/// Workers that analyse labels: one in the thread that calls, the others in threads of their own.
 #[derive(Clone, Copy)]
 pub struct Team<'a, F, G> {
     /// How many, from 1 to 64.

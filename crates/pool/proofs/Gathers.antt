@@ -44,6 +44,14 @@ module _ {V : Type 0} where
       let P : PassView V → Type 0 = λ q. q.journal.set ≡ false in
       let here : bit p.journal.set ≡ 0 = unset_bit p.journal.set (All-head P p ps none) in let rest = sets_none ps (All-tail P p ps none) in omega arith
 
+  each_in : (Q : Journal → Type 0) (before : List (PassView V)) (p : PassView V) (rest : List (PassView V)) → Each Q (map journal_of (before ++ p ∷ rest)) → Q p.journal
+  each_in Q [] p rest e = e.0
+  each_in Q (q ∷ before) p rest e = each_in Q before p rest e.1
+
+  -- what holds of each journal holds of one that stands among them
+  each_at : (Q : Journal → Type 0) (ps before : List (PassView V)) (p : PassView V) (rest : List (PassView V)) → ps ≡ before ++ p ∷ rest → Each Q (map journal_of ps) → Q p.journal
+  each_at Q ps before p rest split e = each_in Q before p rest (subst (λ (l : List (PassView V)). Each Q (map journal_of l)) split e)
+
   -- one of the passes finished the node
   finisher : (Q : PassView V → Type 0) (n : ℕ) (ps : List (PassView V)) → All Q ps → 0 < finishes n (map journal_of ps) → (p : PassView V) × Q p × (0 < times n p.journal.finished)
   finisher Q n [] all is = absurd (omega arith)
@@ -63,13 +71,16 @@ module _ {V : Type 0} where
     fine_is_quiet : (p : PassView V) → IsFine step fits b p → IsQuiet step fits b p
     fine_is_quiet p fine = record { sound = fine.sound; unset = fine.ended.1 }
 
-    pub gathering : (ps : List (PassView V)) (own : PassView V) → All (IsFine step fits b) ps → 0 < length ps → length ps + 1 ≡ b.passes → IsNew b own → IsGathering step fits b (ps ++ own ∷ [])
-    gathering [] own fine some count new = absurd (omega arith)
-    gathering (p ∷ ps) own fine some count new =
+    -- the passes of workers that were refused nothing, of which one comes behind run's own
+    pub gathering : (ps : List (PassView V)) (own p : PassView V) → All (IsFine step fits b) ps → IsFine step fits b p → length ps + 2 ≡ b.passes → IsNew b own →
+        IsGathering step fits b ((ps ++ own ∷ []) ++ p ∷ [])
+    gathering ps own p all fine count new =
+        let one = length-append ps (own ∷ []) in let two = length-append (ps ++ own ∷ []) (p ∷ []) in
+        let quiet : All (IsQuiet step fits b) ps = All-weaker (IsFine step fits b) (IsQuiet step fits b) fine_is_quiet ps all in
         record {
-          count = length-append (p ∷ ps) (own ∷ []) ∙ count;
-          quiet = All-push (IsQuiet step fits b) (p ∷ ps) own (All-weaker (IsFine step fits b) (IsQuiet step fits b) fine_is_quiet (p ∷ ps) fine) (new_is_quiet own new);
-          first = (p, ps ++ own ∷ [], refl, (All-head (IsFine step fits b) p ps fine).ended);
+          count = omega (arith, one, two, count);
+          quiet = All-push (IsQuiet step fits b) (ps ++ own ∷ []) p (All-push (IsQuiet step fits b) ps own quiet (new_is_quiet own new)) (fine_is_quiet p fine);
+          worker = (ps ++ own ∷ [], p, [], refl, fine.ended);
         }
 
     module _ (words : List ℕ) (ps : List (PassView V)) (c : ClosedView V) (end : IsEnd b.plan words (map journal_of ps) c.left c.halted) (kept : All (λ p. Keeps (knows p) (told c)) ps) (g : IsGathering step fits b ps) where
@@ -78,11 +89,10 @@ module _ {V : Type 0} where
 
       none_left : (n : ℕ) → n < length b.plan → finishes n (map journal_of ps) ≡ 1
       none_left =
-          let js : List Journal = journal_of g.first.0 ∷ map journal_of g.first.1 in
-          let split : map journal_of ps ≡ js = ap (map journal_of) g.first.2 in
-          let whole = subst (λ (l : List Journal). Each (λ j. j.least ≡ Some 0 → (n : ℕ) → n < length b.plan → finishes n (map journal_of ps) ≡ 1) l) split end.whole in
-          let saw = subst (λ (l : List Journal). Each (λ j. j.saw ≡ true → 0 < sets (map journal_of ps)) l) split end.saw in
-          ⊎_elim (λ (done : g.first.0.journal.least ≡ Some 0). whole.0 done) (λ (s : g.first.0.journal.saw ≡ true). let z = saw.0 s in let e = none_set in absurd (omega arith)) g.first.3.0
+          let w = g.worker in
+          let whole = each_at (λ j. j.least ≡ Some 0 → (n : ℕ) → n < length b.plan → finishes n (map journal_of ps) ≡ 1) ps w.0 w.1 w.2 w.3 end.whole in
+          let saw = each_at (λ j. j.saw ≡ true → 0 < sets (map journal_of ps)) ps w.0 w.1 w.2 w.3 end.saw in
+          ⊎_elim (λ (done : w.1.journal.least ≡ Some 0). whole done) (λ (s : w.1.journal.saw ≡ true). let z = saw s in let e = none_set in absurd (omega arith)) w.4.0
 
       pub settled : (n : ℕ) → n < length b.plan → Settled step fits b.plan (told c) n
       settled n lt =

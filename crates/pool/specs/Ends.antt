@@ -1,5 +1,5 @@
 -- What a run begins with, and what a worker's end says of its pass.
-use Rattle.std.specs.Prelude.{◌≡◌, ◌⊎◌, ℕ, ◌+◌, ◌<◌, true, false, List, ◌∷◌, length, Some}
+use Rattle.std.specs.Prelude.{◌≡◌, ◌⊎◌, ℕ, ◌+◌, ◌<◌, true, false, List, ◌∷◌, ◌++◌, length, Some}
 use Rattle.std.specs.List.{All}
 use Rattle.board.specs.declared.journal.Journal.{Journal}
 use Rattle.board.specs.Journal.{edge_times}
@@ -58,8 +58,8 @@ module _ {V : Type 0} (step : ℕ → List V → V) (fits : ℕ → List V → T
     pub sound : IsSound step fits b p
     pub unset : p.journal.set ≡ false
 
-  -- all passes of the board, of which none set the halt and the first is that of a worker
+  -- all passes of the board, of which none set the halt and one is that of a worker
   pub record IsGathering (ps : List (PassView V)) : Type 0 where
     pub count : length ps ≡ b.passes
     pub quiet : All IsQuiet ps
-    pub first : (p : PassView V) × (rest : List (PassView V)) × (ps ≡ p ∷ rest) × EndedWell p.journal
+    pub worker : (before : List (PassView V)) × (p : PassView V) × (rest : List (PassView V)) × (ps ≡ before ++ p ∷ rest) × EndedWell p.journal

@@ -2,7 +2,7 @@
 use crossbeam_utils::Backoff;
 use crossbeam_utils::sync::{EventCount, Key};
 use std::sync::Wait;
-use std::sync::atomic::{AtomicU64, Ordering};
+use std::sync::atomic::{AtomicBool, AtomicU64, Ordering};
 use std::thread;
 
 /// Where the workers of a run sleep while there is nothing for them.
@@ -14,6 +14,7 @@ use std::thread;
 pub struct Idle {
     sleepers: EventCount,
     awake: AtomicU64,
+    is_over: AtomicBool,
 }
 
 impl Idle {
@@ -22,6 +23,7 @@ impl Idle {
         Idle {
             sleepers: EventCount::new(),
             awake: AtomicU64::new(workers),
+            is_over: AtomicBool::new(false),
         }
     }
 
@@ -30,9 +32,17 @@ impl Idle {
         self.sleepers.notify_one();
     }
 
-    /// Wakes all workers. Call it after the halt was set, or once no node is left.
-    pub fn wake_all(&self) {
+    /// The run is over: tells so, and wakes all workers. Call it after the halt was set, or once no node is
+    /// left.
+    pub fn call_off(&self) {
+        self.is_over.store(true, Ordering::SeqCst);
         self.sleepers.notify_all();
+    }
+
+    /// Whether the run was called off. So a worker that has nodes need not look at the words of the board that
+    /// all workers change.
+    pub fn is_over(&self) -> bool {
+        self.is_over.load(Ordering::SeqCst)
     }
 
     /// Sleeps until there is something new, unless all other workers sleep.

@@ -1,13 +1,12 @@
 //! Workers that find the outcome of every node of a graph, each node after its dependencies.
 //! Cyclic nodes have their outcome without a worker.
 //!
-//! [`run`] starts up to 64 workers in threads of their own; one alone runs in the thread that calls.
+//! [`run`] has up to 64 workers: one in the thread that calls, the others in threads of their own.
 //! Workers take the numbers of nodes from a [`Shelf`], and do what [`Analyse`] says on each, over a
 //! board that all of them share. Whenever `run` answers `Ok`, each node has the outcome that the
 //! plain recursion along edges gives, whichever worker ran which node and in whatever order.
 #![tactic(auto)]
 
-mod alone;
 mod analyse;
 mod gate;
 mod gathered;

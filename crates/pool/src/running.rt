@@ -3,7 +3,6 @@ ghost use Rattle.std.specs.Prelude.{◌≡◌, ◌+◌, ◌<◌, ◌≤◌, leng
 ghost use Rattle.pool.specs.Gathered.{HasOutcomes};
 ghost use Rattle.pool.specs.Ends.{AreEnds, CanRun, IsGathering};
 
-use crate::alone::alone;
 use crate::analyse::Analyse;
 use crate::gate::Gate;
 use crate::gathered::Gathered;
@@ -27,9 +26,8 @@ pub enum Refused {
     NoThread,
 }
 
-/// The outcome of every node of the graph, by so many workers, from 1 to 64, with a deque each. Several
-/// run in threads of their own. One alone runs in the thread that calls, whose stack should be as
-/// large as theirs: 2 MiB.
+/// The outcome of every node of the graph, by so many workers, from 1 to 64, with a deque each. One of them
+/// runs in the thread that calls, whose stack should be as large as those of the others: 2 MiB.
 ///
 /// Whenever it answers `Ok`, the outcomes are those along edges: whatever the number of workers,
 /// whichever of them ran which node, and whatever the gate does. Cyclic nodes have theirs without a
@@ -127,7 +125,7 @@ fn keep_useful<S: Shelf>(graph: &Edges, ends: &mut Vec<S>)
     ends.truncate(useful_workers(ends.len(), graph.acyclic()));
 }
 
-/// All passes of the board, after workers at these ends have ended. The last pass is run's own.
+/// All passes of the board, after workers at these ends have ended.
 fn by_workers<V, A, S, G, R>(
     rt: &R,
     alloc: Global,
@@ -160,9 +158,6 @@ where
         gate,
         idle: &idle,
     };
-    if ends.len() == 1 {
-        return alone(&site, ends, passes);
-    }
     in_threads(&site, ends, passes)
 }
 

@@ -1,4 +1,4 @@
-//! Workers in threads of their own, one an end, and their passes back from them.
+//! Workers, one an end: one in the thread that calls, the others in threads of their own; and their passes back from them.
 ghost use Rattle.std.specs.Prelude.{◌≡◌, ◌+◌, ◌<◌, ◌≤◌, true, length, MatchBool, IfOk, IfSome, vec_len, vec_capacity};
 ghost use Rattle.std.specs.Bool.{OnTrue};
 ghost use Rattle.std.specs.List.{All};
@@ -113,7 +113,7 @@ where
             Some(handle) => handles.push_reserved(handle),
             None => {
                 site.board.halt(own);
-                site.idle.wake_all();
+                site.idle.call_off();
                 return (handles, false);
             }
         }
@@ -122,7 +122,7 @@ where
 }
 
 /// Whether the worker was refused nothing.
-pub fn ended_well(ending: Ending) -> bool
+fn ended_well(ending: Ending) -> bool
     ensures { (j : Journal) → EndingSays ending j → OnTrue result (EndedWell j) }
 {
     match ending {
@@ -146,9 +146,9 @@ where
     R: Threads,
     requires promises { All (λ h. (h.promise.board.now ≡ board.now)
         × (h.promise.analyse.now ≡ analyse.now)) handles.items }
-    requires room { (vec_len passes ≡ 0) × (vec_len handles < vec_capacity passes) }
+    requires room { (vec_len passes ≡ 0) × (vec_len handles + 1 < vec_capacity passes) }
     ensures count { vec_len result.0 ≡ vec_len handles.entry }
-    ensures room { vec_len result.0 < vec_capacity result.0 }
+    ensures room { vec_len result.0 + 1 < vec_capacity result.0 }
     ensures fine { let a = analyse.entry.now in
         OnTrue result.1 (All (IsFine (A.step a) (A.fits a) board.entry.now) result.0.items) }
 {
@@ -163,7 +163,8 @@ where
     (passes, well)
 }
 
-/// All passes, after a worker for each but the last has ended.
+/// All passes, after a worker at each end has ended. The worker at the last end runs in this thread, and its
+/// pass comes last: what the last pass knows is where a board that is closed gathers the rest.
 ///
 /// `NoMemory` comes where a worker was refused memory or there was none for the passes, `NoThread`
 /// where a thread was refused, or the memory to start it, and none of this was. All workers that
@@ -171,7 +172,7 @@ where
 fn in_scope<'s, E, V, A, S, G, R>(
     scope: &Scope<'s, E>,
     site: &'s Site<'s, V, A, G, R>,
-    ends: Vec<S>,
+    mut ends: Vec<S>,
     mut passes: Vec<Pass<V>>,
 ) -> Result<Vec<Pass<V>>, Refused>
 where
@@ -185,27 +186,29 @@ where
     ensures { let a = site.entry.now.analyse.now in IfOk result
         (λ v. IsGathering (A.step a) (A.fits a) site.entry.now.board.now v.items) }
 {
-    let Some(mut own) = passes.pop() else {
+    let (Some(end), Some(mut own), Some(pass)) = (ends.pop(), passes.pop(), passes.pop()) else {
         unreachable!()
     };
-    let workers = passes.len();
-    let Ok(handles) = Vec::with_capacity(site.alloc, workers) else {
+    let others = passes.len();
+    let Ok(handles) = Vec::with_capacity(site.alloc, others) else {
         return Err(Refused::NoMemory);
     };
-    let Ok(back) = Vec::with_capacity(site.alloc, workers + 1) else {
+    let Ok(back) = Vec::with_capacity(site.alloc, others + 2) else {
         return Err(Refused::NoMemory);
     };
     let (handles, all) = start_all::<E, V, A, S, G, R>(
         scope, site, ends, passes, &mut own, handles,
     );
+    let (pass, ending) = run_worker(site, end, pass);
     let (mut back, well) = join_all::<V, A, R>(site.rt, site.board, site.analyse, handles, back);
-    if !well {
+    if !well || !ended_well(ending) {
         return Err(Refused::NoMemory);
     }
     if !all {
         return Err(Refused::NoThread);
     }
     back.push_reserved(own);
+    back.push_reserved(pass);
     Ok(back)
 }
 

@@ -82,6 +82,28 @@ fn wait_for<'b, V, R: Wait>(
     unreachable!()
 }
 
+/// The value of a node that was started, which is nearly always there; `None` where the halt was seen.
+fn value_of<'b, V, R: Wait>(
+    rt: &R,
+    board: &'b Board<V>,
+    pass: &mut Pass<V>,
+    n: usize,
+) -> Option<&'b V>
+    requires pass { IsPassOf board.now pass.old }
+    requires node { n < length board.now.plan }
+    ensures of { IsPassOf board.entry.now pass.new }
+    ensures keeps { Keeps (knows pass.old) (knows pass.new) }
+    ensures others { (k : ℕ) → k ≢ n → knows pass.new k ≡ knows pass.old k }
+    ensures stays { OnlyLooked pass.old.journal pass.new.journal }
+    ensures some { IfSome result (λ v. knows pass.new n ≡ Some v.now) }
+    ensures none { IfNone result (pass.new.journal.saw ≡ true) }
+{
+    match board.read(pass, n) {
+        Some(value) => Some(value),
+        None => wait_for(rt, board, pass, n),
+    }
+}
+
 /// The values of the nodes on which `n` depends, in their order, in place of what `values` had.
 fn read_all<'b, V, R: Wait>(
     rt: &R,
@@ -107,7 +129,7 @@ fn read_all<'b, V, R: Wait>(
         return Err(Stop::NoMemory);
     };
     for d in list {
-        let Some(value) = wait_for(rt, board, pass, d.number()) else {
+        let Some(value) = value_of(rt, board, pass, d.number()) else {
             return Err(Stop::Halted);
         };
         values.push_reserved(value);
@@ -184,7 +206,8 @@ fn deliver_one<V, S: Shelf>(
 
 /// Delivers a published node to all its users, and puts those that can be started now on the shelf.
 ///
-/// For each of these but one it wakes a worker: the one is for this worker, which looks next.
+/// For each of these but one it wakes a worker: the one is for this worker, which looks next. Where its shelf gives others
+/// before, it wakes one for each.
 fn deliver_all<V, S: Shelf>(
     board: &Board<V>,
     graph: &Edges,
@@ -211,7 +234,7 @@ fn deliver_all<V, S: Shelf>(
 {
     let acyclic = graph.acyclic();
     let users = graph.users(NodeId::of(n));
-    let mut has_next = false;
+    let mut has_next = shelf.has_others_first();
     for user in users {
         if deliver_one(board, acyclic, shelf, pass, published, *user)? {
             if has_next {
@@ -316,8 +339,30 @@ fn begin<V, A: Analyse<V>, G: Gate, R: Wait>(
     }
 }
 
+/// How the worker ends: it sees that no node is left, or the halt. `None` where it is to go on.
+fn seen_end<V, A: Analyse<V>, G, R>(site: &Site<V, A, G, R>, pass: &mut Pass<V>) -> Option<Ending>
+    requires pass { let a = site.now.analyse.now in
+        IsSound (A.step a) (A.fits a) site.now.board.now pass.old }
+    requires unset { pass.old.journal.set ≡ false }
+    ensures pass { let a = site.now.analyse.now in
+        IsSound (A.step a) (A.fits a) site.now.board.now pass.new }
+    ensures unset { pass.new.journal.set ≡ false }
+    ensures ending { IfSome result (λ e. EndingSays e pass.new.journal) }
+{
+    if site.board.left(pass) == 0 {
+        site.idle.call_off();
+        return Some(Ending::Done);
+    }
+    if site.board.halted(pass) {
+        return Some(Ending::Halted);
+    }
+    None
+}
+
 /// Takes nodes from the shelf and works on those that can be started, until no node is left, the
 /// halt is seen, or memory is refused. In the last case it sets the halt.
+///
+/// It asks the board for an end where it found no node, or where another has seen or set one.
 pub fn run_worker<V: Drop, A: Analyse<V>, S: Shelf, G: Gate, R: Wait>(
     site: &Site<V, A, G, R>,
     mut shelf: S,
@@ -333,14 +378,14 @@ pub fn run_worker<V: Drop, A: Analyse<V>, S: Shelf, G: Gate, R: Wait>(
 {
     let mut rest = Rest::new(site.idle);
     let mut values = Vec::new(site.alloc);
+    let mut is_busy = false;
     for _ in site.rt.forever() {
-        if site.board.left(&mut pass) == 0 {
-            site.idle.wake_all();
-            return (pass, Ending::Done);
+        if (!is_busy || site.idle.is_over())
+            && let Some(ending) = seen_end(site, &mut pass)
+        {
+            return (pass, ending);
         }
-        if site.board.halted(&mut pass) {
-            return (pass, Ending::Halted);
-        }
+        is_busy = false;
         let Some(node) = shelf.take() else {
             rest.turn(site.rt);
             continue;
@@ -350,13 +395,14 @@ pub fn run_worker<V: Drop, A: Analyse<V>, S: Shelf, G: Gate, R: Wait>(
             rest.pause();
             continue;
         }
+        is_busy = true;
         rest.end();
         match work(site, &mut shelf, &mut pass, &mut values, n) {
             Ok(()) => {}
             Err(Stop::Halted) => return (pass, Ending::Halted),
             Err(Stop::NoMemory) => {
                 site.board.halt(&mut pass);
-                site.idle.wake_all();
+                site.idle.call_off();
                 return (pass, Ending::NoMemory);
             }
         }

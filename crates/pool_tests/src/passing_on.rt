@@ -1,9 +1,10 @@
 //! Shelves and their ends.
-ghost use Rattle.std.specs.Prelude.{◌≡◌, ◌<◌, IfSome, vec_len};
+ghost use Rattle.std.specs.Prelude.{◌≡◌, ◌<◌, IfOk, IfSome, vec_len};
 ghost use Rattle.std.specs.List.{All};
 
 use board::NoMemory;
 use pool::{LockShelf, NodeId, Shelf, StealShelf};
+use std::alloc::{AllocError, Global};
 use std::test::Fail;
 
 /// One of the ends.
@@ -159,5 +160,89 @@ fn deques_give_each_first_node_once(rt: HostRuntime) -> Result<(), Fail> {
     };
     let first = [NodeId::of(2), NodeId::of(0), NodeId::of(3)];
     assert!(rt; matches!(are_spread(ends, &first, 4), Ok(true)));
+    Ok(())
+}
+
+/// So many nodes, by number.
+fn first_nodes(alloc: Global, nodes: usize) -> Result<Vec<NodeId>, AllocError>
+    ensures { IfOk result (λ v. All (λ n. n < nodes) v.items) }
+{
+    let mut first = Vec::new(alloc);
+    for n in 0..nodes {
+        first.push(NodeId::of(n))?;
+    }
+    Ok(first)
+}
+
+/// So many deques, from 1 to 64, that give so many first nodes together.
+fn spread_deques(alloc: Global, workers: usize, nodes: usize) -> Option<Vec<StealShelf>> {
+    if workers == 0 || workers > 64 {
+        return None;
+    }
+    let mut ends = StealShelf::ends(alloc, workers, nodes).ok()?;
+    let first = first_nodes(alloc, nodes).ok()?;
+    StealShelf::spread(&mut ends, &first, nodes).ok()?;
+    Some(ends)
+}
+
+/// How often each of so many nodes is given by ends that are asked in turn, one time more than there are
+/// nodes.
+fn times_given(alloc: Global, mut ends: Vec<StealShelf>, nodes: usize) -> Option<Vec<u64>> {
+    let mut times = vec![in alloc; 0u64; nodes].ok()?;
+    for _ in 0..nodes.saturating_add(1) {
+        for end in ends.iter_mut() {
+            if let Some(n) = end.take()
+                && let Some(count) = times.get_mut(n.number())
+            {
+                *count = count.saturating_add(1);
+            }
+        }
+    }
+    Some(times)
+}
+
+/// Whether so many deques give each of so many first nodes once.
+fn is_each_given_once(alloc: Global, workers: usize, nodes: usize) -> bool {
+    let Some(ends) = spread_deques(alloc, workers, nodes) else {
+        return false;
+    };
+    let Some(times) = times_given(alloc, ends, nodes) else {
+        return false;
+    };
+    times.len() == nodes && times.iter().all(|count| *count == 1)
+}
+
+#[test]
+fn few_and_many_deques_give_each_first_node_once(rt: HostRuntime) -> Result<(), Fail> {
+    for workers in [1, 2, 4, 64] {
+        for nodes in [1, 3, 20, 1_000] {
+            assert!(rt;
+                is_each_given_once(rt.alloc(), workers, nodes),
+                "{workers} {nodes}"
+            );
+        }
+    }
+    Ok(())
+}
+
+/// How many of so many deques give a node, each asked once, where there are so many first nodes.
+fn givers(alloc: Global, workers: usize, nodes: usize) -> Option<usize> {
+    let mut ends = spread_deques(alloc, workers, nodes)?;
+    let mut givers: usize = 0;
+    for end in ends.iter_mut() {
+        if end.take().is_some() {
+            givers = givers.saturating_add(1);
+        }
+    }
+    Some(givers)
+}
+
+#[test]
+fn every_deque_gives_a_first_node_where_there_are_enough(rt: HostRuntime) -> Result<(), Fail> {
+    let alloc = rt.alloc();
+    assert!(rt; givers(alloc, 64, 64) == Some(64));
+    assert!(rt; givers(alloc, 64, 1_000) == Some(64));
+    assert!(rt; givers(alloc, 4, 5) == Some(4));
+    assert!(rt; givers(alloc, 4, 3) == Some(3));
     Ok(())
 }

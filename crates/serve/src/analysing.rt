@@ -14,9 +14,9 @@ use workspace::{Label, Workspace};
 /// The report on the requested labels and all that they depend on, under a limit of steps for each evaluation.
 ///
 /// Its bytes are the answer's, and depend on the workspace, the labels and the limit alone. `rt` is the permission to
-/// start threads and to wait. The targets are analysed by so many workers in threads of their own, which have ended
-/// when this returns; one alone analyses them in the thread that calls. The gate is called round each target, by the
-/// worker that analyses it.
+/// start threads and to wait. The targets are analysed by so many workers, one in the thread that calls
+/// and the others in threads of their own, which have ended when this returns. The gate is called round each target, by
+/// the worker that analyses it.
 ///
 /// # Errors
 ///

@@ -27,6 +27,12 @@ pub trait Shelf: Drop {
         ensures same { nodes self.new ≡ nodes self.old }
         ensures node { IfSome result (λ n. n < nodes self.old) };
 
+    /// Whether this end has others to give before it gives what is put on it next, so that another end may
+    /// give that in the meantime.
+    fn has_others_first(&self) -> bool {
+        false
+    }
+
     /// Puts the first nodes of a run over a graph with so many nodes on the shelf: once, before any of its
     /// ends is asked for one.
     ///

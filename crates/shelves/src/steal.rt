@@ -22,6 +22,12 @@ const FIRST_ROOM: usize = 64;
 /// How often a worker tries at one deque while others take from it at the same moment.
 const TRIES: usize = 16;
 
+/// How many of the first nodes an end takes at once, at most.
+const LONGEST: usize = 64;
+
+/// Into how many parts for each end the first nodes that are left are cut. An end takes one such part.
+const PARTS: usize = 8;
+
 /// The rule of the deques: whoever uses one knows one number of nodes, and what lies in it is below
 /// that.
 pub struct Numbers;
@@ -114,18 +120,48 @@ impl Other {
     }
 }
 
-/// The first nodes of a run, which all ends give by one count.
+/// The first nodes of a run, of which the ends take some at once, by one count.
 #[derive(Drop)]
 struct First {
     numbers: Vec<NodeId>,
-    given: AtomicUsize,
+    taken: AtomicUsize,
+    parts: usize,
 }
 
 impl First {
-    /// The next of them; `None` where all were given.
-    fn next(&self) -> Option<NodeId> {
-        let at = self.given.fetch_add(1, Ordering::SeqCst);
-        self.numbers.get(at).copied()
+    /// How many an end takes at once: ever fewer towards the end, so that no end has many left while
+    /// the others have none, where nodes take alike.
+    fn length(&self) -> usize {
+        let taken = self.taken.load(Ordering::SeqCst);
+        let left = self.numbers.len().saturating_sub(taken);
+        (left / self.parts.max(1)).min(LONGEST).max(1)
+    }
+
+    /// From where to where an end may give them now. No other end gives these.
+    fn part(&self) -> (usize, usize) {
+        let length = self.length();
+        let start = self.taken.fetch_add(length, Ordering::SeqCst);
+        (start, start.saturating_add(length))
+    }
+}
+
+/// Those of the first nodes that one end has taken and not given yet, and the way to more.
+#[derive(Drop)]
+struct Hand {
+    first: Arc<First>,
+    next: usize,
+    past: usize,
+}
+
+impl Hand {
+    /// The next of the first nodes; `None` where all were taken.
+    fn give(&mut self) -> Option<NodeId> {
+        if self.next >= self.past {
+            (self.next, self.past) = self.first.part();
+        }
+        let n = self.first.numbers.get(self.next).copied()?;
+        self.next = self.next.saturating_add(1);
+        Some(n)
     }
 }
 
@@ -134,13 +170,13 @@ impl First {
 ///
 /// Once it has been asked for a number and has found none of the first nodes left, it keeps one that is
 /// put while its own deque is empty beside that deque. Its next `take` gives this one, and no other end
-/// can.
+/// can. Nor can another give what it has taken of the first nodes of a run.
 #[derive(Drop)]
 pub struct StealShelf {
     own: Own,
     others: Vec<Other>,
     nodes: usize,
-    first: Option<Arc<First>>,
+    first: Option<Hand>,
     kept: Option<NodeId>,
     was_asked: bool,
     ghost knows: { worker_view own ≡ told nodes },
@@ -158,27 +194,29 @@ impl StealShelf {
             && self.own.len_as::<Counts>() == 0
     }
 
-    /// One of the first nodes of the run; `None` where all were given.
+    /// One of the first nodes of the run; `None` where all were taken.
     fn take_first(&mut self) -> Option<NodeId>
         ensures same { self.new ≡ self.old }
         ensures node { IfSome result (λ n. n < self.old) }
     {
-        let first = self.first.as_ref()?;
+        let Some(n) = self.first.as_mut()?.give() else {
+            self.first = None;
+            return None;
+        };
         // What was given to all ends isn't known to be of this end's graph, so it is tested.
-        if let Some(n) = first.next()
-            && n.number() < self.nodes
-        {
-            return Some(n);
+        if n.number() < self.nodes {
+            Some(n)
+        } else {
+            None
         }
-        self.first = None;
-        None
     }
 
-    /// From now on this end gives these nodes too.
-    fn give_first(&mut self, first: Arc<First>)
+    /// From now on this end gives these nodes too. With `at_once` it takes some of them now.
+    fn give_first(&mut self, first: Arc<First>, at_once: bool)
         ensures { self.new ≡ self.old }
     {
-        self.first = Some(first);
+        let (next, past) = if at_once { first.part() } else { (0, 0) };
+        self.first = Some(Hand { first, next, past });
     }
 
     /// From its own deque, or else from the first of the others that has a number.
@@ -235,7 +273,12 @@ impl Shelf for StealShelf {
         }
     }
 
-    /// All ends give these nodes by one count, each node once.
+    fn has_others_first(&self) -> bool {
+        self.first.is_some()
+    }
+
+    /// Each end takes some of these nodes at once, by one count, and gives them; the last end has the first of them. Each
+    /// node is given once.
     fn spread(ends: &mut Vec<StealShelf>, first: &[NodeId], count: usize) -> Result<(), NoMemory> {
         match share_all(ends, first, count) {
             Ok(()) => Ok(()),
@@ -244,7 +287,8 @@ impl Shelf for StealShelf {
     }
 }
 
-/// Lets all ends give these nodes by one count.
+/// Lets all ends take these nodes, some at once, by one count. The last end has some from the beginning: its
+/// worker begins last, since it starts the threads of the others.
 fn share_all(ends: &mut Vec<StealShelf>, first: &[NodeId], nodes: usize) -> Result<(), AllocError>
     requires { All (λ e. e ≡ nodes) ends.old.items }
     ensures size { vec_len ends.new ≡ vec_len ends.old }
@@ -253,10 +297,19 @@ fn share_all(ends: &mut Vec<StealShelf>, first: &[NodeId], nodes: usize) -> Resu
     let _nodes = nodes;
     let alloc = *ends.allocator();
     let numbers = Vec::from_slice(alloc, first)?;
-    let given = AtomicUsize::new(0);
-    let first = Arc::new(alloc, First { numbers, given })?;
-    for i in 0..ends.len() {
-        ends[i].give_first(Arc::try_clone(&first)?);
+    let taken = AtomicUsize::new(0);
+    let parts = ends.len().saturating_mul(PARTS);
+    let first = Arc::new(
+        alloc,
+        First {
+            numbers,
+            taken,
+            parts,
+        },
+    )?;
+    let count = ends.len();
+    for i in 0..count {
+        ends[i].give_first(Arc::try_clone(&first)?, i + 1 == count);
     }
     Ok(())
 }
