@@ -1,15 +1,20 @@
 //! Times what an analysis does most with values: a listing of many depsets over many elements, freezing small lists,
-//! comparing pairs, dicts with many string keys, and what calls do with functions, strings and instances. Without the word `time` it prints what was done alone, which
-//! never changes.
+//! comparing pairs, dicts with many string keys, what calls do with functions, strings and instances, and what turns of loops do.
+//! Without the word `time` it prints what was done alone, which never changes.
 #![tactic(auto)]
+
+mod rows;
+mod turns;
 
 use anyhow::Result;
 use plain::{Shared, Text};
+use rows::report;
 use std::alloc::Global;
 use std::env;
 use std::mem::size_of;
 use std::rt::Clock;
 use std::time::Instant;
+use turns::turns;
 use values::{
     Cell, Depset, Element, Entries, ExportName, Exported, Fields, Frozen, FunctionRef, Heap, Id,
     Item, Items, Key, Leaf, MadeId, Names, Order, Provider, ProviderRef, Seen, Slots, Ticks, Value,
@@ -221,23 +226,6 @@ fn pushes(alloc: Global, value: &Value) -> Result<u64> {
     Ok(taken)
 }
 
-/// What was done and how often, and with the word `time` how long each took.
-fn report<R: Print + Clock>(
-    rt: &R,
-    name: &str,
-    done: u64,
-    start: Instant,
-    timed: bool,
-) -> Result<()> {
-    if timed {
-        let each = start.elapsed(rt)?.as_nanos() / u128::from(done.max(1));
-        println!(rt; "{name}: {done}, {each} ns each")?;
-    } else {
-        println!(rt; "{name}: {done}")?;
-    }
-    Ok(())
-}
-
 /// The steps of a depset's listing.
 fn steps_of(alloc: Global, depset: &Depset) -> Result<u64> {
     let listing = depset.list_whole(alloc)?;
@@ -349,5 +337,6 @@ fn main(rt: HostRuntime) -> Result<()> {
     dicts(&rt, alloc, timed)?;
     small_dict(&rt, alloc, timed)?;
     small(&rt, alloc, timed)?;
-    all_instances(&rt, alloc, timed)
+    all_instances(&rt, alloc, timed)?;
+    turns(&rt, alloc, timed)
 }

@@ -1,0 +1,306 @@
+//! What turns of loops do to values, without a machine.
+//!
+//! Each row does as often what a turn of the loop of that name in `serve_bench` does to values: operations on a state, with one
+//! tick a turn. Membership is a look into the dict, a field is looked for by its name, and a call is one of a plain function. There is
+//! no code, no frame and no stack, so what a turn takes longer there is the machine's own share.
+
+use crate::rows::report;
+use anyhow::Result;
+use numbers::Comparison;
+use operands::{Bindings, Operand};
+use plain::{Shared, Text};
+use state::{
+    Arithmetic, Defaults, State, append, calculate, compare, equals, find, item, new_dict,
+    new_list, new_tuple, plus, set_item, tick,
+};
+use std::alloc::{AllocError, Global};
+use std::rt::Clock;
+use std::time::Instant;
+use values::{
+    Broken, ExportName, Exported, Fields, Heap, Item, Items, Key, Kind, Leaf, MadeId, Names,
+    Provider, ProviderRef, Seen, Ticks, Value,
+};
+
+/// How often each is done.
+const TURNS: i64 = 1_000_000;
+
+/// How many keys the dict has.
+const KEYS: i64 = 64;
+
+/// What a turn does.
+#[derive(Clone, Copy)]
+enum Turn {
+    /// `pass`
+    Nothing,
+    /// `i * 3 + 1`
+    Arithmetic,
+    /// `i < 5 or i == 7`
+    Comparison,
+    /// `l[i % 3] = i`
+    List,
+    /// `d[i % 64] = i`
+    Dict,
+    /// `i in d`
+    Membership,
+    /// `p.x`
+    Field,
+    /// `l[i % 3]`
+    Index,
+    /// `l.append(i)`
+    Append,
+    /// `(i, i)`
+    Tuple,
+    /// A call of a function that gives `i + 1`.
+    Call,
+}
+
+impl Turn {
+    const ALL: [Turn; 11] = [
+        Turn::Nothing,
+        Turn::Arithmetic,
+        Turn::Comparison,
+        Turn::List,
+        Turn::Dict,
+        Turn::Membership,
+        Turn::Field,
+        Turn::Index,
+        Turn::Append,
+        Turn::Tuple,
+        Turn::Call,
+    ];
+
+    fn name(self) -> &'static str {
+        match self {
+            Turn::Nothing => "turns of nothing",
+            Turn::Arithmetic => "turns of arithmetic",
+            Turn::Comparison => "turns of comparison",
+            Turn::List => "turns of list",
+            Turn::Dict => "turns of dict",
+            Turn::Membership => "turns of membership",
+            Turn::Field => "turns of field",
+            Turn::Index => "turns of index",
+            Turn::Append => "turns of append",
+            Turn::Tuple => "turns of tuple",
+            Turn::Call => "turns of call",
+        }
+    }
+}
+
+/// The values that turns use.
+#[derive(Drop)]
+struct Kept {
+    list: Value,
+    dict: Value,
+    instance: Value,
+    field: Text,
+}
+
+fn number(number: i64) -> Value {
+    Value::Key(Key::Number(number))
+}
+
+fn truth(truth: bool) -> Value {
+    Value::Key(Key::Truth(truth))
+}
+
+fn none() -> Value {
+    Value::Leaf(Leaf::None)
+}
+
+/// A state without cells.
+fn empty<'a>(alloc: Global) -> Result<State<'a>, AllocError> {
+    Ok(State {
+        heap: Heap::new(alloc),
+        ticks: Ticks::new(u64::MAX),
+        owner: Text::new(alloc, "a/f.bzl")?,
+        depsets: 0,
+        file: 0,
+        globals: Fields::with_capacity(alloc, 0)?,
+        loaded: Bindings::unbound(alloc, 0)?,
+        defaults: Defaults::new(alloc),
+    })
+}
+
+/// A provider of one field.
+fn provider(alloc: Global, field: &Text) -> Result<Shared<Provider>, AllocError> {
+    let mut fields = Names::new(alloc);
+    fields.push(field.share()?)?;
+    let id = Some(MadeId {
+        module: 0,
+        number: 1,
+    });
+    let path = Text::new(alloc, "a/f.bzl")?;
+    let name = ExportName::Global(Text::new(alloc, "P")?);
+    let name = ProviderRef::Exported(Exported { path, name });
+    Shared::new(alloc, Provider { id, name, fields })
+}
+
+/// The list `[1, 2, 3]`.
+fn small_list(alloc: Global, state: &mut State) -> Result<Value, Broken> {
+    let mut items = Items::new(alloc);
+    for n in 1..4 {
+        items.push(number(n))?;
+    }
+    new_list(state, items)
+}
+
+/// The dict `{k: k for k in range(64)}`.
+fn small_dict(alloc: Global, state: &mut State) -> Result<Value, Broken> {
+    let dict = new_dict(alloc, state)?;
+    for n in 0..KEYS {
+        let key = number(n);
+        set_item(state, &dict, Item::Value(&key), number(n))?;
+    }
+    Ok(dict)
+}
+
+/// The instance `P(x = 1)`.
+fn small_instance(alloc: Global, state: &mut State, field: &Text) -> Result<Value, Broken> {
+    let mut fields = Fields::with_capacity(alloc, 1)?;
+    fields.push(Some(number(1)))?;
+    let provider = provider(alloc, field)?;
+    state.heap.new_instance(provider, fields)
+}
+
+/// The values that turns use, in a state.
+fn make_values(alloc: Global, state: &mut State) -> Result<Kept, Broken> {
+    let field = Text::new(alloc, "x")?;
+    Ok(Kept {
+        list: small_list(alloc, state)?,
+        dict: small_dict(alloc, state)?,
+        instance: small_instance(alloc, state, &field)?,
+        field,
+    })
+}
+
+fn modulo(state: &State, a: &Value, b: i64) -> Result<Value, Broken> {
+    let b = number(b);
+    calculate(state, Arithmetic::Modulo, Item::Value(a), Item::Value(&b))
+}
+
+fn product_and_sum(alloc: Global, state: &mut State, i: &Value) -> Result<Value, Broken> {
+    let (three, one) = (number(3), number(1));
+    let product = calculate(
+        state,
+        Arithmetic::Times,
+        Item::Value(i),
+        Item::Value(&three),
+    )?;
+    plus(alloc, state, Item::Value(&product), Item::Value(&one))
+}
+
+fn below_or_equal(state: &mut State, i: &Value) -> Result<Value, Broken> {
+    let (five, seven) = (number(5), number(7));
+    if compare(state, Comparison::Below, Item::Value(i), Item::Value(&five))? {
+        return Ok(truth(true));
+    }
+    let same = equals(state, Item::Value(i), Item::Value(&seven))?;
+    Ok(truth(same))
+}
+
+/// Sets an item of a list or of a dict.
+fn set(state: &mut State, base: &Value, i: Value, modulus: i64) -> Result<Value, Broken> {
+    let index = modulo(state, &i, modulus)?;
+    set_item(state, base, Item::Value(&index), i)?;
+    Ok(none())
+}
+
+fn is_in(state: &State, i: &Value, dict: &Value) -> Result<Value, Broken> {
+    let Seen::Dict(entries) = state.heap.see(dict) else {
+        return Err(Broken::Kind(Kind::Wrong));
+    };
+    let found = find(entries, &state.heap.see(i))?;
+    Ok(truth(found.is_some()))
+}
+
+fn field(state: &State, instance: &Value, name: &Text) -> Result<Value, Broken> {
+    let Seen::Instance(provider, slots) = state.heap.see(instance) else {
+        return Err(Broken::Kind(Kind::Name));
+    };
+    let fields = provider.fields.as_slice();
+    let named = fields
+        .iter()
+        .position(|field| field.as_str() == name.as_str());
+    let Some(place) = named else {
+        return Err(Broken::Kind(Kind::Name));
+    };
+    if place >= slots.len() {
+        return Err(Broken::Kind(Kind::Name));
+    }
+    match slots.slot(place) {
+        Some(value) => Ok(value.to_value()?),
+        None => Err(Broken::Kind(Kind::Name)),
+    }
+}
+
+fn indexed(alloc: Global, state: &State, list: &Value, i: &Value) -> Result<Value, Broken> {
+    let index = modulo(state, i, 3)?;
+    let base = Operand::lent(Item::Value(list));
+    let found = item(alloc, state, &base, Item::Value(&index))?;
+    Ok(found.into_value()?)
+}
+
+fn pair(alloc: Global, state: &mut State, i: Value) -> Result<Value, Broken> {
+    let mut items = Items::with_capacity(alloc, 2)?;
+    items.push(i.share()?)?;
+    items.push(i)?;
+    new_tuple(state, items)
+}
+
+#[inline(never)]
+fn successor(alloc: Global, state: &mut State, i: &Value) -> Result<Value, Broken> {
+    let one = number(1);
+    plus(alloc, state, Item::Value(i), Item::Value(&one))
+}
+
+/// Does what a turn does, and gives what it makes. It isn't inlined, so that nothing is worked out before the loop.
+#[inline(never)]
+fn take_turn(
+    alloc: Global,
+    state: &mut State,
+    kept: &Kept,
+    what: Turn,
+    i: i64,
+) -> Result<Value, Broken> {
+    let i = number(i);
+    match what {
+        Turn::Nothing => Ok(none()),
+        Turn::Arithmetic => product_and_sum(alloc, state, &i),
+        Turn::Comparison => below_or_equal(state, &i),
+        Turn::List => set(state, &kept.list, i, 3),
+        Turn::Dict => set(state, &kept.dict, i, KEYS),
+        Turn::Membership => is_in(state, &i, &kept.dict),
+        Turn::Field => field(state, &kept.instance, &kept.field),
+        Turn::Index => indexed(alloc, state, &kept.list, &i),
+        Turn::Append => append(state, &kept.list, i),
+        Turn::Tuple => pair(alloc, state, i),
+        Turn::Call => successor(alloc, state, &i),
+    }
+}
+
+/// Does it again and again, and gives how often.
+fn repeat(alloc: Global, state: &mut State, kept: &Kept, what: Turn) -> u64 {
+    let mut done = 0u64;
+    for i in 0..TURNS {
+        if tick(state).is_err() || take_turn(alloc, state, kept, what, i).is_err() {
+            return done;
+        }
+        done = done.saturating_add(1);
+    }
+    done
+}
+
+/// All turns, each in a state of its own.
+pub fn turns<R: Print + Clock>(rt: &R, alloc: Global, timed: bool) -> Result<()> {
+    for what in Turn::ALL {
+        let mut state = empty(alloc)?;
+        let Ok(kept) = make_values(alloc, &mut state) else {
+            println!(rt; "no values")?;
+            return Ok(());
+        };
+        let start = Instant::now(rt)?;
+        let done = repeat(alloc, &mut state, &kept, what);
+        report(rt, what.name(), done, start, timed)?;
+    }
+    Ok(())
+}
