@@ -163,6 +163,12 @@ impl Hand {
         self.next = self.next.saturating_add(1);
         Some(n)
     }
+
+    /// Whether it has none left, and no more can be taken.
+    fn is_over(&self) -> bool {
+        let all = self.first.numbers.len();
+        self.next >= self.past.min(all) && self.first.taken.load(Ordering::SeqCst) >= all
+    }
 }
 
 /// A worker's end of the shelf: a deque of its own, and the means to steal from those of the other
@@ -199,15 +205,15 @@ impl StealShelf {
         ensures same { self.new ≡ self.old }
         ensures node { IfSome result (λ n. n < self.old) }
     {
-        let Some(n) = self.first.as_mut()?.give() else {
+        let hand = self.first.as_mut()?;
+        let given = hand.give();
+        if hand.is_over() {
             self.first = None;
-            return None;
-        };
+        }
         // What was given to all ends isn't known to be of this end's graph, so it is tested.
-        if n.number() < self.nodes {
-            Some(n)
-        } else {
-            None
+        match given {
+            Some(n) if n.number() < self.nodes => Some(n),
+            _ => None,
         }
     }
 
