@@ -8,6 +8,7 @@
 mod shared;
 mod stack;
 mod text;
+mod text_bytes;
 
 pub use shared::Shared;
 pub use stack::Stack;

@@ -1,30 +1,32 @@
 //! Texts that never change, shared by all who name them.
 //!
 //! To a contract a `Text` is the list of its bytes. It is kept behind one counted pointer, so that a
-//! second name of a text costs a count and not a copy, also from another thread.
+//! second name of a text costs a count and not a copy, also from another thread. A short one lies
+//! beside its count: it is one allocation.
 ghost use Rattle.std.specs.Prelude.{◌≡◌, ◌↔◌, [], length, string_bytes, IfOk, IsTrue};
 
+use crate::shared::Shared;
+use crate::text_bytes::TextBytes;
 use std::alloc::{AllocError, Global};
 use std::cmp::Ordering;
 use std::hash::{Hash, Hasher};
 use std::marker::Model;
-use std::sync::ArcStr;
 
 /// A text that never changes and that names share: a string of the language, a path, a label.
 ///
 /// It is equal to another, hashed and ordered by its bytes.
 #[derive(Drop)]
 pub struct Text {
-    text: ArcStr,
+    bytes: Shared<TextBytes>,
 }
 
 impl Model for Text {
     ghost use Rattle.std.specs.Prelude.{ℕ, List};
-    ghost use Rattle.std.specs.Arc.{arc_str_bytes};
+    ghost use Rattle.plain.specs.TextBytes.{bytes_of};
 
     ghost Value = { List ℕ };
 
-    ghost view = { λ t. arc_str_bytes t.text };
+    ghost view = { λ t. bytes_of t.bytes };
 }
 
 impl Text {
@@ -36,11 +38,11 @@ impl Text {
     pub fn new(alloc: Global, s: &str) -> Result<Text, AllocError>
         ensures { IfOk result (λ t. t ≡ s.now) }
     {
-        let text = ArcStr::from_str(alloc, s)?;
-        Ok(Text { text })
+        let bytes = Shared::new(alloc, TextBytes::new(alloc, s)?)?;
+        Ok(Text { bytes })
     }
 
-    /// The text of a `String`, which is not copied.
+    /// The text of a `String`, which is not copied where it has more than 32 bytes.
     ///
     /// # Errors
     ///
@@ -48,22 +50,23 @@ impl Text {
     pub fn from_string(s: String) -> Result<Text, AllocError>
         ensures { IfOk result (λ t. t ≡ string_bytes s) }
     {
-        let text = ArcStr::from_string(s)?;
-        Ok(Text { text })
+        let alloc = *s.allocator();
+        let bytes = Shared::new(alloc, TextBytes::from_string(s))?;
+        Ok(Text { bytes })
     }
 
     /// Its bytes, as a `str`.
     pub fn as_str(&self) -> &str
         ensures { result.now ≡ self.now }
     {
-        self.text.as_str()
+        self.bytes.get().as_str()
     }
 
     /// How many bytes it has.
     pub fn len(&self) -> usize
         ensures { result ≡ length self.now }
     {
-        self.text.len()
+        self.as_str().len()
     }
 
     /// Whether it has no byte.
@@ -81,8 +84,8 @@ impl Text {
     pub fn share(&self) -> Result<Text, AllocError>
         ensures { IfOk result (λ t. t ≡ self.now) }
     {
-        let text = self.text.clone()?;
-        Ok(Text { text })
+        let bytes = self.bytes.share()?;
+        Ok(Text { bytes })
     }
 }
 

@@ -1,6 +1,6 @@
 //! One use of each call with ample memory, and that texts cross threads.
 use plain::{Stack, Text};
-use std::alloc::Global;
+use std::alloc::{AllocError, Global};
 use std::cmp::Ordering;
 use std::collections::HashSet;
 use std::test::Fail;
@@ -19,6 +19,30 @@ fn texts_are_their_bytes(rt: HostRuntime) -> Result<(), Fail> {
     assert!(rt; same == text);
     let built = Text::from_string(format!(in alloc; "a/{}.txt", "x")?)?;
     assert!(rt; built == text);
+    Ok(())
+}
+
+/// Whether a text of these bytes is kept as they are, however it is made and named.
+fn is_kept(alloc: Global, bytes: &str) -> Result<bool, AllocError> {
+    let copied = Text::new(alloc, bytes)?;
+    let moved = Text::from_string(String::from_str(alloc, bytes)?)?;
+    let same = moved.share()?;
+    Ok(copied.as_str() == bytes && moved == copied && same.len() == bytes.len())
+}
+
+/// Short texts lie beside their count, and longer ones don't.
+#[test]
+fn texts_of_any_length_are_kept(rt: HostRuntime) -> Result<(), Fail> {
+    let alloc = rt.alloc();
+    for bytes in [
+        "",
+        "x",
+        "0123456789abcdef0123456789abcde",
+        "0123456789abcdef0123456789abcdef",
+        "0123456789abcdef0123456789abcdefé",
+    ] {
+        assert!(rt; is_kept(alloc, bytes)?, "{bytes}");
+    }
     Ok(())
 }
 

@@ -1,0 +1,9 @@
+-- Where the bytes of a text lie.
+use Rattle.std.specs.Prelude.{ℕ, List, string_bytes}
+use Rattle.plain.specs.declared.text_bytes.TextBytes.{TextBytes}
+use Rattle.plain.specs.declared.text_bytes.TextBytes.TheVariants as kept
+
+-- the bytes, wherever they lie
+abbrev pub bytes_of : TextBytes → List ℕ
+bytes_of (kept.Short text) = text.bytes
+bytes_of (kept.Long text) = string_bytes text
