@@ -8,18 +8,22 @@ ghost use Rattle.board.specs.Flags.{is_up};
 use std::alloc::{AllocError, Global};
 use std::marker::Model;
 
-/// Flags, of which none is up at first, and each can be raised.
+/// Flags, of which none is up at first, and each can be raised; and whether one was.
 #[derive(Drop)]
 pub struct Flags {
     words: Vec<u64>,
+    was_raised: bool,
 }
 
 impl Model for Flags {
-    ghost use Rattle.std.specs.Prelude.{ℕ, List};
+    ghost use Rattle.std.specs.Prelude.{◌≡◌, ℕ, List, false};
+    ghost use Rattle.board.specs.Flags.{is_up};
 
     ghost Value = { List ℕ };
 
     ghost view = { λ f. f.words.items };
+
+    ghost invariant = { λ f. f.was_raised ≡ false → (n : ℕ) → is_up f.words.items n ≡ false };
 }
 
 fn has_bit(word: u64, k: usize) -> bool
@@ -44,7 +48,10 @@ impl Flags {
         ensures down { IfOk result (λ f. (n : ℕ) → is_up f n ≡ false) }
     {
         let words = vec![in alloc; 0u64; nodes.div_ceil(64)]?;
-        Ok(Flags { words })
+        Ok(Flags {
+            words,
+            was_raised: false,
+        })
     }
 
     /// Whether the flag of node `n` is up.
@@ -53,6 +60,13 @@ impl Flags {
         ensures { result ≡ is_up self.now n }
     {
         has_bit(self.words[n / 64], n % 64)
+    }
+
+    /// Whether none was ever raised.
+    pub fn is_new(&self) -> bool
+        ensures { OnTrue result ((n : ℕ) → is_up self.now n ≡ false) }
+    {
+        !self.was_raised
     }
 
     /// Whether no flag of the 64 nodes is up that word `w` has.
@@ -72,5 +86,6 @@ impl Flags {
     {
         let word = self.words[n / 64];
         self.words[n / 64] = with_bit(word, n % 64);
+        self.was_raised = true;
     }
 }

@@ -142,6 +142,9 @@ impl<V> Memory<V> {
         ensures known { (n : ℕ)
             → Union (known_at self.old n) (known_at other.now n) (known_at self.new n) }
     {
+        if other.flags.is_new() {
+            return;
+        }
         let nodes = self.notes.len();
         let mut n = 0;
         while n < nodes {

@@ -68,15 +68,14 @@ module _ {V : Type 0} where
           unset = ap (λ (j : Journal). j.set) new.1;
         }
 
-    fine_is_quiet : (p : PassView V) → IsFine step fits b p → IsQuiet step fits b p
+    pub fine_is_quiet : (p : PassView V) → IsFine step fits b p → IsQuiet step fits b p
     fine_is_quiet p fine = record { sound = fine.sound; unset = fine.ended.1 }
 
-    -- the passes of workers that were refused nothing, of which one comes behind run's own
-    pub gathering : (ps : List (PassView V)) (own p : PassView V) → All (IsFine step fits b) ps → IsFine step fits b p → length ps + 2 ≡ b.passes → IsNew b own →
+    -- quiet passes, run's own, and behind it that of a worker that was refused nothing
+    pub gathering : (ps : List (PassView V)) (own p : PassView V) → All (IsQuiet step fits b) ps → IsFine step fits b p → length ps + 2 ≡ b.passes → IsNew b own →
         IsGathering step fits b ((ps ++ own ∷ []) ++ p ∷ [])
-    gathering ps own p all fine count new =
+    gathering ps own p quiet fine count new =
         let one = length-append ps (own ∷ []) in let two = length-append (ps ++ own ∷ []) (p ∷ []) in
-        let quiet : All (IsQuiet step fits b) ps = All-weaker (IsFine step fits b) (IsQuiet step fits b) fine_is_quiet ps all in
         record {
           count = omega (arith, one, two, count);
           quiet = All-push (IsQuiet step fits b) (ps ++ own ∷ []) p (All-push (IsQuiet step fits b) ps own quiet (new_is_quiet own new)) (fine_is_quiet p fine);

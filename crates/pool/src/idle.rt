@@ -9,7 +9,8 @@ use std::thread;
 ///
 /// They are woken as nodes come on the shelf, and all of them once no node is left or the halt is
 /// set. One worker stays awake whatever happens, and goes on looking: so a run never stands still
-/// because all workers sleep, with whatever shelf.
+/// because all workers sleep, with whatever shelf. A worker that is alone never sleeps, and where it is not, all
+/// start: so each counts as awake from the beginning.
 #[derive(Drop)]
 pub struct Idle {
     sleepers: EventCount,

@@ -31,7 +31,8 @@ pub enum Refused {
 ///
 /// Whenever it answers `Ok`, the outcomes are those along edges: whatever the number of workers,
 /// whichever of them ran which node, and whatever the gate does. Cyclic nodes have theirs without a
-/// worker. No more workers start than there are nodes that are not cyclic, but one always does.
+/// worker. No more workers start than there are nodes that are not cyclic, but one always does; the others start
+/// once there may be nodes for them.
 /// `NoMemory` comes where the allocator refuses memory, also to a worker; `NoThread` where a thread
 /// was refused, or the memory to start it. In either case all workers are joined, and nothing is
 /// kept.

@@ -1,16 +1,19 @@
-//! Workers, one an end: one in the thread that calls, the others in threads of their own; and their passes back from them.
-ghost use Rattle.std.specs.Prelude.{◌≡◌, ◌+◌, ◌<◌, ◌≤◌, true, length, MatchBool, IfOk, IfSome, vec_len, vec_capacity};
+//! Workers, one an end: one in the thread that calls, the others in threads of their own, once there may be nodes for
+//! them; and their passes back from them.
+ghost use Rattle.std.specs.Prelude.{◌≡◌, ◌+◌, ◌<◌, ◌≤◌, true, false, [], ◌∷◌, ◌++◌, length};
+ghost use Rattle.std.specs.Prelude.{MatchBool, MatchOption, IfOk, IfSome, vec_len, vec_capacity};
 ghost use Rattle.std.specs.Bool.{OnTrue};
 ghost use Rattle.std.specs.List.{All};
 ghost use Rattle.board.specs.declared.journal.Journal.{Journal};
 ghost use Rattle.board.specs.Views.{IsPassOf, IsNew};
 ghost use Rattle.pool.specs.Settled.{IsSound};
-ghost use Rattle.pool.specs.Ends.{AreEnds, CanRun, EndingSays, EndedWell, IsFine, IsGathering};
+ghost use Rattle.pool.specs.Ends.{AreEnds, CanRun, EndingSays, EndedWell};
+ghost use Rattle.pool.specs.Ends.{IsFine, IsQuiet, IsGathering};
 
 use crate::analyse::Analyse;
 use crate::gate::Gate;
 use crate::running::Refused;
-use crate::worker::{Ending, Site, run_worker};
+use crate::worker::{Ending, Site, run_worker, take_turns};
 use board::{Board, Pass};
 use core::thread::Stack;
 use shelves::Shelf;
@@ -163,8 +166,96 @@ where
     (passes, well)
 }
 
-/// All passes, after a worker at each end has ended. The worker at the last end runs in this thread, and its
-/// pass comes last: what the last pass knows is where a board that is closed gathers the rest.
+/// The turns of the worker in this thread while it is alone. `None` says that there may be nodes for others: so
+/// it is from the beginning where more than one node depends on none.
+fn work_alone<'s, V, A, S, G, R>(
+    site: &'s Site<'s, V, A, G, R>,
+    end: &mut S,
+    pass: &mut Pass<V>,
+) -> Option<Ending>
+where
+    V: Send + Sync + Drop + 's,
+    A: Analyse<V>,
+    S: Shelf + Send + 's,
+    G: Gate,
+    R: Threads + Wait + Sync,
+    requires shelf { S.nodes end.old ≡ length site.now.graph.now.deps }
+    requires pass { let a = site.now.analyse.now in
+        IsQuiet (A.step a) (A.fits a) site.now.board.now pass.old }
+    ensures shelf { S.nodes end.new ≡ length site.entry.now.graph.now.deps }
+    ensures pass { let a = site.entry.now.analyse.now in
+        IsSound (A.step a) (A.fits a) site.entry.now.board.now pass.new }
+    ensures ending { MatchOption result
+        (pass.new.journal.set ≡ false)
+        (λ e. EndingSays e pass.new.journal) }
+{
+    if site.graph.ready().len() > 1 {
+        return None;
+    }
+    take_turns(site, end, pass, true)
+}
+
+/// All passes: those of the others, and behind them the run's own, and the one of the worker in this thread.
+fn with_own<V>(mut passes: Vec<Pass<V>>, own: Pass<V>, pass: Pass<V>) -> Vec<Pass<V>>
+    requires room { vec_len passes + 1 < vec_capacity passes }
+    ensures { result.items ≡ (passes.items ++ own ∷ []) ++ pass ∷ [] }
+{
+    passes.push_reserved(own);
+    passes.push_reserved(pass);
+    passes
+}
+
+/// All passes, after the worker in this thread has gone on beside others, each in a thread of its own.
+fn with_others<'s, E, V, A, S, G, R>(
+    scope: &Scope<'s, E>,
+    site: &'s Site<'s, V, A, G, R>,
+    ends: Vec<S>,
+    passes: Vec<Pass<V>>,
+    mut own: Pass<V>,
+    end: S,
+    pass: Pass<V>,
+) -> Result<Vec<Pass<V>>, Refused>
+where
+    V: Send + Sync + Drop + 's,
+    A: Analyse<V>,
+    S: Shelf + Send + 's,
+    G: Gate,
+    R: Threads + Wait + Sync,
+    requires ends { AreEnds S.nodes (length site.now.graph.now.deps) ends.items }
+    requires count { (vec_len ends ≡ vec_len passes) × (vec_len ends < 64) }
+    requires passes { (vec_len passes + 2 ≡ site.now.board.now.passes)
+        × All (IsNew site.now.board.now) passes.items }
+    requires own { IsNew site.now.board.now own }
+    requires shelf { S.nodes end ≡ length site.now.graph.now.deps }
+    requires pass { let a = site.now.analyse.now in
+        IsQuiet (A.step a) (A.fits a) site.now.board.now pass }
+    ensures { let a = site.entry.now.analyse.now in IfOk result
+        (λ v. IsGathering (A.step a) (A.fits a) site.entry.now.board.now v.items) }
+{
+    let others = passes.len();
+    let Ok(handles) = Vec::with_capacity(site.alloc, others) else {
+        return Err(Refused::NoMemory);
+    };
+    let Ok(back) = Vec::with_capacity(site.alloc, others + 2) else {
+        return Err(Refused::NoMemory);
+    };
+    let (handles, all) = start_all::<E, V, A, S, G, R>(
+        scope, site, ends, passes, &mut own, handles,
+    );
+    let (pass, ending) = run_worker(site, end, pass);
+    let (back, well) = join_all::<V, A, R>(site.rt, site.board, site.analyse, handles, back);
+    if !well || !ended_well(ending) {
+        return Err(Refused::NoMemory);
+    }
+    if !all {
+        return Err(Refused::NoThread);
+    }
+    Ok(with_own(back, own, pass))
+}
+
+/// All passes, after all workers have ended. The worker at the last end runs in this thread, and its pass comes
+/// last: what the last pass knows is where a board that is closed gathers the rest. The others start once there may
+/// be nodes for them.
 ///
 /// `NoMemory` comes where a worker was refused memory or there was none for the passes, `NoThread`
 /// where a thread was refused, or the memory to start it, and none of this was. All workers that
@@ -186,30 +277,14 @@ where
     ensures { let a = site.entry.now.analyse.now in IfOk result
         (λ v. IsGathering (A.step a) (A.fits a) site.entry.now.board.now v.items) }
 {
-    let (Some(end), Some(mut own), Some(pass)) = (ends.pop(), passes.pop(), passes.pop()) else {
+    let (Some(mut end), Some(own), Some(mut pass)) = (ends.pop(), passes.pop(), passes.pop()) else {
         unreachable!()
     };
-    let others = passes.len();
-    let Ok(handles) = Vec::with_capacity(site.alloc, others) else {
-        return Err(Refused::NoMemory);
-    };
-    let Ok(back) = Vec::with_capacity(site.alloc, others + 2) else {
-        return Err(Refused::NoMemory);
-    };
-    let (handles, all) = start_all::<E, V, A, S, G, R>(
-        scope, site, ends, passes, &mut own, handles,
-    );
-    let (pass, ending) = run_worker(site, end, pass);
-    let (mut back, well) = join_all::<V, A, R>(site.rt, site.board, site.analyse, handles, back);
-    if !well || !ended_well(ending) {
-        return Err(Refused::NoMemory);
+    match work_alone(site, &mut end, &mut pass) {
+        None => with_others::<E, V, A, S, G, R>(scope, site, ends, passes, own, end, pass),
+        Some(ending) if ended_well(ending) => Ok(with_own(passes, own, pass)),
+        Some(_) => Err(Refused::NoMemory),
     }
-    if !all {
-        return Err(Refused::NoThread);
-    }
-    back.push_reserved(own);
-    back.push_reserved(pass);
-    Ok(back)
 }
 
 /// The same, in a scope of its own.

@@ -1,6 +1,6 @@
 //! One worker: what it does with a node, and its turns until no node is left.
 ghost use Rattle.std.specs.Prelude.{◌≡◌, ◌≢◌, ◌<◌, ◌≤◌, ℕ, length, map, take, Some, None};
-ghost use Rattle.std.specs.Prelude.{true, false, IfOk, IfErr, IfSome, IfNone, OnOk};
+ghost use Rattle.std.specs.Prelude.{true, false, IfOk, IfErr, IfSome, IfNone, OnOk, MatchOption};
 ghost use Rattle.std.specs.Bool.{OnTrue};
 ghost use Rattle.board.specs.Journal.{times, deps};
 ghost use Rattle.board.specs.Views.{IsPassOf, IsHeld, IsUnsent, Keeps, knows};
@@ -207,7 +207,7 @@ fn deliver_one<V, S: Shelf>(
 /// Delivers a published node to all its users, and puts those that can be started now on the shelf.
 ///
 /// For each of these but one it wakes a worker: the one is for this worker, which looks next. Where its shelf gives others
-/// before, it wakes one for each.
+/// before, it wakes one for each. True says that there is one for another worker.
 fn deliver_all<V, S: Shelf>(
     board: &Board<V>,
     graph: &Edges,
@@ -216,7 +216,7 @@ fn deliver_all<V, S: Shelf>(
     pass: &mut Pass<V>,
     published: &mut Published,
     n: usize,
-) -> Result<(), NoMemory>
+) -> Result<bool, NoMemory>
     requires graph { board.now.plan ≡ take graph.now.acyclic graph.now.deps }
     requires shelf { S.nodes shelf.old ≡ length graph.now.deps }
     requires pass { IsPassOf board.now pass.old }
@@ -229,32 +229,34 @@ fn deliver_all<V, S: Shelf>(
     ensures memory { pass.new.memory ≡ pass.old.memory }
     ensures finished { pass.new.journal.finished ≡ pass.old.journal.finished }
     ensures set { pass.new.journal.set ≡ pass.old.journal.set }
-    ensures whole { OnOk result
-        ((u : ℕ) → 0 < times n (deps board.now.plan u) → 0 < times_sent pass.new n u) }
+    ensures whole { IfOk result
+        (λ _. (u : ℕ) → 0 < times n (deps board.now.plan u) → 0 < times_sent pass.new n u) }
 {
     let acyclic = graph.acyclic();
     let users = graph.users(NodeId::of(n));
     let mut has_next = shelf.has_others_first();
+    let mut has_more = false;
     for user in users {
         if deliver_one(board, acyclic, shelf, pass, published, *user)? {
             if has_next {
                 idle.wake_one();
+                has_more = true;
             }
             has_next = true;
         }
     }
-    Ok(())
+    Ok(has_more)
 }
 
 /// Publishes the outcome of a node that this pass has started, delivers it to all users, and
-/// finishes the node.
+/// finishes the node. True says that a node was made ready for another worker.
 fn complete<V: Drop, A: Analyse<V>, S: Shelf, G: Gate, R: Wait>(
     site: &Site<V, A, G, R>,
     shelf: &mut S,
     pass: &mut Pass<V>,
     n: usize,
     value: V,
-) -> Result<(), NoMemory>
+) -> Result<bool, NoMemory>
     requires shelf { S.nodes shelf.old ≡ length site.now.graph.now.deps }
     requires node { n < length site.now.board.now.plan }
     requires started { (0 < times n pass.old.journal.started) × (knows pass.old n ≡ None) }
@@ -270,7 +272,7 @@ fn complete<V: Drop, A: Analyse<V>, S: Shelf, G: Gate, R: Wait>(
     match site.board.publish(pass, n, value) {
         Ok(mut published) => {
             site.gate.leave(NodeId::of(n));
-            deliver_all(
+            let has_more = deliver_all(
                 site.board,
                 site.graph,
                 site.idle,
@@ -280,7 +282,7 @@ fn complete<V: Drop, A: Analyse<V>, S: Shelf, G: Gate, R: Wait>(
                 n,
             )?;
             site.board.finish(pass, published);
-            Ok(())
+            Ok(has_more)
         }
         Err((value, refused)) => {
             drop(value);
@@ -289,14 +291,15 @@ fn complete<V: Drop, A: Analyse<V>, S: Shelf, G: Gate, R: Wait>(
     }
 }
 
-/// The whole work on a node that this pass has started.
+/// The whole work on a node that this pass has started. True says that it made a node ready for another
+/// worker.
 fn work<'s, V: Drop, A: Analyse<V>, S: Shelf, G: Gate, R: Wait>(
     site: &Site<'s, V, A, G, R>,
     shelf: &mut S,
     pass: &mut Pass<V>,
     values: &mut Vec<&'s V>,
     n: usize,
-) -> Result<(), Stop>
+) -> Result<bool, Stop>
     requires shelf { S.nodes shelf.old ≡ length site.now.graph.now.deps }
     requires node { n < length site.now.board.now.plan }
     requires started { (0 < times n pass.old.journal.started) × (knows pass.old n ≡ None) }
@@ -310,7 +313,7 @@ fn work<'s, V: Drop, A: Analyse<V>, S: Shelf, G: Gate, R: Wait>(
 {
     let value = outcome_of(site, pass, values, n)?;
     match complete(site, shelf, pass, n, value) {
-        Ok(()) => Ok(()),
+        Ok(has_more) => Ok(has_more),
         Err(_) => Err(Stop::NoMemory),
     }
 }
@@ -362,7 +365,69 @@ fn seen_end<V, A: Analyse<V>, G, R>(site: &Site<V, A, G, R>, pass: &mut Pass<V>)
 /// Takes nodes from the shelf and works on those that can be started, until no node is left, the
 /// halt is seen, or memory is refused. In the last case it sets the halt.
 ///
+/// A worker that is alone also ends its turns, with `None`, once there may be something for others: it
+/// made more than one node ready, or found none that it could start.
+///
 /// It asks the board for an end where it found no node, or where another has seen or set one.
+pub fn take_turns<V: Drop, A: Analyse<V>, S: Shelf, G: Gate, R: Wait>(
+    site: &Site<V, A, G, R>,
+    shelf: &mut S,
+    pass: &mut Pass<V>,
+    is_alone: bool,
+) -> Option<Ending>
+    requires shelf { S.nodes shelf.old ≡ length site.now.graph.now.deps }
+    requires pass { let a = site.now.analyse.now in
+        IsSound (A.step a) (A.fits a) site.now.board.now pass.old }
+    requires unset { pass.old.journal.set ≡ false }
+    ensures shelf { S.nodes shelf.new ≡ length site.now.graph.now.deps }
+    ensures pass { let a = site.now.analyse.now in
+        IsSound (A.step a) (A.fits a) site.now.board.now pass.new }
+    ensures ending { MatchOption result
+        ((is_alone ≡ true) × (pass.new.journal.set ≡ false))
+        (λ e. EndingSays e pass.new.journal) }
+{
+    let mut rest = Rest::new(site.idle);
+    let mut values = Vec::new(site.alloc);
+    let mut is_busy = true;
+    for _ in site.rt.forever() {
+        if !is_busy || site.idle.is_over() {
+            if let Some(ending) = seen_end(site, pass) {
+                return Some(ending);
+            }
+            if is_alone {
+                return None;
+            }
+        }
+        is_busy = false;
+        let Some(node) = shelf.take() else {
+            rest.turn(site.rt);
+            continue;
+        };
+        let n = node.number();
+        if !begin(site, pass, n) {
+            rest.pause();
+            continue;
+        }
+        is_busy = true;
+        rest.end();
+        match work(site, shelf, pass, &mut values, n) {
+            Ok(has_more) => {
+                if is_alone && has_more {
+                    return None;
+                }
+            }
+            Err(Stop::Halted) => return Some(Ending::Halted),
+            Err(Stop::NoMemory) => {
+                site.board.halt(pass);
+                site.idle.call_off();
+                return Some(Ending::NoMemory);
+            }
+        }
+    }
+    unreachable!()
+}
+
+/// All turns of a worker in a thread of its own, beside others.
 pub fn run_worker<V: Drop, A: Analyse<V>, S: Shelf, G: Gate, R: Wait>(
     site: &Site<V, A, G, R>,
     mut shelf: S,
@@ -376,36 +441,8 @@ pub fn run_worker<V: Drop, A: Analyse<V>, S: Shelf, G: Gate, R: Wait>(
         IsSound (A.step a) (A.fits a) site.now.board.now result.0 }
     ensures ending { EndingSays result.1 result.0.journal }
 {
-    let mut rest = Rest::new(site.idle);
-    let mut values = Vec::new(site.alloc);
-    let mut is_busy = false;
-    for _ in site.rt.forever() {
-        if (!is_busy || site.idle.is_over())
-            && let Some(ending) = seen_end(site, &mut pass)
-        {
-            return (pass, ending);
-        }
-        is_busy = false;
-        let Some(node) = shelf.take() else {
-            rest.turn(site.rt);
-            continue;
-        };
-        let n = node.number();
-        if !begin(site, &mut pass, n) {
-            rest.pause();
-            continue;
-        }
-        is_busy = true;
-        rest.end();
-        match work(site, &mut shelf, &mut pass, &mut values, n) {
-            Ok(()) => {}
-            Err(Stop::Halted) => return (pass, Ending::Halted),
-            Err(Stop::NoMemory) => {
-                site.board.halt(&mut pass);
-                site.idle.call_off();
-                return (pass, Ending::NoMemory);
-            }
-        }
+    match take_turns(site, &mut shelf, &mut pass, false) {
+        Some(ending) => (pass, ending),
+        None => unreachable!(),
     }
-    unreachable!()
 }

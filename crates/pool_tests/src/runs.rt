@@ -189,6 +189,45 @@ fn a_chain_of_16(rt: HostRuntime) -> Result<(), Fail> {
     Ok(())
 }
 
+/// Node 0, eight nodes that depend on it, and node 9 that depends on these.
+fn fan(alloc: Global) -> Result<Option<Numbered>, AllocError> {
+    let one: &[usize] = &[0];
+    let rows: [&[usize]; 10] = [
+        &[],
+        one,
+        one,
+        one,
+        one,
+        one,
+        one,
+        one,
+        one,
+        &[1, 2, 3, 4, 5, 6, 7, 8],
+    ];
+    small(alloc, &rows)
+}
+
+#[test]
+fn one_first_node_that_opens_into_eight(rt: HostRuntime) -> Result<(), Fail> {
+    let alloc = rt.alloc();
+    let Some(graph) = fan(alloc)? else {
+        panic!(rt; "no graph")
+    };
+    assert!(rt; found_by_all(&rt, alloc, &graph, &[0, 1, 2, 3, 4, 5, 6, 7, 8, 19]));
+    assert!(rt; meet(&rt, alloc, &graph, 8, 1, 8));
+    Ok(())
+}
+
+#[test]
+fn one_node(rt: HostRuntime) -> Result<(), Fail> {
+    let alloc = rt.alloc();
+    let Some(graph) = apart(alloc, 1)? else {
+        panic!(rt; "no graph")
+    };
+    assert!(rt; found_by_all(&rt, alloc, &graph, &[0]));
+    Ok(())
+}
+
 #[test]
 fn the_empty_graph(rt: HostRuntime) -> Result<(), Fail> {
     let alloc = rt.alloc();
@@ -383,6 +422,16 @@ fn no_more_workers_start_than_there_are_nodes_to_run(rt: HostRuntime) -> Result<
     };
     assert!(rt; ends_in_use(&rt, alloc, &none).is_some_and(|n| n <= 1));
     assert!(rt; ends_in_use(&rt, alloc, &three).is_some_and(|n| n <= 3));
+    Ok(())
+}
+
+#[test]
+fn one_worker_alone_runs_a_chain(rt: HostRuntime) -> Result<(), Fail> {
+    let alloc = rt.alloc();
+    let Some(graph) = chain(alloc, 16)? else {
+        panic!(rt; "no graph")
+    };
+    assert!(rt; ends_in_use(&rt, alloc, &graph) == Some(1));
     Ok(())
 }
 

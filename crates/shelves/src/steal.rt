@@ -294,7 +294,7 @@ impl Shelf for StealShelf {
 }
 
 /// Lets all ends take these nodes, some at once, by one count. The last end has some from the beginning: its
-/// worker begins last, since it starts the threads of the others.
+/// worker begins before the others, or last where it starts their threads at once.
 fn share_all(ends: &mut Vec<StealShelf>, first: &[NodeId], nodes: usize) -> Result<(), AllocError>
     requires { All (λ e. e ≡ nodes) ends.old.items }
     ensures size { vec_len ends.new ≡ vec_len ends.old }

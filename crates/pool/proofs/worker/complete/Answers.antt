@@ -6,8 +6,8 @@ use Rattle.pool.specs.Settled.{IsSound}
 use Rattle.pool.proofs.Settles.{keeps_new, stepped_keeps, sound_keeps, sound_finished}
 use Rattle.pool.proofs.worker.complete.Goals as goal
 
-pub returns-in_ok-deliver_all-in-Ok-clause-pass : goal.returns-in_ok-deliver_all-in-Ok-clause-pass
-returns-in_ok-deliver_all-in-Ok-clause-pass g c =
+pub returns-in_ok-has_more-in-Ok-clause-pass : goal.returns-in_ok-has_more-in-Ok-clause-pass
+returns-in_ok-has_more-in-Ok-clause-pass g c =
     let V : Type 0 = g.row.V.Denot in
     let step = g.A.Analyse.step c.args.site.now.analyse.now in
     let fits = g.A.Analyse.fits c.args.site.now.analyse.now in

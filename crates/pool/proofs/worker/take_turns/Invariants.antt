@@ -1,6 +1,6 @@
 use Rattle.std.proofs.Common.{◌≡◌, length, false}
 use Rattle.pool.specs.Settled.{IsSound}
-use Rattle.pool.proofs.worker.run_worker.Given as goal
+use Rattle.pool.proofs.worker.take_turns.Given as goal
 
 abbrev pub invariant-loop : goal.invariant-loop
 invariant-loop g l = record {
