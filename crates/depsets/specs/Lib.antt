@@ -12,3 +12,4 @@ pub mod Listed
 pub mod Walker
 pub mod Digests
 pub mod Alike
+pub mod Found

@@ -46,3 +46,7 @@ inside pre d s =
 -- The items of the walk that visits no id twice. Of a coherent depset they are its listing.
 abbrev pub walked : Rose Own → List Element
 walked d = (visited (is_preorder (label d).order) d (record { seen = []; items = []; steps = 1 })).items
+
+-- the steps of that walk
+abbrev pub walked_steps : Rose Own → ℕ
+walked_steps d = (visited (is_preorder (label d).order) d (record { seen = []; items = []; steps = 1 })).steps

@@ -69,31 +69,55 @@ impl<'a, T: Eq + Hash> Distinct<'a, T> {
 /// The elements of a listing, each once and where it lies.
 #[derive(Drop)]
 pub struct Elements<'a> {
-    found: Distinct<'a, DigestedElement>,
+    found: Found<'a>,
+}
+
+/// Where the elements of a listing are found.
+#[derive(Drop)]
+enum Found<'a> {
+    /// They are the own elements of a depset.
+    Own(&'a [DigestedElement]),
+    /// A walk has put them together.
+    Walked(Distinct<'a, DigestedElement>),
 }
 
 impl<'a> Model for Elements<'a> {
     ghost use Rattle.std.specs.Prelude.{List};
     ghost use Rattle.depsets.specs.declared.element.Element.{Element};
+    ghost use Rattle.depsets.specs.Found.{elements_found};
 
     ghost Value = { List Element };
 
-    ghost view = { λ e. e.found };
+    ghost view = { λ e. elements_found e.found };
 }
 
 impl<'a> Elements<'a> {
+    /// The own elements of a depset.
+    pub(crate) fn own(own: &'a [DigestedElement]) -> Self
+        ensures { result ≡ own.now }
+    {
+        Elements {
+            found: Found::Own(own),
+        }
+    }
+
     /// These elements.
     pub(crate) fn of(found: Distinct<'a, DigestedElement>) -> Self
         ensures { result ≡ found.entry }
     {
-        Elements { found }
+        Elements {
+            found: Found::Walked(found),
+        }
     }
 
     /// How many there are.
     pub fn len(&self) -> usize
         ensures { result ≡ length self.now }
     {
-        self.found.len()
+        match &self.found {
+            Found::Own(own) => own.len(),
+            Found::Walked(found) => found.len(),
+        }
     }
 
     /// The element at a place.
@@ -101,6 +125,17 @@ impl<'a> Elements<'a> {
         requires { place < length self.now }
         ensures { slice_get self.now place ≡ Some result.now }
     {
-        self.found.at(place).get()
+        match &self.found {
+            Found::Own(own) => own_at(own, place),
+            Found::Walked(found) => found.at(place).get(),
+        }
     }
+}
+
+/// The own element of a depset at a place.
+fn own_at(own: &[DigestedElement], place: usize) -> &Element
+    requires { place < length own.now }
+    ensures { slice_get own.now place ≡ Some result.now }
+{
+    own[place].get()
 }

@@ -10,7 +10,7 @@ ghost use Rattle.depsets.specs.Rose.{children, label, node, roses};
 ghost use Rattle.depsets.specs.Walker.{walk_of};
 ghost use Rattle.depsets.specs.Keys.{keep};
 ghost use Rattle.depsets.specs.Elements.{same_element};
-ghost use Rattle.depsets.specs.Listed.{visited, visited_all, inside, took, same_id, flat, work, walked, IsCoherent};
+ghost use Rattle.depsets.specs.Listed.{visited, visited_all, inside, took, same_id, flat, work, walked, walked_steps, IsCoherent};
 
 use crate::Depset;
 use crate::digest::{DigestedElement, DigestedId};
@@ -55,6 +55,33 @@ impl Depset {
         ensures walk { IfOk result (λ l. l.items ≡ walked self.now) }
         ensures items { IfOk result (λ l. IsCoherent self.now → l.items ≡ flat self.now) }
         ensures steps { IfOk result (λ l. IsCoherent self.now → l.steps ≡ work self.now) }
+    {
+        if let Some(listing) = self.listed_alone() {
+            return Ok(listing);
+        }
+        let listing = self.listed_by_walk(alloc)?;
+        Ok(listing)
+    }
+
+    /// The listing where there is no child and at most one element: then it takes no walk and no memory.
+    fn listed_alone(&self) -> Option<Listing<'_>>
+        ensures items { IfSome result (λ l. l.items ≡ walked self.now) }
+        ensures steps { IfSome result (λ l. l.steps ≡ walked_steps self.now) }
+    {
+        let direct = self.direct();
+        if !self.children().is_empty() || direct.len() > 1 {
+            return None;
+        }
+        Some(Listing {
+            items: Elements::own(direct),
+            steps: 1 + direct.len() as u64,
+        })
+    }
+
+    /// The listing by a walk.
+    fn listed_by_walk(&self, alloc: Global) -> Result<Listing<'_>, AllocError>
+        ensures items { IfOk result (λ l. l.items ≡ walked self.now) }
+        ensures steps { IfOk result (λ l. l.steps ≡ walked_steps self.now) }
     {
         let mut walker = Walker {
             seen: Distinct::new(alloc),

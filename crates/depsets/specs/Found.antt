@@ -1,0 +1,9 @@
+-- The elements of a listing, wherever they are found.
+use Rattle.std.specs.Prelude.{List}
+use Rattle.depsets.specs.declared.element.Element.{Element}
+use Rattle.depsets.specs.declared.distinct.Found.{Found}
+use Rattle.depsets.specs.declared.distinct.Found.TheVariants.{Own, Walked}
+
+abbrev pub elements_found : Found → List Element
+elements_found (Own own) = own.now
+elements_found (Walked found) = found
