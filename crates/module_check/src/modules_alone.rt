@@ -70,7 +70,7 @@ fn fault(alloc: Global, line: usize, kind: &Kind) -> Result<Evaluated> {
     let mut told = format!(in alloc; "{line} evaluation {}", kind.name())?;
     if let Kind::Fail(text) = kind {
         told.push_str(" ")?;
-        put_quoted(&mut told, text.as_str().as_bytes())?;
+        put_quoted(&mut told, text.as_str())?;
     }
     Ok(Evaluated::Fault(told))
 }

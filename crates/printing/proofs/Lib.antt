@@ -1,3 +1,4 @@
 pub mod TextLemmas
 pub mod TreeTextLemmas
 pub mod ReprLemmas
+mod QuotedLemmas

@@ -1,6 +1,6 @@
 -- The text of a value, as a report prints it. Strings, numbers, lists, tuples and dicts are as in Starlark's
 -- specification ("repr"); all other texts are this project's own.
-use Rattle.std.specs.Prelude.{ℕ, zero, suc, ◌+◌, ◌/◌, ◌%◌, ◌==◌, Bool, true, false, List, [], ◌∷◌, ◌++◌, map, if◌then◌else◌, nat_lt, codes}
+use Rattle.std.specs.Prelude.{ℕ, zero, suc, ◌+◌, ◌/◌, ◌%◌, ◌==◌, ◌&&◌, not, Bool, true, false, List, [], ◌∷◌, ◌++◌, map, if◌then◌else◌, nat_lt, codes}
 use Rattle.std.specs.List.{flat_map}
 use Rattle.std.specs.Fmt.{decimal, signed_decimal}
 use Rattle.depsets.specs.Rose.{Rose, label}
@@ -41,6 +41,10 @@ unescaped b = if nat_lt b 128 then b ∷ [] else codes "\\x" ++ hex_digit (b / 1
 abbrev pub escape : ℕ → List ℕ
 escape b =
     if b == 10 then codes "\\n" else (if b == 9 then codes "\\t" else (if b == 92 then codes "\\\\" else (if b == 34 then codes "\\\"" else unescaped b)))
+
+-- whether a byte is written as it stands
+abbrev pub is_bare : ℕ → Bool
+is_bare b = not (b == 10) && not (b == 9) && not (b == 92) && not (b == 34) && nat_lt b 128
 
 -- a string between quotes
 abbrev pub quoted : List ℕ → List ℕ

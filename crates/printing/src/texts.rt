@@ -4,10 +4,11 @@
 //! listing, whose walk skips what it has seen; of a coherent value that is the text of the plain meaning.
 ghost use Rattle.std.specs.Prelude.{◌≡◌, ◌+◌, ◌<◌, ◌++◌, ◌∷◌, [], codes, length, map, string_bytes, IfOk, OnOk};
 ghost use Rattle.std.specs.Fmt.{signed_decimal};
+ghost use Rattle.std.specs.List.{flat_map, list_all};
 ghost use Rattle.depsets.specs.Rose.{label};
 ghost use Rattle.depsets.specs.Listed.{walked};
 ghost use Rattle.values.specs.Leaves.{built_in_text};
-ghost use Rattle.printing.specs.Texts.{hex_digit, unescaped, escape, quoted, separator, joined, truth_text, file_text, export_text, exported_text, provider_text, order_text, attribute_text, object_text, element_text, leaf_text, key_text, field_head, tuple_end};
+ghost use Rattle.printing.specs.Texts.{hex_digit, unescaped, escape, is_bare, quoted, separator, joined, truth_text, file_text, export_text, exported_text, provider_text, order_text, attribute_text, object_text, element_text, leaf_text, key_text, field_head, tuple_end};
 
 use depsets::Elements;
 use plain::Text;
@@ -55,14 +56,49 @@ fn put_byte(out: &mut String, byte: u8) -> Result<(), AllocError>
     Ok(())
 }
 
-/// Appends a string between quotes.
-pub fn put_quoted(out: &mut String, text: &[u8]) -> Result<(), AllocError>
-    ensures { OnOk result (string_bytes out.new ≡ string_bytes out.old ++ quoted text.now) }
+/// Whether a byte is written as it stands.
+fn is_bare(byte: u8) -> bool
+    ensures { result ≡ is_bare byte }
 {
-    out.push_str("\"")?;
+    byte != b'\n' && byte != b'\t' && byte != b'\\' && byte != b'"' && byte < 128
+}
+
+/// Whether every byte is written as it stands.
+fn are_bare(text: &[u8]) -> bool
+    ensures { result ≡ list_all is_bare text.now }
+{
+    text.iter().all(|byte| is_bare(*byte))
+}
+
+/// Appends bytes, each escaped.
+fn put_escaped(out: &mut String, text: &[u8]) -> Result<(), AllocError>
+    ensures { OnOk result (string_bytes out.new
+        ≡ string_bytes out.old ++ flat_map escape text.now) }
+{
     for byte in text {
         put_byte(out, *byte)?;
     }
+    Ok(())
+}
+
+/// Appends a string, escaped. Mostly it is written as it stands, and then all at once.
+fn put_unquoted(out: &mut String, text: &str) -> Result<(), AllocError>
+    ensures { OnOk result (string_bytes out.new
+        ≡ string_bytes out.old ++ flat_map escape text.now) }
+{
+    if !are_bare(text.as_bytes()) {
+        return put_escaped(out, text.as_bytes());
+    }
+    out.push_str(text)?;
+    Ok(())
+}
+
+/// Appends a string between quotes.
+pub fn put_quoted(out: &mut String, text: &str) -> Result<(), AllocError>
+    ensures { OnOk result (string_bytes out.new ≡ string_bytes out.old ++ quoted text.now) }
+{
+    out.push_str("\"")?;
+    put_unquoted(out, text)?;
     out.push_str("\"")?;
     Ok(())
 }
@@ -228,7 +264,7 @@ fn put_element(out: &mut String, element: &Element) -> Result<(), AllocError>
         ≡ string_bytes out.old ++ element_text element.now) }
 {
     match element {
-        Element::Text(text) => put_quoted(out, text.as_str().as_bytes())?,
+        Element::Text(text) => put_quoted(out, text.as_str())?,
         Element::Number(number) => put_number(out, *number)?,
         Element::Truth(truth) => put_truth(out, *truth)?,
         Element::Label(text) => out.push_str(text.as_str())?,
@@ -299,7 +335,7 @@ pub(crate) fn put_key(out: &mut String, key: &Key) -> Result<(), AllocError>
     ensures { OnOk result (string_bytes out.new ≡ string_bytes out.old ++ key_text key.now) }
 {
     match key {
-        Key::Text(text) => put_quoted(out, text.as_str().as_bytes())?,
+        Key::Text(text) => put_quoted(out, text.as_str())?,
         Key::Number(number) => put_number(out, *number)?,
         Key::Truth(truth) => put_truth(out, *truth)?,
     }

@@ -43,7 +43,7 @@ fn put_content(out: &mut String, content: &Option<Text>) -> Result<(), AllocErro
 {
     if let Some(text) = content {
         out.push_str(" content ")?;
-        put_quoted(out, text.as_str().as_bytes())?;
+        put_quoted(out, text.as_str())?;
     }
     Ok(())
 }

@@ -24,7 +24,7 @@ pub(crate) fn put_kind(out: &mut String, kind: &Kind) -> Result<(), AllocError>
     match kind {
         Kind::Fail(text) => {
             out.push_str("fail ")?;
-            put_quoted(out, text.as_str().as_bytes())?;
+            put_quoted(out, text.as_str())?;
         }
         other => out.push_str(other.name())?,
     }

@@ -16,7 +16,7 @@ fn put_string_at(out: &mut String, place: usize, text: &str) -> Result<(), Alloc
         ≡ string_bytes out.old ++ (separator place ++ quoted text.now)) }
 {
     put_separator(out, place)?;
-    put_quoted(out, text.as_bytes())?;
+    put_quoted(out, text)?;
     Ok(())
 }
 

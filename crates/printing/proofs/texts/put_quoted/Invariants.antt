@@ -1,6 +1,0 @@
-use Rattle.std.proofs.Common.{◌≡◌, ◌++◌, ◌∷◌, take, string_bytes, flat_map}
-use Rattle.printing.specs.Texts.{escape}
-use Rattle.printing.proofs.texts.put_quoted.Given as goal
-
-abbrev pub invariant-loop-byte : goal.invariant-loop-byte
-invariant-loop-byte l = string_bytes l.out ≡ string_bytes l.fn.out ++ (34 ∷ flat_map escape (take l.byte-index l.text))
