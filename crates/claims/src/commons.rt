@@ -82,10 +82,12 @@ impl Gatherer {
         ensures path { OnOk result (self.new.path ≡ self.old.path) }
         ensures members { OnOk result (self.new.members ≡ []) }
     {
-        let members = mem::replace(&mut self.members, Members::new(alloc));
-        if members.len() > 1 {
+        if self.members.len() > 1 {
+            let members = mem::replace(&mut self.members, Members::new(alloc));
             let path = self.path.share()?;
             self.found.push(Common { path, members })?;
+        } else {
+            self.members.clear();
         }
         Ok(())
     }

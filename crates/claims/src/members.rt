@@ -61,6 +61,13 @@ impl Members {
         Ok(())
     }
 
+    /// None from now on.
+    pub(crate) fn clear(&mut self)
+        ensures { self.new ≡ [] }
+    {
+        self.items.clear();
+    }
+
     /// Puts them in order, by label and then by place.
     pub(crate) fn sort(&mut self) -> Result<(), AllocError>
         ensures { OnOk result (IsSorting self.old self.new) }

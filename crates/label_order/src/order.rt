@@ -63,7 +63,7 @@ pub fn by_label(alloc: Global, graph: &Graph) -> Result<Vec<Entry<'_>>, AllocErr
         → AreInOrder graph.now.labels (map entry_seen v.items)) }
 {
     let mut keyed = numbered(alloc, graph)?;
-    keyed.sort_unstable();
+    keyed.sort()?;
     let entries = entries_of(alloc, &keyed)?;
     Ok(entries)
 }

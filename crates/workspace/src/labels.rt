@@ -83,12 +83,26 @@ pub fn is_label(package: &str, name: &str) -> bool
         && (package.is_empty() || is_path(package) && package.len() + name.len() < PATH_LIMIT)
 }
 
+/// The text `//PACKAGE:NAME`.
+fn label_text(alloc: Global, package: &str, name: &str) -> Result<Text, AllocError>
+    ensures { IfOk result
+        (λ t. t ≡ label_text (record { «package» = «package».now; name = name.now })) }
+{
+    let length = package.len().saturating_add(name.len()).saturating_add(3);
+    let mut text = String::with_capacity(alloc, length)?;
+    text.push_str("//")?;
+    text.push_str(package)?;
+    text.push_str(":")?;
+    text.push_str(name)?;
+    Text::from_string(text)
+}
+
 /// The label of a package and a name that make one.
 pub fn label_with(alloc: Global, package: &str, name: &str) -> Result<Label, AllocError>
     requires { is_label (record { «package» = «package».now; name = name.now }) ≡ true }
     ensures { IfOk result (λ l. l ≡ record { «package» = «package».now; name = name.now }) }
 {
-    let text = Text::from_string(format!(in alloc; "//{package}:{name}")?)?;
+    let text = label_text(alloc, package, name)?;
     let size = package.len();
     Ok(Label { text, size })
 }

@@ -31,10 +31,19 @@ fn is_segment(segment: &str) -> bool
     !segment.is_empty() && !is_dots(segment) && are_segment_bytes(segment.as_bytes())
 }
 
-fn are_segments(text: &str) -> bool
+/// Whether each part of a text that is cut at its slashes is a segment.
+fn are_parts_segments(text: &str) -> bool
     ensures { result ≡ are_segments text.now }
 {
     text.split('/').all(|segment| is_segment(segment))
+}
+
+/// Whether each part between slashes is a segment. A text that is one, as most names are, isn't cut.
+#[tactic(auto, using(crate::proofs::PathLemmas::one_segment))]
+fn are_segments(text: &str) -> bool
+    ensures { result ≡ are_segments text.now }
+{
+    is_segment(text) || are_parts_segments(text)
 }
 
 /// Whether a text is a path: segments with `/` between them, of at most [`PATH_LIMIT`] bytes in all.

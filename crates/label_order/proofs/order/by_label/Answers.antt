@@ -4,10 +4,10 @@ use Rattle.label_order.proofs.order.by_label.Goals as goal
 
 pub returns-clause-numbers : goal.returns-clause-numbers
 returns-clause-numbers c =
-    keyed_within c.args.graph.now.labels c.in_ok-keyed.keyed.items c.sort_unstable.new.self.items c.in_ok-entries.entries.items c.in_ok-keyed.ensures.entries c.in_ok-keyed.ensures.keyed
-    c.sort_unstable.ensures.permutation (c.in_ok-entries.ensures ∙ ap (map entry_of) c.deref.ensures.value)
+    keyed_within c.args.graph.now.labels c.in_ok-keyed.keyed.items c.sort.new.self.items c.in_ok-entries.entries.items c.in_ok-keyed.ensures.entries c.in_ok-keyed.ensures.keyed
+    c.in_ok-sort.ensures.permutation (c.in_ok-entries.ensures ∙ ap (map entry_of) c.deref.ensures.value)
 
 pub returns-clause-order : goal.returns-clause-order
 returns-clause-order c apart =
-    keyed_in_order c.args.graph.now.labels c.in_ok-keyed.keyed.items c.sort_unstable.new.self.items c.in_ok-entries.entries.items c.in_ok-keyed.ensures.entries c.in_ok-keyed.ensures.keyed
-    c.sort_unstable.ensures.permutation (c.in_ok-entries.ensures ∙ ap (map entry_of) c.deref.ensures.value) c.sort_unstable.ensures.sorted apart
+    keyed_in_order c.args.graph.now.labels c.in_ok-keyed.keyed.items c.sort.new.self.items c.in_ok-entries.entries.items c.in_ok-keyed.ensures.entries c.in_ok-keyed.ensures.keyed
+    c.in_ok-sort.ensures.permutation (c.in_ok-entries.ensures ∙ ap (map entry_of) c.deref.ensures.value) c.in_ok-sort.ensures.sorted apart

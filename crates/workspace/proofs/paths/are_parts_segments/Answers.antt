@@ -2,7 +2,7 @@ use Rattle.std.proofs.Common.{lit<, rules, tests}
 use Rattle.std.proofs.lemmas.Iterator.Search.{all_from_yields_List}
 use Rattle.std.proofs.lemmas.Iterator.Splits.{YieldsList-from_str_split}
 use Rattle.workspace.specs.Paths.{are_segments, is_segment}
-use Rattle.workspace.proofs.paths.are_segments.Goals as goal
+use Rattle.workspace.proofs.paths.are_parts_segments.Goals as goal
 
 pub returns : goal.returns
 unfolding are_segments
