@@ -25,6 +25,20 @@ pub enum Cell {
     Instance(Shared<Provider>, Fields),
 }
 
+/// Puts an item last. Where room was taken for it before, it looks for no more. After a refusal of memory all is as it was.
+#[inline(always)]
+pub fn push_last<T: Drop>(items: &mut Vec<T>, item: T) -> Result<(), AllocError>
+    ensures ok { OnOk result (items.new.items ≡ items.old.items ++ item ∷ []) }
+    ensures err { OnErr result (items.new.items ≡ items.old.items) }
+{
+    if items.len() < items.capacity() {
+        items.push_reserved(item);
+    } else {
+        items.push(item)?;
+    }
+    Ok(())
+}
+
 /// The items of a list or a tuple.
 #[derive(Drop)]
 pub struct Items {
@@ -101,8 +115,7 @@ impl Items {
         ensures ok { OnOk result (self.new ≡ self.old ++ value ∷ []) }
         ensures err { OnErr result (self.new ≡ self.old) }
     {
-        self.items.push(value)?;
-        Ok(())
+        push_last(&mut self.items, value)
     }
 }
 
@@ -149,8 +162,7 @@ impl Fields {
         ensures ok { OnOk result (self.new ≡ self.old ++ value ∷ []) }
         ensures err { OnErr result (self.new ≡ self.old) }
     {
-        self.fields.push(value)?;
-        Ok(())
+        push_last(&mut self.fields, value)
     }
 
     /// Sets the value of the field at a place.
@@ -270,6 +282,7 @@ impl Clone for Entries {
 }
 
 impl Drop for Cell {
+    #[inline(always)]
     fn drop(self) {
         match self {
             Cell::List(_, _) => {}

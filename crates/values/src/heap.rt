@@ -13,7 +13,7 @@ ghost use Rattle.std.specs.Prelude.{Result};
 
 use crate::{
     Broken, Cell, Entries, Fields, HeldEntries, HeldItems, Items, Key, Kind, LARGEST, Provider,
-    Value, Walked,
+    Value, Walked, push_last,
 };
 use plain::Shared;
 use std::alloc::{AllocError, Global};
@@ -101,6 +101,7 @@ impl Heap {
     }
 
     /// A new instance of the provider in the next cell, with its fields by place.
+    #[inline(always)]
     pub fn new_instance(
         &mut self,
         provider: Shared<Provider>,
@@ -114,6 +115,7 @@ impl Heap {
     }
 
     /// A new cell of so many parts.
+    #[inline(always)]
     fn add(&mut self, cell: Cell, parts: usize) -> Result<Value, Broken>
         ensures { MatchResult result (λ v. made self.old cell parts ≡ Ok (v, self.new))
             (λ e. (self.new ≡ self.old) × FaultOr (made self.old cell parts) e) }
@@ -122,7 +124,7 @@ impl Heap {
             return Err(Broken::Kind(Kind::Large));
         }
         let number = self.cells.len();
-        match self.cells.push(cell) {
+        match push_last(&mut self.cells, cell) {
             Ok(()) => Ok(Value::Cell(number)),
             Err(_) => Err(Broken::NoMemory),
         }

@@ -1,6 +1,7 @@
 //! Times what an analysis does most with values: a listing of many depsets over many elements, freezing small lists,
 //! comparing pairs, dicts with many string keys, what calls do with functions, strings and instances, and what turns of loops do.
-//! Without the word `time` it prints what was done alone, which never changes.
+//! Without the word `time` it prints what was done alone, which never changes. With `time PART` it does that part alone, one of
+//! those of [`Part`].
 #![tactic(auto)]
 
 mod rows;
@@ -329,14 +330,64 @@ fn all_instances<R: Print + Clock>(rt: &R, alloc: Global, timed: bool) -> Result
     Ok(())
 }
 
+/// The parts of the program, each with its rows.
+#[derive(Clone, Copy)]
+enum Part {
+    Depsets,
+    Lists,
+    Dicts,
+    SmallDict,
+    Small,
+    Instances,
+    Turns,
+}
+
+impl Part {
+    const ALL: [Part; 7] = [
+        Part::Depsets,
+        Part::Lists,
+        Part::Dicts,
+        Part::SmallDict,
+        Part::Small,
+        Part::Instances,
+        Part::Turns,
+    ];
+
+    fn name(self) -> &'static str {
+        match self {
+            Part::Depsets => "depsets",
+            Part::Lists => "lists",
+            Part::Dicts => "dicts",
+            Part::SmallDict => "small_dict",
+            Part::Small => "small",
+            Part::Instances => "instances",
+            Part::Turns => "turns",
+        }
+    }
+}
+
+/// Does a part and prints its rows.
+fn run<R: Print + Clock>(rt: &R, alloc: Global, part: Part, timed: bool) -> Result<()> {
+    match part {
+        Part::Depsets => depsets(rt, alloc, timed),
+        Part::Lists => lists(rt, alloc, timed),
+        Part::Dicts => dicts(rt, alloc, timed),
+        Part::SmallDict => small_dict(rt, alloc, timed),
+        Part::Small => small(rt, alloc, timed),
+        Part::Instances => all_instances(rt, alloc, timed),
+        Part::Turns => turns(rt, alloc, timed),
+    }
+}
+
 fn main(rt: HostRuntime) -> Result<()> {
-    let timed = env::args(&rt)?.count() > 1;
     let alloc = rt.alloc();
-    depsets(&rt, alloc, timed)?;
-    lists(&rt, alloc, timed)?;
-    dicts(&rt, alloc, timed)?;
-    small_dict(&rt, alloc, timed)?;
-    small(&rt, alloc, timed)?;
-    all_instances(&rt, alloc, timed)?;
-    turns(&rt, alloc, timed)
+    let words: Vec<String> = env::args(&rt)?.collect(alloc)?;
+    let timed = words.len() > 1;
+    let named = words.get(2).map(|word| word.as_str());
+    for part in Part::ALL {
+        if named.is_none_or(|name| name == part.name()) {
+            run(&rt, alloc, part, timed)?;
+        }
+    }
+    Ok(())
 }

@@ -2,7 +2,7 @@
 //!
 //! Each cell becomes one counted node. What is frozen already is visited again, which costs its ticks, and
 //! is then shared by a count: nothing of it is copied.
-ghost use Rattle.std.specs.Prelude.{◌≡◌, ◌<◌, ◌++◌, ◌∷◌, [], Ok, Some, OnOk, MatchResult, length, slice_get};
+ghost use Rattle.std.specs.Prelude.{◌≡◌, ◌<◌, Ok, Some, MatchResult, length, slice_get};
 ghost use Rattle.values.specs.Ticking.{Says, FaultOr, after_tick, with_count, entered};
 ghost use Rattle.values.specs.Visits.{all_of};
 ghost use Rattle.values.specs.Seeing.{item_value};
@@ -13,10 +13,10 @@ ghost use Rattle.visits.specs.Freeze.{freeze_at, built, frozen_leaf, frozen_entr
 use crate::revisit::{freeze_branch, freeze_tree};
 use indexmap::IndexSet;
 use plain::Shared;
-use std::alloc::{AllocError, Global};
+use std::alloc::Global;
 use values::{
     Branch, Broken, Cell, Entries, Frozen, Heap, Item, Key, Kind, Leaf, Provider, Ticks,
-    VISITED_LEVELS, Value,
+    VISITED_LEVELS, Value, push_last,
 };
 
 /// The tree of a value. Each value that is visited costs a tick, one that is frozen already too.
@@ -25,6 +25,7 @@ use values::{
 ///
 /// `steps` at the tick past the limit; `deep` at a value at depth 65; `type` at a target, `attr`, `ctx` or a
 /// part of it; each value is tested in this order. After a `Broken` the ticks are open.
+#[inline(always)]
 pub fn freeze(
     alloc: Global,
     item: Item<'_>,
@@ -74,19 +75,6 @@ fn freeze_leaf(left: u32, leaf: &Leaf, ticks: &mut Ticks) -> Result<Frozen, Brok
     leaf_tree(leaf)
 }
 
-/// Puts a frozen value last. Where room was taken for it before, that takes no look for more.
-#[inline(always)]
-fn keep(kept: &mut Vec<Frozen>, tree: Frozen) -> Result<(), AllocError>
-    ensures { OnOk result (kept.new.items ≡ kept.old.items ++ tree ∷ []) }
-{
-    if kept.len() < kept.capacity() {
-        kept.push_reserved(tree);
-    } else {
-        kept.push(tree)?;
-    }
-    Ok(())
-}
-
 /// The value at a place.
 #[inline(always)]
 fn value_at(values: &[Value], place: usize) -> &Value
@@ -103,19 +91,6 @@ fn slot_at(slots: &[Option<Value>], place: usize) -> &Option<Value>
     ensures { slice_get slots.now place ≡ Some result.now }
 {
     &slots[place]
-}
-
-/// Puts what a field has last, likewise.
-#[inline(always)]
-fn keep_slot(kept: &mut Vec<Option<Frozen>>, tree: Option<Frozen>) -> Result<(), AllocError>
-    ensures { OnOk result (kept.new.items ≡ kept.old.items ++ tree ∷ []) }
-{
-    if kept.len() < kept.capacity() {
-        kept.push_reserved(tree);
-    } else {
-        kept.push(tree)?;
-    }
-    Ok(())
 }
 
 /// A frozen list of these items.
@@ -254,7 +229,7 @@ fn freeze_all(
     let mut kept = Vec::with_capacity(alloc, values.len())?;
     for i in 0..values.len() {
         match freeze_within(alloc, left, value_at(values, i), heap, ticks) {
-            Ok(tree) => keep(&mut kept, tree)?,
+            Ok(tree) => push_last(&mut kept, tree)?,
             Err(broken) => return Err(broken),
         }
     }
@@ -281,7 +256,7 @@ fn freeze_entries(
             return Ok(kept);
         };
         match freeze_entry(alloc, left, value, heap, ticks) {
-            Ok(tree) => keep(&mut kept, tree)?,
+            Ok(tree) => push_last(&mut kept, tree)?,
             Err(broken) => return Err(broken),
         }
     }
@@ -320,7 +295,7 @@ fn freeze_slots(
     let mut kept = Vec::with_capacity(alloc, fields.len())?;
     for i in 0..fields.len() {
         match freeze_slot(alloc, left, slot_at(fields, i), heap, ticks) {
-            Ok(tree) => keep_slot(&mut kept, tree)?,
+            Ok(tree) => push_last(&mut kept, tree)?,
             Err(broken) => return Err(broken),
         }
     }

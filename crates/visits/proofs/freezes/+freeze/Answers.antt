@@ -65,7 +65,7 @@ freeze_all-returns-in-Err t c =
 
 pub freeze_all-loop-i-preserved : goal.freeze_all-loop-i-preserved
 freeze_all-loop-i-preserved t c =
-    ap (λ l. with_done l (all_of (freeze_at c.args.left c.args.heap.now) (drop (c.loop-i.i + 1) c.args.values.now) c.freeze_within.new.ticks)) c.in_ok-keep-in-Ok.ensures
+    ap (λ l. with_done l (all_of (freeze_at c.args.left c.args.heap.now) (drop (c.loop-i.i + 1) c.args.values.now) c.freeze_within.new.ticks)) c.in_ok-push_last-in-Ok.ensures.ok
     ∙ all_of-next (freeze_at c.args.left c.args.heap.now) c.args.values.now c.loop-i.i c.value_at.result.now c.value_at.ensures
     c.loop-i.kept.items c.loop-i.ticks c.in-Ok.tree c.freeze_within.new.ticks c.in-Ok.ensures
     ∙ c.loop-i.invariant
@@ -79,7 +79,7 @@ freeze_entries-returns-in-Err t c =
 pub freeze_entries-loop-i-preserved : goal.freeze_entries-loop-i-preserved
 freeze_entries-loop-i-preserved t c =
     let entry = frozen_entry (entered c.args.left) (freeze_at c.args.left c.args.heap.now) in
-    ap (λ l. with_done l (all_of entry (drop (c.loop-i.i + 1) c.args.entries.now) c.freeze_entry.new.ticks)) c.in_ok-keep-in-Ok.ensures
+    ap (λ l. with_done l (all_of entry (drop (c.loop-i.i + 1) c.args.entries.now) c.freeze_entry.new.ticks)) c.in_ok-push_last-in-Ok.ensures.ok
     ∙ all_of-next entry c.args.entries.now c.loop-i.i (c.in-Some.field-0-0.now, c.in-Some.value.now) c.in-Some.ensures
     c.loop-i.kept.items c.loop-i.ticks c.in-Ok.tree c.freeze_entry.new.ticks c.in-Ok.ensures
     ∙ c.loop-i.invariant
@@ -99,7 +99,7 @@ freeze_slots-returns-in-Err t c =
 
 pub freeze_slots-loop-i-preserved : goal.freeze_slots-loop-i-preserved
 freeze_slots-loop-i-preserved t c =
-    ap (λ l. with_done l (all_of (frozen_slot (freeze_at c.args.left c.args.heap.now)) (drop (c.loop-i.i + 1) c.args.fields.now) c.freeze_slot.new.ticks)) c.in_ok-keep_slot-in-Ok.ensures
+    ap (λ l. with_done l (all_of (frozen_slot (freeze_at c.args.left c.args.heap.now)) (drop (c.loop-i.i + 1) c.args.fields.now) c.freeze_slot.new.ticks)) c.in_ok-push_last-in-Ok.ensures.ok
     ∙ all_of-next (frozen_slot (freeze_at c.args.left c.args.heap.now)) c.args.fields.now c.loop-i.i c.slot_at.result.now c.slot_at.ensures
     c.loop-i.kept.items c.loop-i.ticks c.in-Ok.tree c.freeze_slot.new.ticks c.in-Ok.ensures
     ∙ c.loop-i.invariant
