@@ -161,7 +161,7 @@ fn load(alloc: Global, scope: &Scope, path: &Text, items: &[Item]) -> Result<Sta
 fn param_names(alloc: Global, params: &[Param]) -> Result<Vec<Text>, AllocError>
     ensures { IfOk result (λ v. v.items ≡ map param_name (map param_of params.now)) }
 {
-    let mut names = Vec::new(alloc);
+    let mut names = Vec::with_capacity(alloc, params.len())?;
     add_params(&mut names, params)?;
     Ok(names)
 }

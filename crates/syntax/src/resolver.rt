@@ -66,7 +66,7 @@ pub(crate) fn bindings(
 ) -> Result<Vec<Binding>, AllocError>
     ensures { IfOk result (λ v. v.items ≡ map (binding_of scope.now) (first.now ∷ others.now)) }
 {
-    let mut found = Vec::new(alloc);
+    let mut found = Vec::with_capacity(alloc, others.len() + 1)?;
     found.push(scope.binding(first))?;
     for other in others {
         found.push(scope.binding(other))?;
@@ -403,7 +403,7 @@ impl<F: Fn(Global, &mut Scope, &Expr, usize) -> Result<Term, Unresolved>> Resolv
             → Gives (λ v. view.rounds v.items) (λ t. others_scoped t (rests clauses.now))
             (λ t. resolved.rounds s t (rests clauses.now)) scope.old result scope.new }
     {
-        let mut found = Vec::new(self.alloc);
+        let mut found = Vec::with_capacity(self.alloc, clauses.len())?;
         if let Some(value) = first {
             if let Some((clause, others)) = split(clauses) {
                 let made = round(self.alloc, scope, clause, Box::into_inner(value))?;

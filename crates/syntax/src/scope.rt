@@ -48,7 +48,7 @@ pub(crate) fn none_predeclared(names: &[Text]) -> bool
 fn once(alloc: Global, names: &[Text]) -> Result<IndexSet<Text>, AllocError>
     ensures { IfOk result (λ s. s.keys ≡ once names.now) }
 {
-    let mut set = IndexSet::new(alloc);
+    let mut set = IndexSet::with_capacity(alloc, names.len())?;
     for name in names {
         set.insert(name.share()?)?;
     }
@@ -74,7 +74,7 @@ pub(crate) fn bind_anew(before: &mut IndexSet<Text>, names: &[Text]) -> Result<b
 pub(crate) fn are_distinct(alloc: Global, names: &[Text]) -> Result<bool, AllocError>
     ensures { IfOk result (λ b. b ≡ distinct names.now) }
 {
-    let mut before = IndexSet::new(alloc);
+    let mut before = IndexSet::with_capacity(alloc, names.len())?;
     let told = bind_anew(&mut before, names)?;
     Ok(told)
 }

@@ -5,7 +5,7 @@ use Rattle.syntax.proofs.scope.are_distinct.Goals as goal
 
 pub returns : goal.returns
 returns c =
-    let e = c.new-before.ensures.empty in
+    let e = c.in_ok-before.ensures.empty in
     c.in_ok-told.ensures.new
     ∙ ap (λ k. distinct c.args.names.now && apart c.args.names.now k) e
     ∙ distinct_alone c.args.names.now
