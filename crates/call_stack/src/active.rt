@@ -8,15 +8,18 @@ ghost use Rattle.frames.specs.Answers.{id_seen};
 ghost use Rattle.call_stack.specs.ActiveView.{ids_seen};
 
 use frames::{Frame, FunctionId, Stack};
+use operands::Operand;
 use std::alloc::{AllocError, Global};
 use std::marker::Model;
+use std::mem::replace;
 
 /// The functions that are active; the list that a clause sees has the innermost first. The frames of those that have ended
-/// stand beside them, so that the next call takes their memory.
+/// stand beside them, and a stack for arguments, so that the next call takes their memory.
 #[derive(Drop)]
 pub struct Active<'a, T> {
     functions: Vec<FunctionId>,
     ended: Stack<Box<Frame<'a, T>>>,
+    arguments: Stack<Operand<'a>>,
 }
 
 impl<'a, T> Model for Active<'a, T> {
@@ -44,6 +47,7 @@ impl<'a, T: Drop> Active<'a, T> {
         Active {
             functions: Vec::new(alloc),
             ended: Stack::new(alloc),
+            arguments: Stack::new(alloc),
         }
     }
 
@@ -89,6 +93,27 @@ impl<'a, T: Drop> Active<'a, T> {
             Some(frame) => Ok(frame),
             None => Ok(Box::new(alloc, Frame::new(alloc))?),
         }
+    }
+
+    /// A stack without items for the arguments of the next call. That the kept one has none isn't known here, so it is emptied.
+    #[inline(always)]
+    pub(crate) fn spare_arguments(&mut self, alloc: Global) -> Stack<Operand<'a>>
+        ensures none { result ≡ [] }
+        ensures same { self.new ≡ self.old }
+    {
+        let mut arguments = replace(&mut self.arguments, Stack::new(alloc));
+        arguments.clear();
+        arguments
+    }
+
+    /// The memory of the arguments of a call is kept for the next one.
+    #[inline(always)]
+    pub(crate) fn keep_arguments(&mut self, arguments: Stack<Operand<'a>>)
+        ensures { self.new ≡ self.old }
+    {
+        let mut arguments = arguments;
+        arguments.clear();
+        let _taken = replace(&mut self.arguments, arguments);
     }
 
     /// What is in the frame of a function that has ended is let go, and its memory is kept for the next call, unless memory for

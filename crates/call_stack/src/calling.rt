@@ -109,6 +109,7 @@ pub fn call_function<'a, W: Operate<'a>>(
         names,
         named,
     } = arguments;
+    let mut items = items;
     let mut frame = active.spare(world.alloc())?;
     let defaults = world.defaults(state, function);
     let kept = &mut *frame;
@@ -117,10 +118,11 @@ pub fn call_function<'a, W: Operate<'a>>(
         code.params(),
         code.slots(),
         defaults,
-        items,
+        &mut items,
         names,
         named,
     )?;
+    active.keep_arguments(items);
     if !fits {
         return Err(refused(world, Refusal::Arity, place.file, place.line));
     }

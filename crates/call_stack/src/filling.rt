@@ -112,16 +112,15 @@ fn fill<'a>(
     slots: &mut Slots<'a>,
     params: &[Text],
     defaults: Defaults<'a, '_>,
-    items: Stack<Operand<'a>>,
+    items: &mut Stack<Operand<'a>>,
     names: &[Text],
     named: &[Operand<'a>],
 ) -> Result<bool, AllocError>
     requires { slots.old ≡ [] }
     ensures { IfOk result (λ fits. fitting fits slots.new
-        ≡ filled params.now items.entry (paired names.now named.now)
+        ≡ filled params.now items.old (paired names.now named.now)
         (defaults_of params.now (defaults_seen defaults.entry))) }
 {
-    let mut items = items;
     let without = params.len().saturating_sub(defaults.len());
     for (index, param) in params.iter().enumerate() {
         let default = default_of(defaults, without, index);
@@ -163,12 +162,12 @@ pub(crate) fn slots_at_entry<'a>(
     params: &[Text],
     count: usize,
     defaults: Defaults<'a, '_>,
-    items: Stack<Operand<'a>>,
+    items: &mut Stack<Operand<'a>>,
     names: &[Text],
     named: Stack<Operand<'a>>,
 ) -> Result<bool, AllocError>
     ensures { IfOk result (λ fits. fitting fits slots.new ≡ entry params.now count
-        (defaults_seen defaults.entry) (given items.entry names.now named.entry)) }
+        (defaults_seen defaults.entry) (given items.old names.now named.entry)) }
 {
     let named = named.into_vec();
     if !are_known(params, names, named.as_slice()) {

@@ -48,8 +48,10 @@ fn take_call<'a, W: Operate<'a>>(
     names: &'a [Text],
     values: &mut Stack<Operand<'a>>,
     callees: &mut Stack<Callee<'a>>,
+    active: &mut Active<'a, W::Walk>,
 ) -> Result<Option<Asked<'a>>, AllocError>
-    ensures { (go : Calling W.State) → IfOk result (λ o. machine.pops (length names.now) []
+    ensures same { active.new ≡ active.old }
+    ensures asks { (go : Calling W.State) → IfOk result (λ o. machine.pops (length names.now) []
         values.old
         (λ ws os. machine.pops count [] os (λ vs os. machine.on_top (map callee_seen callees.old)
         (λ g gs. go g (record { items = vs; named = paired names.now ws }) os gs)))
@@ -59,7 +61,7 @@ fn take_call<'a, W: Operate<'a>>(
     if !take(names.len(), values, &mut named)? {
         return Ok(None);
     }
-    let mut items = Stack::new(world.alloc());
+    let mut items = active.spare_arguments(world.alloc());
     if !take(count, values, &mut items)? {
         return Ok(None);
     }
@@ -206,7 +208,15 @@ pub fn call_with<'a, W: Operate<'a>>(
         result r.new state.new }
 {
     let top = &mut *r.top;
-    let Some(asked) = take_call(world, count, names, &mut top.values, &mut top.callees)? else {
+    let asked = take_call(
+        world,
+        count,
+        names,
+        &mut top.values,
+        &mut top.callees,
+        &mut r.active,
+    )?;
+    let Some(asked) = asked else {
         return Ok(Step::Stuck);
     };
     top.place += 1;

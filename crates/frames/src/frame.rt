@@ -54,10 +54,19 @@ impl<'a, T: Drop> Frame<'a, T> {
         ensures { (rest : T → List held.Value) → seen rest result
             ≡ frame_of (id_seen result.function) [] }
     {
+        Frame::with_slots(alloc, Slots::new(alloc))
+    }
+
+    /// A frame with these slots, in which nothing else is, and which takes no other memory yet.
+    pub fn with_slots(alloc: Global, slots: Slots<'a>) -> Frame<'a, T>
+        ensures whole { (rest : T → List held.Value) → seen rest result
+            ≡ frame_of (id_seen result.function) slots.entry }
+        ensures slots { result.slots ≡ slots.entry }
+    {
         Frame {
             function: FunctionId { file: 0, number: 0 },
             place: 0,
-            slots: Slots::new(alloc),
+            slots,
             values: Stack::new(alloc),
             callees: Stack::new(alloc),
             walk: None,

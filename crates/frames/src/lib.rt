@@ -8,6 +8,7 @@
 mod calling;
 mod defaults;
 mod displays;
+mod emptying;
 mod frame;
 mod items;
 mod jumps;

@@ -4,7 +4,7 @@ ghost use Rattle.std.specs.Prelude.{◌≡◌, ◌<◌, ◌-◌, [], ◌∷◌, 
 ghost use Rattle.meaning.specs.Outcome.{put, cleared};
 ghost use Rattle.values.specs.declared.value.Value as held;
 
-use crate::stack::KEPT;
+use crate::emptying::empty;
 use operands::Operand;
 use std::alloc::{AllocError, Global};
 use std::marker::Model;
@@ -38,15 +38,11 @@ impl<'a> Slots<'a> {
     }
 
     /// Lets all slots go; the memory of 1,024 at most is kept for others.
+    #[inline(always)]
     pub fn let_go(&mut self)
         ensures { self.new ≡ [] }
     {
-        if self.items.len() > 0 {
-            self.items.clear();
-        }
-        if self.items.capacity() > KEPT {
-            self.items.shrink_to(KEPT);
-        }
+        empty(&mut self.items);
     }
 
     /// Memory for so many slots more.

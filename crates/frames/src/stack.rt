@@ -2,11 +2,9 @@
 
 ghost use Rattle.std.specs.Prelude.{◌≡◌, List, [], ◌∷◌, length, IfOk, MatchOption};
 
+use crate::emptying::empty;
 use std::alloc::{AllocError, Global};
 use std::marker::Model;
-
-/// For so many items the memory is kept where a list is used again.
-pub(crate) const KEPT: usize = 1024;
 
 /// A stack; the list that a clause sees has its top first.
 #[derive(Drop)]
@@ -77,17 +75,13 @@ impl<T> Stack<T> {
     }
 
     /// Lets all items go; the memory of 1,024 at most is kept for others.
+    #[inline(always)]
     pub fn clear(&mut self)
     where
         T: Drop,
         ensures { self.new ≡ [] }
     {
-        if self.items.len() > 0 {
-            self.items.clear();
-        }
-        if self.items.capacity() > KEPT {
-            self.items.shrink_to(KEPT);
-        }
+        empty(&mut self.items);
     }
 
     /// The items, the top first.

@@ -108,16 +108,7 @@ fn begin_function<'a, W: Operate<'a>>(
 fn frame_with<'a, T: Drop>(alloc: Global, slots: Slots<'a>) -> Result<Box<Frame<'a, T>>, AllocError>
     ensures { IfOk result (λ frame. frame.value.slots ≡ slots.entry) }
 {
-    let frame = Frame {
-        function: FunctionId { file: 0, number: 0 },
-        place: 0,
-        slots,
-        values: Stack::new(alloc),
-        callees: Stack::new(alloc),
-        walk: None,
-        outer: Stack::new(alloc),
-    };
-    Ok(Box::new(alloc, frame)?)
+    Ok(Box::new(alloc, Frame::with_slots(alloc, slots))?)
 }
 
 /// The top level of a file begins: no function is active, nothing is set in its slots, and it takes no tick.

@@ -29,4 +29,4 @@ returns g c =
     (λ below. starting ops codes here f below c.args.state.now (Some c.slots_at_entry.new.slots)) c.enter.result (ids_seen c.enter.new.active) c.enter.new.state
     (λ below. starts_fits ops codes here f a below c.args.state.now (code_at codes f) d c.slots_at_entry.new.slots e t)
     (subst (λ xs. Begins g.W.Operate.rest (λ below. starting ops codes (here_at c.args.place (ids_seen xs)) f below c.args.state.now (Some c.slots_at_entry.new.slots))
-    c.enter.result (ids_seen c.enter.new.active) c.enter.new.state) c.spare.ensures (c.enter.ensures codes))
+    c.enter.result (ids_seen c.enter.new.active) c.enter.new.state) (c.keep_arguments.ensures ∙ c.spare.ensures) (c.enter.ensures codes))

@@ -19,7 +19,7 @@ returns-in_default g c =
     let f = frame_seen rest r.top in
     let go : Calling g.row.W-State.Denot = λ x a os gs.
     start ops (codes_of c.args.linked.now) here x a (record f { pc = suc r.top.value.place; values = os; callees = gs } ∷ map (frame_seen rest) r.below) c.args.state.now in
-    (rw c.deref_mut-top.ensures.value at (c.in_ok-asked.ensures go)) ∙ ap (λ o. asked o c.take_call.new.values c.take_call.new.callees go) c.in_default.is
+    (rw c.deref_mut-top.ensures.value at (c.in_ok-asked.ensures.asks go)) ∙ ap (λ o. asked o c.take_call.new.values c.take_call.new.callees go) c.in_default.is
 
 pub returns : goal.returns
 returns g c =
@@ -32,6 +32,6 @@ returns g c =
     start ops (codes_of c.args.linked.now) here x a (record f { pc = suc r.top.value.place; values = os; callees = gs } ∷ map (frame_seen rest) r.below) c.args.state.now in
     let k : suc r.top.value.place ≡ r.top.value.place + 1 = omega arith in
     moves_same rest _ _ c.call_asked.result c.call_asked.new.r c.call_asked.new.state
-    ((rw c.deref_mut-top.ensures.value at (c.in_ok-asked.ensures go)) ∙ (ap (λ o. asked o c.take_call.new.values c.take_call.new.callees go) c.in-Some.is
+    ((rw c.deref_mut-top.ensures.value at (c.in_ok-asked.ensures.asks go)) ∙ (ap (λ o. asked o c.take_call.new.values c.take_call.new.callees go) c.in-Some.is
     ∙ ap (λ n. start ops (codes_of c.args.linked.now) here (callee_seen c.in-Some.asked.callee) (arguments_seen c.in-Some.asked.arguments)
-    (record f { pc = n; values = c.take_call.new.values; callees = map callee_seen c.take_call.new.callees } ∷ map (frame_seen rest) r.below) c.args.state.now) k)) (rw c.deref_mut-top.ensures.value at c.call_asked.ensures)
+    (record f { pc = n; values = c.take_call.new.values; callees = map callee_seen c.take_call.new.callees } ∷ map (frame_seen rest) r.below) c.args.state.now) k)) (rw (c.deref_mut-top.ensures.value, c.in_ok-asked.ensures.same) at c.call_asked.ensures)
