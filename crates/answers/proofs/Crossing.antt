@@ -13,4 +13,4 @@ use Rattle.reporting.proofs.Crossing.{outcome_send, outcome_sync}
 pub targets_sync : IsSync Targets.the_row
 targets_sync = search (loaded_sync, package_sync, failing.the_field_sync, text.the_sync, std.crosses, sendable) depth 60 fits 20000
 
-pub ruleset crosses = (outcome_send, outcome_sync, loaded_sync, targets_sync, graph.the_sync, provider.the_send, provider.the_sync, std.crosses, sendable)
+pub ruleset crosses = (outcome_send, outcome_sync, loaded_sync, targets_sync, graph.the_sync, provider.the_send, provider.the_sync, text.the_send, text.the_sync, std.crosses, sendable)

@@ -19,7 +19,7 @@ pub run_on-requires-sync-V : goal.run_on-requires-sync-V
 run_on-requires-sync-V g c κs within = search crosses depth 40
 
 pub run_on-requires-sync-A : goal.run_on-requires-sync-A
-run_on-requires-sync-A g c κs within = search crosses depth 40
+run_on-requires-sync-A g c κs within = search crosses depth 60 fits 20000
 
 pub returns-in-Ok-run_on-clause-outcomes : goal.returns-in-Ok-run_on-clause-outcomes
 returns-in-Ok-run_on-clause-outcomes g c = λ asked is.
