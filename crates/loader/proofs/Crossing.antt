@@ -2,6 +2,7 @@
 use denote.Param.Send.{IsSend, IsSync, sendable}
 use Rattle.std.proofs.Crossing as std
 use Rattle.values.proofs.Crossing.{leaf_send, leaf_sync, frozen_sync}
+use Rattle.plain.proofs.text.Text.TheSendSync as text
 use Rattle.keys.proofs.key.Key.TheSendSync as key
 use Rattle.values.proofs.leaf.Provider.TheSendSync as provider
 use Rattle.values.proofs.frozen.Branch.TheLaws.TheKnot as frozen
@@ -59,4 +60,4 @@ pub evaluator_sync : IsSync (Evaluator.the_field).row
 evaluator_sync = search (default_info_sync, sources.the_sync, std.crosses, sendable) depth 60 fits 20000
 
 pub loaded_sync : IsSync LoadedFiles.the_row
-loaded_sync = search (module_sync, modules.the_sync, evaluator_sync, std.crosses, sendable) depth 60 fits 20000
+loaded_sync = search (module_sync, modules.the_sync, evaluator_sync, text.the_sync, std.crosses, sendable) depth 60 fits 20000
