@@ -18,7 +18,7 @@ ghost use Rattle.grammar.specs.Descended.{Nests, part_seen, pair_seen, several_s
 
 use grammar::ahead::{Ahead, Head, Stop, Suffix};
 use grammar::parts::{Arguments, Conditions, Pairs, Part, Row, Several};
-use grammar::{Sign, parts};
+use grammar::{Name, Sign, parts};
 use lexer::{Bracket, unescape};
 use plain::Text;
 use std::alloc::Global;
@@ -33,7 +33,7 @@ const COMPARISON: usize = 5;
 const TIGHTEST: usize = 8;
 
 /// Passes `not` by, where an expression of this level may begin with it.
-fn negates(ahead: &mut Ahead<'_>, level: usize) -> bool
+fn negates(ahead: &mut Ahead<'_, '_>, level: usize) -> bool
     ensures { Negates level result ahead.old ahead.new }
 {
     if level > NEGATION {
@@ -56,8 +56,10 @@ pub struct Reader<F> {
     expr: F,
 }
 
-impl<F: Fn(Global, &mut Ahead<'_>, usize, Row, usize) -> Result<Part, Stop>> Reader<F> {
-    fn inside(&self, ahead: &mut Ahead<'_>, row: Row, room: usize) -> Result<Part, Stop>
+impl<F: for<'t> Fn(Global, &mut Ahead<'_, 't>, usize, Row, usize) -> Result<Part<'t>, Stop>> Reader<
+    F,
+> {
+    fn inside<'t>(&self, ahead: &mut Ahead<'_, 't>, row: Row, room: usize) -> Result<Part<'t>, Stop>
         requires { Nests self.now.turns (F.pre self.now.expr) (F.post self.now.expr) }
         ensures { Reads part_seen (spec.read self.now.turns row room ahead.old) result ahead.new }
     {
@@ -66,16 +68,16 @@ impl<F: Fn(Global, &mut Ahead<'_>, usize, Row, usize) -> Result<Part, Stop>> Rea
 
     /// The items up to a closing bracket, behind those that were found.
     #[tactic(auto, unfolding(grammar::specs::Descent::items, grammar::specs::Descent::gather))]
-    fn items(
+    fn items<'t>(
         &self,
-        ahead: &mut Ahead<'_>,
+        ahead: &mut Ahead<'_, 't>,
         bracket: Bracket,
         room: usize,
-        mut found: Several,
-    ) -> Result<Several, Stop>
+        mut found: Several<'t>,
+    ) -> Result<Several<'t>, Stop>
         requires { Nests self.now.turns (F.pre self.now.expr) (F.post self.now.expr) }
         ensures { Reads several_seen (spec.items (spec.read self.now.turns) self.now.most room
-            bracket (several_seen found) ahead.old) result ahead.new }
+            bracket (several_seen found.entry) ahead.old) result ahead.new }
     {
         for _turn in 0..self.most {
             if ahead.close(bracket) {
@@ -96,7 +98,7 @@ impl<F: Fn(Global, &mut Ahead<'_>, usize, Row, usize) -> Result<Part, Stop>> Rea
     /// An entry of a dict.
     #[tactic(auto, unfolding(grammar::specs::Descent::pair))]
     #[inline(never)]
-    fn pair(&self, ahead: &mut Ahead<'_>, room: usize) -> Result<(Part, Part), Stop>
+    fn pair<'t>(&self, ahead: &mut Ahead<'_, 't>, room: usize) -> Result<(Part<'t>, Part<'t>), Stop>
         requires { Nests self.now.turns (F.pre self.now.expr) (F.post self.now.expr) }
         ensures { Reads pair_seen (spec.pair (spec.read self.now.turns) self.now.most room
             ahead.old) result ahead.new }
@@ -111,10 +113,15 @@ impl<F: Fn(Global, &mut Ahead<'_>, usize, Row, usize) -> Result<Part, Stop>> Rea
 
     /// The entries up to the closing bracket, behind those that were found.
     #[tactic(auto, unfolding(grammar::specs::Descent::pairs, grammar::specs::Descent::gather))]
-    fn pairs(&self, ahead: &mut Ahead<'_>, room: usize, mut found: Pairs) -> Result<Pairs, Stop>
+    fn pairs<'t>(
+        &self,
+        ahead: &mut Ahead<'_, 't>,
+        room: usize,
+        mut found: Pairs<'t>,
+    ) -> Result<Pairs<'t>, Stop>
         requires { Nests self.now.turns (F.pre self.now.expr) (F.post self.now.expr) }
         ensures { Reads pairs_seen (spec.pairs (spec.read self.now.turns) self.now.most room
-            (pairs_seen found) ahead.old) result ahead.new }
+            (pairs_seen found.entry) ahead.old) result ahead.new }
     {
         for _turn in 0..self.most {
             if ahead.close(Bracket::Curly) {
@@ -134,20 +141,20 @@ impl<F: Fn(Global, &mut Ahead<'_>, usize, Row, usize) -> Result<Part, Stop>> Rea
 
     /// One more argument.
     #[tactic(auto, unfolding(grammar::specs::Descent::argument))]
-    fn argument(
+    fn argument<'t>(
         &self,
-        ahead: &mut Ahead<'_>,
+        ahead: &mut Ahead<'_, 't>,
         room: usize,
-        found: Arguments,
-    ) -> Result<Arguments, Stop>
+        found: Arguments<'t>,
+    ) -> Result<Arguments<'t>, Stop>
         requires { Nests self.now.turns (F.pre self.now.expr) (F.post self.now.expr) }
         ensures { Reads arguments_seen (then_read
             (spec.argument (spec.read self.now.turns) self.now.most room ahead.old)
-            (λ a u. Some (spec.with_argument (arguments_seen found) a, u))) result ahead.new }
+            (λ a u. Some (spec.with_argument (arguments_seen found.entry) a, u))) result ahead.new }
     {
         match ahead.named() {
             Some(name) => {
-                let name = Text::new(self.alloc, name)?;
+                let name = Name::new(name);
                 let value = self.inside(ahead, Row::Whole, room)?;
                 Ok(parts::with_keyword(found, name, value)?)
             }
@@ -161,7 +168,7 @@ impl<F: Fn(Global, &mut Ahead<'_>, usize, Row, usize) -> Result<Part, Stop>> Rea
     /// The arguments of a call, up to its closing bracket.
     #[tactic(auto, unfolding(grammar::specs::Descent::arguments, grammar::specs::Descent::gather))]
     #[inline(never)]
-    fn arguments(&self, ahead: &mut Ahead<'_>, room: usize) -> Result<Arguments, Stop>
+    fn arguments<'t>(&self, ahead: &mut Ahead<'_, 't>, room: usize) -> Result<Arguments<'t>, Stop>
         requires { Nests self.now.turns (F.pre self.now.expr) (F.post self.now.expr) }
         ensures { Reads arguments_seen (spec.arguments (spec.read self.now.turns) self.now.most room
             ahead.old) result ahead.new }
@@ -185,7 +192,7 @@ impl<F: Fn(Global, &mut Ahead<'_>, usize, Row, usize) -> Result<Part, Stop>> Rea
     /// The clauses of a comprehension.
     #[tactic(auto, unfolding(grammar::specs::Descent::clauses))]
     #[inline(never)]
-    fn clauses(&self, ahead: &mut Ahead<'_>, room: usize) -> Result<Conditions, Stop>
+    fn clauses<'t>(&self, ahead: &mut Ahead<'_, 't>, room: usize) -> Result<Conditions<'t>, Stop>
         requires { Nests self.now.turns (F.pre self.now.expr) (F.post self.now.expr) }
         ensures { Reads conditions_seen (spec.clauses (spec.read self.now.turns) self.now.most room
             self.now.most spec.no_conditions ahead.old) result ahead.new }
@@ -210,13 +217,14 @@ impl<F: Fn(Global, &mut Ahead<'_>, usize, Row, usize) -> Result<Part, Stop>> Rea
     /// Behind `(`: a tuple, or an expression in brackets.
     #[tactic(auto, unfolding(grammar::specs::Descent::round))]
     #[inline(never)]
-    fn round(&self, ahead: &mut Ahead<'_>, room: usize) -> Result<Part, Stop>
+    fn round<'t>(&self, ahead: &mut Ahead<'_, 't>, room: usize) -> Result<Part<'t>, Stop>
         requires { Nests self.now.turns (F.pre self.now.expr) (F.post self.now.expr) }
         ensures { Reads part_seen (spec.round (spec.read self.now.turns) self.now.most room
             ahead.old) result ahead.new }
     {
         if ahead.close(Bracket::Round) {
-            return parts::tuple(self.alloc, parts::no_items(self.alloc), room);
+            let none = parts::no_items(self.alloc);
+            return parts::tuple(self.alloc, none, room);
         }
         let first = self.inside(ahead, Row::Whole, room)?;
         if ahead.close(Bracket::Round) {
@@ -231,16 +239,17 @@ impl<F: Fn(Global, &mut Ahead<'_>, usize, Row, usize) -> Result<Part, Stop>> Rea
     }
 
     /// Behind the first item of a list.
-    fn items_behind(
+    fn items_behind<'t>(
         &self,
-        ahead: &mut Ahead<'_>,
+        ahead: &mut Ahead<'_, 't>,
         room: usize,
-        found: Several,
-    ) -> Result<Several, Stop>
+        found: Several<'t>,
+    ) -> Result<Several<'t>, Stop>
         requires { Nests self.now.turns (F.pre self.now.expr) (F.post self.now.expr) }
         ensures { Reads several_seen (spec.after_one
-            (spec.items (spec.read self.now.turns) self.now.most room Square) (several_seen found)
-            (behind_close Square ahead.old) (behind_comma ahead.old)) result ahead.new }
+            (spec.items (spec.read self.now.turns) self.now.most room Square)
+            (several_seen found.entry) (behind_close Square ahead.old) (behind_comma ahead.old))
+            result ahead.new }
     {
         if ahead.close(Bracket::Square) {
             return Ok(found);
@@ -254,13 +263,14 @@ impl<F: Fn(Global, &mut Ahead<'_>, usize, Row, usize) -> Result<Part, Stop>> Rea
     /// Behind `[`: a list, or a comprehension.
     #[tactic(auto, unfolding(grammar::specs::Descent::square))]
     #[inline(never)]
-    fn square(&self, ahead: &mut Ahead<'_>, room: usize) -> Result<Part, Stop>
+    fn square<'t>(&self, ahead: &mut Ahead<'_, 't>, room: usize) -> Result<Part<'t>, Stop>
         requires { Nests self.now.turns (F.pre self.now.expr) (F.post self.now.expr) }
         ensures { Reads part_seen (spec.square (spec.read self.now.turns) self.now.most room
             ahead.old) result ahead.new }
     {
         if ahead.close(Bracket::Square) {
-            return parts::list(self.alloc, parts::no_items(self.alloc), room);
+            let none = parts::no_items(self.alloc);
+            return parts::list(self.alloc, none, room);
         }
         let below = room.saturating_sub(1);
         let first = self.inside(ahead, Row::Whole, below)?;
@@ -278,10 +288,15 @@ impl<F: Fn(Global, &mut Ahead<'_>, usize, Row, usize) -> Result<Part, Stop>> Rea
 
     /// Behind the first entry of a dict.
     #[inline(never)]
-    fn pairs_behind(&self, ahead: &mut Ahead<'_>, room: usize, found: Pairs) -> Result<Pairs, Stop>
+    fn pairs_behind<'t>(
+        &self,
+        ahead: &mut Ahead<'_, 't>,
+        room: usize,
+        found: Pairs<'t>,
+    ) -> Result<Pairs<'t>, Stop>
         requires { Nests self.now.turns (F.pre self.now.expr) (F.post self.now.expr) }
         ensures { Reads pairs_seen (spec.after_one
-            (spec.pairs (spec.read self.now.turns) self.now.most room) (pairs_seen found)
+            (spec.pairs (spec.read self.now.turns) self.now.most room) (pairs_seen found.entry)
             (behind_close Curly ahead.old) (behind_comma ahead.old)) result ahead.new }
     {
         if ahead.close(Bracket::Curly) {
@@ -296,13 +311,14 @@ impl<F: Fn(Global, &mut Ahead<'_>, usize, Row, usize) -> Result<Part, Stop>> Rea
     /// Behind `{`: a dict, or a comprehension.
     #[tactic(auto, unfolding(grammar::specs::Descent::curly))]
     #[inline(never)]
-    fn curly(&self, ahead: &mut Ahead<'_>, room: usize) -> Result<Part, Stop>
+    fn curly<'t>(&self, ahead: &mut Ahead<'_, 't>, room: usize) -> Result<Part<'t>, Stop>
         requires { Nests self.now.turns (F.pre self.now.expr) (F.post self.now.expr) }
         ensures { Reads part_seen (spec.curly (spec.read self.now.turns) self.now.most room
             ahead.old) result ahead.new }
     {
         if ahead.close(Bracket::Curly) {
-            return parts::dict(self.alloc, parts::no_pairs(self.alloc), room);
+            let none = parts::no_pairs(self.alloc);
+            return parts::dict(self.alloc, none, room);
         }
         let below = room.saturating_sub(1);
         let first = self.pair(ahead, below)?;
@@ -319,7 +335,7 @@ impl<F: Fn(Global, &mut Ahead<'_>, usize, Row, usize) -> Result<Part, Stop>> Rea
     }
 
     /// What begins with a bracket.
-    fn display(&self, ahead: &mut Ahead<'_>, room: usize) -> Result<Part, Stop>
+    fn display<'t>(&self, ahead: &mut Ahead<'_, 't>, room: usize) -> Result<Part<'t>, Stop>
         requires { Nests self.now.turns (F.pre self.now.expr) (F.post self.now.expr) }
         ensures { Reads part_seen (spec.display_step (spec.read self.now.turns) self.now.most room
             (bracket_at ahead.old)) result ahead.new }
@@ -335,7 +351,7 @@ impl<F: Fn(Global, &mut Ahead<'_>, usize, Row, usize) -> Result<Part, Stop>> Rea
     /// A name, a literal, or what stands in brackets.
     #[tactic(auto, unfolding(grammar::specs::Descent::atom))]
     #[inline(never)]
-    fn atom(&self, ahead: &mut Ahead<'_>, room: usize) -> Result<Part, Stop>
+    fn atom<'t>(&self, ahead: &mut Ahead<'_, 't>, room: usize) -> Result<Part<'t>, Stop>
         requires { Nests self.now.turns (F.pre self.now.expr) (F.post self.now.expr) }
         ensures { Reads part_seen (spec.atom (spec.read self.now.turns) self.now.most room
             ahead.old) result ahead.new }
@@ -356,16 +372,16 @@ impl<F: Fn(Global, &mut Ahead<'_>, usize, Row, usize) -> Result<Part, Stop>> Rea
     /// An expression with one field, index or call behind it.
     #[tactic(auto, unfolding(grammar::specs::Descent::suffixed))]
     #[inline(never)]
-    fn suffixed(
+    fn suffixed<'t>(
         &self,
-        ahead: &mut Ahead<'_>,
-        of: Part,
+        ahead: &mut Ahead<'_, 't>,
+        of: Part<'t>,
         suffix: Suffix,
         room: usize,
-    ) -> Result<Part, Stop>
+    ) -> Result<Part<'t>, Stop>
         requires { Nests self.now.turns (F.pre self.now.expr) (F.post self.now.expr) }
         ensures { Reads part_seen (spec.suffixed (spec.read self.now.turns) self.now.most room
-            (part_seen of) suffix ahead.old) result ahead.new }
+            (part_seen of.entry) suffix ahead.old) result ahead.new }
     {
         let below = room.saturating_sub(1);
         match suffix {
@@ -393,7 +409,7 @@ impl<F: Fn(Global, &mut Ahead<'_>, usize, Row, usize) -> Result<Part, Stop>> Rea
     /// An atom, with its fields, indexes and calls.
     #[tactic(auto, unfolding(grammar::specs::Descent::e9, grammar::specs::Descent::suffixes))]
     #[inline(never)]
-    fn e9(&self, ahead: &mut Ahead<'_>, room: usize) -> Result<Part, Stop>
+    fn e9<'t>(&self, ahead: &mut Ahead<'_, 't>, room: usize) -> Result<Part<'t>, Stop>
         requires { Nests self.now.turns (F.pre self.now.expr) (F.post self.now.expr) }
         ensures { Reads part_seen (spec.e9 (spec.read self.now.turns) self.now.most room ahead.old)
             result ahead.new }
@@ -410,7 +426,7 @@ impl<F: Fn(Global, &mut Ahead<'_>, usize, Row, usize) -> Result<Part, Stop>> Rea
 
     /// An expression with `-` before it, or without.
     #[tactic(auto, unfolding(grammar::specs::Descent::e8))]
-    fn operand(&self, ahead: &mut Ahead<'_>, room: usize) -> Result<Part, Stop>
+    fn operand<'t>(&self, ahead: &mut Ahead<'_, 't>, room: usize) -> Result<Part<'t>, Stop>
         requires { Nests self.now.turns (F.pre self.now.expr) (F.post self.now.expr) }
         ensures { Reads part_seen (spec.e8 (spec.read self.now.turns) self.now.most room ahead.old)
             result ahead.new }
@@ -424,7 +440,7 @@ impl<F: Fn(Global, &mut Ahead<'_>, usize, Row, usize) -> Result<Part, Stop>> Rea
 
     /// Behind `not`.
     #[inline(never)]
-    fn negated(&self, ahead: &mut Ahead<'_>, room: usize) -> Result<Part, Stop>
+    fn negated<'t>(&self, ahead: &mut Ahead<'_, 't>, room: usize) -> Result<Part<'t>, Stop>
         requires { Nests self.now.turns (F.pre self.now.expr) (F.post self.now.expr) }
         ensures { Reads part_seen (spec.negated (spec.read self.now.turns) self.now.most room
             ahead.old) result ahead.new }
@@ -443,18 +459,18 @@ impl<F: Fn(Global, &mut Ahead<'_>, usize, Row, usize) -> Result<Part, Stop>> Rea
     /// Goes on with operators of a level behind a part.
     #[cycle(levels)]
     #[tactic(auto, unfolding(grammar::specs::Descent::chain))]
-    fn joined(
+    fn joined<'t>(
         &self,
-        ahead: &mut Ahead<'_>,
-        mut left: Part,
+        ahead: &mut Ahead<'_, 't>,
+        mut left: Part<'t>,
         level: usize,
         room: usize,
-    ) -> Result<Part, Stop>
+    ) -> Result<Part<'t>, Stop>
         requires inner { Nests self.now.turns (F.pre self.now.expr) (F.post self.now.expr) }
         requires loose { 2 ≤ level }
         requires tight { level < 8 }
         ensures { Reads part_seen (spec.joined (spec.read self.now.turns) self.now.most level room
-            (part_seen left) ahead.old) result ahead.new }
+            (part_seen left.entry) ahead.old) result ahead.new }
     {
         for _turn in 0..self.in_a_row(level) {
             let Some(operator) = ahead.operator(level) else {
@@ -469,20 +485,20 @@ impl<F: Fn(Global, &mut Ahead<'_>, usize, Row, usize) -> Result<Part, Stop>> Rea
     /// Goes on with the operators of a level and of the tighter ones below `top`, the tightest first.
     #[cycle(levels)]
     #[inline(never)]
-    fn onward(
+    fn onward<'t>(
         &self,
-        ahead: &mut Ahead<'_>,
-        mut left: Part,
+        ahead: &mut Ahead<'_, 't>,
+        mut left: Part<'t>,
         level: usize,
         top: usize,
         room: usize,
-    ) -> Result<Part, Stop>
+    ) -> Result<Part<'t>, Stop>
         requires inner { Nests self.now.turns (F.pre self.now.expr) (F.post self.now.expr) }
         requires loose { 2 ≤ level }
         requires upward { level ≤ top }
         requires tight { top ≤ 8 }
         ensures { Reads part_seen (spec.onward (spec.read self.now.turns) self.now.most level room
-            top (part_seen left) ahead.old) result ahead.new }
+            top (part_seen left.entry) ahead.old) result ahead.new }
     {
         if ahead.ends_here() {
             return Ok(left);
@@ -495,7 +511,12 @@ impl<F: Fn(Global, &mut Ahead<'_>, usize, Row, usize) -> Result<Part, Stop>> Rea
 
     /// An expression whose operators are of this level, or tighter.
     #[cycle(levels)]
-    fn level(&self, ahead: &mut Ahead<'_>, level: usize, room: usize) -> Result<Part, Stop>
+    fn level<'t>(
+        &self,
+        ahead: &mut Ahead<'_, 't>,
+        level: usize,
+        room: usize,
+    ) -> Result<Part<'t>, Stop>
         requires inner { Nests self.now.turns (F.pre self.now.expr) (F.post self.now.expr) }
         requires loose { 2 ≤ level }
         requires tight { level ≤ 8 }
@@ -512,10 +533,15 @@ impl<F: Fn(Global, &mut Ahead<'_>, usize, Row, usize) -> Result<Part, Stop>> Rea
 
     /// A condition behind an expression, with the other one.
     #[inline(never)]
-    fn chosen(&self, ahead: &mut Ahead<'_>, then: Part, room: usize) -> Result<Part, Stop>
+    fn chosen<'t>(
+        &self,
+        ahead: &mut Ahead<'_, 't>,
+        then: Part<'t>,
+        room: usize,
+    ) -> Result<Part<'t>, Stop>
         requires { Nests self.now.turns (F.pre self.now.expr) (F.post self.now.expr) }
         ensures { Reads part_seen (spec.if_step (spec.read self.now.turns) self.now.most room
-            (part_seen then) ahead.old (behind_if ahead.old)) result ahead.new }
+            (part_seen then.entry) ahead.old (behind_if ahead.old)) result ahead.new }
     {
         if !ahead.if_word() {
             return Ok(then);
@@ -531,7 +557,7 @@ impl<F: Fn(Global, &mut Ahead<'_>, usize, Row, usize) -> Result<Part, Stop>> Rea
 
     /// Any expression.
     #[tactic(auto, unfolding(grammar::specs::Descent::e1))]
-    fn whole(&self, ahead: &mut Ahead<'_>, room: usize) -> Result<Part, Stop>
+    fn whole<'t>(&self, ahead: &mut Ahead<'_, 't>, room: usize) -> Result<Part<'t>, Stop>
         requires { Nests self.now.turns (F.pre self.now.expr) (F.post self.now.expr) }
         ensures { Reads part_seen (spec.e1 (spec.read self.now.turns) self.now.most room ahead.old)
             result ahead.new }
@@ -540,7 +566,7 @@ impl<F: Fn(Global, &mut Ahead<'_>, usize, Row, usize) -> Result<Part, Stop>> Rea
         self.chosen(ahead, then, room)
     }
 
-    fn row(&self, ahead: &mut Ahead<'_>, row: Row, room: usize) -> Result<Part, Stop>
+    fn row<'t>(&self, ahead: &mut Ahead<'_, 't>, row: Row, room: usize) -> Result<Part<'t>, Stop>
         requires { Nests self.now.turns (F.pre self.now.expr) (F.post self.now.expr) }
         ensures { Reads part_seen (spec.row (spec.read self.now.turns) self.now.most row room
             ahead.old) result ahead.new }
@@ -560,13 +586,13 @@ impl<F: Fn(Global, &mut Ahead<'_>, usize, Row, usize) -> Result<Part, Stop>> Rea
 /// # Errors
 ///
 /// [`Stop::NoForm`] where there is none, or a deeper one; [`Stop::NoMemory`] where memory was refused.
-pub fn expression(
+pub fn expression<'t>(
     alloc: Global,
-    ahead: &mut Ahead<'_>,
+    ahead: &mut Ahead<'_, 't>,
     turns: usize,
     row: Row,
     room: usize,
-) -> Result<Part, Stop>
+) -> Result<Part<'t>, Stop>
     ensures { Reads part_seen (spec.read turns row room ahead.old) result ahead.new }
 {
     if turns == 0 {

@@ -17,7 +17,11 @@ use std::alloc::Global;
 
 /// The expression that these tokens are.
 #[tactic(auto, unfolding(grammar::specs::Descent::reads_all))]
-fn read_all(alloc: Global, lines: &Lines, tokens: &[Token]) -> Result<Option<Expr>, NoMemory>
+fn read_all<'t>(
+    alloc: Global,
+    lines: &Lines<'t>,
+    tokens: &[Token],
+) -> Result<Option<Expr<'t>>, NoMemory>
     ensures { IfOk result (λ r. option_map tree_of r
         ≡ reads_all (tokens_seen lines.now.text tokens.now)) }
 {
@@ -42,7 +46,11 @@ fn read_all(alloc: Global, lines: &Lines, tokens: &[Token]) -> Result<Option<Exp
 /// # Errors
 ///
 /// [`NoMemory`] where memory was refused.
-pub fn line_expression(alloc: Global, lines: &Lines, place: usize) -> Result<Option<Expr>, NoMemory>
+pub fn line_expression<'t>(
+    alloc: Global,
+    lines: &Lines<'t>,
+    place: usize,
+) -> Result<Option<Expr<'t>>, NoMemory>
     requires { place < length lines.now.lines }
     ensures { (line : List Placed) → slice_get lines.now.lines place ≡ Some line
         → IfOk result (λ r. IsExpression (line_tokens line) (option_map tree_of r)) }

@@ -1,3 +1,4 @@
+pub mod NameBytes
 pub mod Tree
 pub mod Levels
 pub mod Spelling

@@ -10,9 +10,9 @@ ghost use Rattle.grammar.specs.TreeView.{operator_seen};
 ghost use Rattle.lexer.specs.Strings.{unescaped};
 ghost use Rattle.std.specs.Str.{IsAscii};
 
+use crate::Name;
 use crate::tree::Operator;
 use lexer::{Bracket, Kind, Lines, Mark, Token, Word};
-use plain::Text;
 use std::alloc::{AllocError, AllocFailed, Global};
 use std::marker::Model;
 
@@ -77,11 +77,11 @@ pub enum Opening {
 
 /// The names behind commas up to `=`, and the tokens behind that.
 #[tactic(auto, unfolding(crate::specs::FormReading::names_to))]
-fn names_to<'l>(
+fn names_to<'l, 't>(
     alloc: Global,
-    lines: &Lines<'l>,
+    lines: &Lines<'t>,
     tokens: &'l [Token],
-) -> Result<Option<(Vec<Text>, &'l [Token])>, AllocError>
+) -> Result<Option<(Vec<Name<'t>>, &'l [Token])>, AllocError>
     ensures { IfOk result (λ r. option_map (λ p. (p.0.items, tokens_seen lines.now.text p.1.now)) r
         ≡ names_to (tokens_seen lines.now.text tokens.now)) }
 {
@@ -90,7 +90,7 @@ fn names_to<'l>(
     while let [first, second, rest @ ..] = left {
         match (first.kind, second.kind) {
             (Kind::Mark(Mark::Comma), Kind::Name(span)) => {
-                names.push(Text::new(alloc, lines.part(span))?)?;
+                names.push(Name::new(lines.part(span)))?;
                 left = rest;
             }
             _ => break,
@@ -107,9 +107,9 @@ fn names_to<'l>(
 
 /// How a clause of a comprehension begins.
 #[derive(Drop)]
-pub enum Head {
+pub enum Head<'t> {
     /// With `for`, its first name, its others, and `in`.
-    For(Text, Vec<Text>),
+    For(Name<'t>, Vec<Name<'t>>),
     /// With `if`.
     If,
     /// It doesn't.
@@ -118,11 +118,11 @@ pub enum Head {
 
 /// The names behind commas up to `in`, and the tokens behind that.
 #[tactic(auto, unfolding(crate::specs::Front::names_in))]
-fn names_in<'l>(
+fn names_in<'l, 't>(
     alloc: Global,
-    lines: &Lines<'l>,
+    lines: &Lines<'t>,
     tokens: &'l [Token],
-) -> Result<Option<(Vec<Text>, &'l [Token])>, AllocError>
+) -> Result<Option<(Vec<Name<'t>>, &'l [Token])>, AllocError>
     ensures { IfOk result (λ r. option_map (λ p. (p.0.items, tokens_seen lines.now.text p.1.now)) r
         ≡ names_in (tokens_seen lines.now.text tokens.now)) }
 {
@@ -131,7 +131,7 @@ fn names_in<'l>(
     while let [first, second, rest @ ..] = left {
         match (first.kind, second.kind) {
             (Kind::Mark(Mark::Comma), Kind::Name(span)) => {
-                names.push(Text::new(alloc, lines.part(span))?)?;
+                names.push(Name::new(lines.part(span)))?;
                 left = rest;
             }
             _ => break,
@@ -186,12 +186,12 @@ fn operator_in(tokens: &[Token]) -> Option<(Operator, &[Token])>
 
 /// The tokens of a line from one of them on. A clause sees their list.
 #[derive(Drop)]
-pub struct Ahead<'l> {
-    lines: &'l Lines<'l>,
+pub struct Ahead<'l, 't> {
+    lines: &'l Lines<'t>,
     tokens: &'l [Token],
 }
 
-impl<'l> Model for Ahead<'l> {
+impl<'l, 't> Model for Ahead<'l, 't> {
     ghost use Rattle.std.specs.Prelude.{List};
     ghost use Rattle.lexer.specs.Tokens.{Token};
     ghost use Rattle.grammar.specs.Ahead.{tokens_seen};
@@ -201,9 +201,9 @@ impl<'l> Model for Ahead<'l> {
     ghost view = { λ a. tokens_seen a.lines.now.text a.tokens.now };
 }
 
-impl<'l> Ahead<'l> {
+impl<'l, 't> Ahead<'l, 't> {
     /// These tokens of a line.
-    pub fn new(lines: &'l Lines<'l>, tokens: &'l [Token]) -> Ahead<'l>
+    pub fn new(lines: &'l Lines<'t>, tokens: &'l [Token]) -> Ahead<'l, 't>
         ensures { result ≡ tokens_seen lines.now.text tokens.now }
     {
         Ahead { lines, tokens }
@@ -436,7 +436,7 @@ impl<'l> Ahead<'l> {
 
     /// Takes a name.
     #[tactic(auto, unfolding(crate::specs::Front::name_at))]
-    pub fn name(&mut self) -> Option<&'l str>
+    pub fn name(&mut self) -> Option<&'t str>
         ensures { Takes (λ s. s.now) (name_at self.old) result self.old self.new }
     {
         let [first, rest @ ..] = self.tokens else {
@@ -453,7 +453,7 @@ impl<'l> Ahead<'l> {
 
     /// Takes a name and the `=` behind it.
     #[tactic(auto, unfolding(crate::specs::Ahead::named_at))]
-    pub fn named(&mut self) -> Option<&'l str>
+    pub fn named(&mut self) -> Option<&'t str>
         ensures { Takes (λ s. s.now) (named_at self.old) result self.old self.new }
     {
         let [first, second, rest @ ..] = self.tokens else {
@@ -487,7 +487,7 @@ impl<'l> Ahead<'l> {
 
     /// Takes a string: its body, with its escapes as they are written.
     #[tactic(auto, unfolding(crate::specs::Ahead::string_at))]
-    pub fn string(&mut self) -> Option<&'l str>
+    pub fn string(&mut self) -> Option<&'t str>
         ensures body { Takes (λ s. unescaped s.now) (string_at self.old) result self.old self.new }
         ensures ascii { IfSome result (λ s. IsAscii s.now) }
     {
@@ -519,7 +519,7 @@ impl<'l> Ahead<'l> {
 
     /// Takes how a clause of a comprehension begins.
     #[tactic(auto, unfolding(crate::specs::Front::head_at))]
-    pub fn head(&mut self, alloc: Global) -> Result<Head, AllocError>
+    pub fn head(&mut self, alloc: Global) -> Result<Head<'t>, AllocError>
         ensures { IfOk result (λ h. HasHead (head_at self.old) h self.old self.new) }
     {
         let [first, rest @ ..] = self.tokens else {
@@ -539,7 +539,7 @@ impl<'l> Ahead<'l> {
                 };
                 match names_in(alloc, self.lines, others)? {
                     Some((names, behind)) => {
-                        let name = Text::new(alloc, self.lines.part(span))?;
+                        let name = Name::new(self.lines.part(span));
                         self.tokens = behind;
                         Ok(Head::For(name, names))
                     }
@@ -637,7 +637,7 @@ impl<'l> Ahead<'l> {
     }
 
     /// Takes the names behind commas up to `=`.
-    pub fn names_to(&mut self, alloc: Global) -> Result<Option<Vec<Text>>, AllocError>
+    pub fn names_to(&mut self, alloc: Global) -> Result<Option<Vec<Name<'t>>>, AllocError>
         ensures { IfOk result (λ r. Takes (λ v. v.items) (names_to self.old) r self.old self.new) }
     {
         match names_to(alloc, self.lines, self.tokens)? {
@@ -650,7 +650,7 @@ impl<'l> Ahead<'l> {
     }
 
     /// Takes the names behind commas up to `in`.
-    pub fn names_in(&mut self, alloc: Global) -> Result<Option<Vec<Text>>, AllocError>
+    pub fn names_in(&mut self, alloc: Global) -> Result<Option<Vec<Name<'t>>>, AllocError>
         ensures { IfOk result (λ r. Takes (λ v. v.items) (names_in self.old) r self.old self.new) }
     {
         match names_in(alloc, self.lines, self.tokens)? {

@@ -9,9 +9,11 @@ pub mod ahead;
 pub mod block_laws;
 pub mod form_laws;
 pub mod grammar_laws;
+mod name;
 pub mod parts;
 mod statements;
 mod tree;
 
+pub use name::Name;
 pub use statements::{Form, Item, Line, Param};
 pub use tree::{Clause, Entry, Expr, Keyword, MAX_DEPTH, Operator, Sign, Target};

@@ -11,8 +11,8 @@ ghost use Rattle.grammar.specs.Descended.{part_seen, pair_seen, several_seen, pa
 ghost use Rattle.grammar.specs.TreeView.{operator_seen, sign_seen, tree_of};
 
 use crate::ahead::Stop;
-use crate::tree;
 use crate::tree::{Clause, Entry, Expr, Keyword, Operator, Sign};
+use crate::{Name, tree};
 use plain::Text;
 use std::alloc::{AllocError, Global};
 
@@ -32,45 +32,51 @@ pub enum Row {
 /// An expression, how deep it is, and whether it is a name or an index as it is written, to which can be assigned. It is kept
 /// behind a `Box`, so that those who read one inside of another take little of the stack.
 #[derive(Drop)]
-pub struct Part {
-    pub expr: Box<Expr>,
+pub struct Part<'t> {
+    pub expr: Box<Expr<'t>>,
     pub depth: usize,
     pub is_target: bool,
 }
 
 /// Several expressions, and the depth of the deepest.
 #[derive(Drop)]
-pub struct Several {
-    pub items: Vec<Expr>,
+pub struct Several<'t> {
+    pub items: Vec<Expr<'t>>,
     pub depth: usize,
 }
 
 /// Entries of a dict, and the depth of the deepest key or value.
 #[derive(Drop)]
-pub struct Pairs {
-    pub entries: Vec<Entry>,
+pub struct Pairs<'t> {
+    pub entries: Vec<Entry<'t>>,
     pub depth: usize,
 }
 
 /// The arguments of a call, and whether those with names come last.
 #[derive(Drop)]
-pub struct Arguments {
-    pub items: Vec<Expr>,
-    pub named: Vec<Keyword>,
+pub struct Arguments<'t> {
+    pub items: Vec<Expr<'t>>,
+    pub named: Vec<Keyword<'t>>,
     pub depth: usize,
     pub in_order: bool,
 }
 
 /// The clauses of a comprehension.
 #[derive(Drop)]
-pub struct Conditions {
-    pub clauses: Vec<Clause>,
+pub struct Conditions<'t> {
+    pub clauses: Vec<Clause<'t>>,
     pub depth: usize,
 }
 
 /// A tree over parts of this depth, where the depth leaves room for one more.
-fn over(alloc: Global, expr: Expr, depth: usize, is_target: bool, room: usize) -> Result<Part, Stop>
-    ensures { Makes part_seen (spec.over room is_target (tree_of expr) depth) result }
+fn over<'t>(
+    alloc: Global,
+    expr: Expr<'t>,
+    depth: usize,
+    is_target: bool,
+    room: usize,
+) -> Result<Part<'t>, Stop>
+    ensures { Makes part_seen (spec.over room is_target (tree_of expr.entry) depth) result }
 {
     if depth < room {
         Ok(Part {
@@ -85,16 +91,15 @@ fn over(alloc: Global, expr: Expr, depth: usize, is_target: bool, room: usize) -
 
 /// A name, where there is room.
 #[inline(never)]
-pub fn name(alloc: Global, name: &str, room: usize) -> Result<Part, Stop>
+pub fn name<'t>(alloc: Global, name: &'t str, room: usize) -> Result<Part<'t>, Stop>
     ensures { Makes part_seen (spec.over room true (bare.named name.now) 0) result }
 {
-    let name = Text::new(alloc, name)?;
-    over(alloc, tree::name(name), 0, true, room)
+    over(alloc, tree::name(Name::new(name)), 0, true, room)
 }
 
 /// A number.
 #[inline(never)]
-pub fn number(alloc: Global, value: u64, room: usize) -> Result<Part, Stop>
+pub fn number<'t>(alloc: Global, value: u64, room: usize) -> Result<Part<'t>, Stop>
     ensures { Makes part_seen (spec.over room false (bare.numeral value) 0) result }
 {
     over(alloc, tree::number(value), 0, false, room)
@@ -102,7 +107,7 @@ pub fn number(alloc: Global, value: u64, room: usize) -> Result<Part, Stop>
 
 /// A string.
 #[inline(never)]
-pub fn string(alloc: Global, text: Text, room: usize) -> Result<Part, Stop>
+pub fn string<'t>(alloc: Global, text: Text, room: usize) -> Result<Part<'t>, Stop>
     ensures { Makes part_seen (spec.over room false (bare.quoted text) 0) result }
 {
     over(alloc, tree::string(text), 0, false, room)
@@ -110,150 +115,209 @@ pub fn string(alloc: Global, text: Text, room: usize) -> Result<Part, Stop>
 
 /// An operator between two parts.
 #[inline(never)]
-pub fn operated(
+pub fn operated<'t>(
     alloc: Global,
     operator: Operator,
-    left: Part,
-    right: Part,
+    left: Part<'t>,
+    right: Part<'t>,
     room: usize,
-) -> Result<Part, Stop>
-    ensures { Makes part_seen (spec.operated room (operator_seen operator) (part_seen left)
-        (part_seen right)) result }
+) -> Result<Part<'t>, Stop>
+    ensures { Makes part_seen (spec.operated room (operator_seen operator) (part_seen left.entry)
+        (part_seen right.entry)) result }
 {
-    let depth = left.depth.max(right.depth);
-    let expr = tree::binary(operator, left.expr, right.expr);
-    over(alloc, expr, depth, false, room)
+    let Part {
+        expr: first,
+        depth: a,
+        ..
+    } = left;
+    let Part {
+        expr: second,
+        depth: b,
+        ..
+    } = right;
+    let expr = tree::binary(operator, first, second);
+    over(alloc, expr, a.max(b), false, room)
 }
 
 /// A part with an operator before it.
 #[inline(never)]
-pub fn signed(alloc: Global, sign: Sign, operand: Part, room: usize) -> Result<Part, Stop>
-    ensures { Makes part_seen (spec.signed_part room (sign_seen sign) (part_seen operand)) result }
+pub fn signed<'t>(
+    alloc: Global,
+    sign: Sign,
+    operand: Part<'t>,
+    room: usize,
+) -> Result<Part<'t>, Stop>
+    ensures { Makes part_seen (spec.signed_part room (sign_seen sign) (part_seen operand.entry))
+        result }
 {
-    let expr = tree::unary(sign, operand.expr);
-    over(alloc, expr, operand.depth, false, room)
+    let Part { expr, depth, .. } = operand;
+    over(alloc, tree::unary(sign, expr), depth, false, room)
 }
 
 /// A conditional, with its parts in the order of the text.
 #[inline(never)]
-pub fn chosen(alloc: Global, then: Part, test: Part, other: Part, room: usize) -> Result<Part, Stop>
-    ensures { Makes part_seen (spec.chosen room (part_seen then) (part_seen test) (part_seen other))
-        result }
+pub fn chosen<'t>(
+    alloc: Global,
+    then: Part<'t>,
+    test: Part<'t>,
+    other: Part<'t>,
+    room: usize,
+) -> Result<Part<'t>, Stop>
+    ensures { Makes part_seen (spec.chosen room (part_seen then.entry) (part_seen test.entry)
+        (part_seen other.entry)) result }
 {
-    let depth = then.depth.max(test.depth.max(other.depth));
-    let expr = tree::choice(then.expr, test.expr, other.expr);
-    over(alloc, expr, depth, false, room)
+    let Part {
+        expr: first,
+        depth: a,
+        ..
+    } = then;
+    let Part {
+        expr: second,
+        depth: b,
+        ..
+    } = test;
+    let Part {
+        expr: third,
+        depth: c,
+        ..
+    } = other;
+    let expr = tree::choice(first, second, third);
+    over(alloc, expr, a.max(b.max(c)), false, room)
 }
 
 /// A field.
 #[inline(never)]
-pub fn selected(alloc: Global, of: Part, name: &str, room: usize) -> Result<Part, Stop>
-    ensures { Makes part_seen (spec.selected room (part_seen of) name.now) result }
+pub fn selected<'t>(
+    alloc: Global,
+    of: Part<'t>,
+    name: &'t str,
+    room: usize,
+) -> Result<Part<'t>, Stop>
+    ensures { Makes part_seen (spec.selected room (part_seen of.entry) name.now) result }
 {
-    let name = Text::new(alloc, name)?;
-    let expr = tree::attribute(of.expr, name);
-    over(alloc, expr, of.depth, false, room)
+    let Part { expr, depth, .. } = of;
+    let expr = tree::attribute(expr, Name::new(name));
+    over(alloc, expr, depth, false, room)
 }
 
 /// An index.
 #[inline(never)]
-pub fn subscripted(alloc: Global, of: Part, at: Part, room: usize) -> Result<Part, Stop>
-    ensures { Makes part_seen (spec.subscripted room (part_seen of) (part_seen at)) result }
+pub fn subscripted<'t>(
+    alloc: Global,
+    of: Part<'t>,
+    at: Part<'t>,
+    room: usize,
+) -> Result<Part<'t>, Stop>
+    ensures { Makes part_seen (spec.subscripted room (part_seen of.entry) (part_seen at.entry))
+        result }
 {
-    let depth = of.depth.max(at.depth);
-    let expr = tree::index(of.expr, at.expr);
-    over(alloc, expr, depth, true, room)
+    let Part {
+        expr: first,
+        depth: a,
+        ..
+    } = of;
+    let Part {
+        expr: second,
+        depth: b,
+        ..
+    } = at;
+    over(alloc, tree::index(first, second), a.max(b), true, room)
 }
 
 /// A call.
 #[inline(never)]
-pub fn called(alloc: Global, callee: Part, arguments: Arguments, room: usize) -> Result<Part, Stop>
-    ensures { Makes part_seen (spec.called room (part_seen callee) (arguments_seen arguments))
-        result }
+pub fn called<'t>(
+    alloc: Global,
+    callee: Part<'t>,
+    arguments: Arguments<'t>,
+    room: usize,
+) -> Result<Part<'t>, Stop>
+    ensures { Makes part_seen (spec.called room (part_seen callee.entry)
+        (arguments_seen arguments.entry)) result }
 {
-    let depth = callee.depth.max(arguments.depth);
-    let expr = tree::call(callee.expr, arguments.items, arguments.named);
-    over(alloc, expr, depth, false, room)
+    let Part { expr, depth: a, .. } = callee;
+    let Arguments {
+        items,
+        named,
+        depth: b,
+        ..
+    } = arguments;
+    over(alloc, tree::call(expr, items, named), a.max(b), false, room)
 }
 
 /// A tuple.
 #[inline(never)]
-pub fn tuple(alloc: Global, several: Several, room: usize) -> Result<Part, Stop>
-    ensures { Makes part_seen (spec.tuple_part room (several_seen several)) result }
+pub fn tuple<'t>(alloc: Global, several: Several<'t>, room: usize) -> Result<Part<'t>, Stop>
+    ensures { Makes part_seen (spec.tuple_part room (several_seen several.entry)) result }
 {
-    over(
-        alloc,
-        tree::tuple(several.items),
-        several.depth,
-        false,
-        room,
-    )
+    let Several { items, depth } = several;
+    over(alloc, tree::tuple(items), depth, false, room)
 }
 
 /// A list.
 #[inline(never)]
-pub fn list(alloc: Global, several: Several, room: usize) -> Result<Part, Stop>
-    ensures { Makes part_seen (spec.list_part room (several_seen several)) result }
+pub fn list<'t>(alloc: Global, several: Several<'t>, room: usize) -> Result<Part<'t>, Stop>
+    ensures { Makes part_seen (spec.list_part room (several_seen several.entry)) result }
 {
-    over(
-        alloc,
-        tree::list_of(several.items),
-        several.depth,
-        false,
-        room,
-    )
+    let Several { items, depth } = several;
+    over(alloc, tree::list_of(items), depth, false, room)
 }
 
 /// A dict.
 #[inline(never)]
-pub fn dict(alloc: Global, found: Pairs, room: usize) -> Result<Part, Stop>
-    ensures { Makes part_seen (spec.dict_part room (pairs_seen found)) result }
+pub fn dict<'t>(alloc: Global, found: Pairs<'t>, room: usize) -> Result<Part<'t>, Stop>
+    ensures { Makes part_seen (spec.dict_part room (pairs_seen found.entry)) result }
 {
-    over(
-        alloc,
-        tree::dict_of(found.entries),
-        found.depth,
-        false,
-        room,
-    )
+    let Pairs { entries, depth } = found;
+    over(alloc, tree::dict_of(entries), depth, false, room)
 }
 
 /// A list comprehension.
 #[inline(never)]
-pub fn list_each(
+pub fn list_each<'t>(
     alloc: Global,
-    element: Part,
-    conditions: Conditions,
+    element: Part<'t>,
+    conditions: Conditions<'t>,
     room: usize,
-) -> Result<Part, Stop>
-    ensures { Makes part_seen (spec.list_each_part room (part_seen element)
-        (conditions_seen conditions)) result }
+) -> Result<Part<'t>, Stop>
+    ensures { Makes part_seen (spec.list_each_part room (part_seen element.entry)
+        (conditions_seen conditions.entry)) result }
 {
-    let depth = element.depth.max(conditions.depth);
-    let expr = tree::list_each(element.expr, conditions.clauses);
-    over(alloc, expr, depth, false, room)
+    let Part { expr, depth: a, .. } = element;
+    let Conditions { clauses, depth: b } = conditions;
+    over(alloc, tree::list_each(expr, clauses), a.max(b), false, room)
 }
 
 /// A dict comprehension.
 #[inline(never)]
-pub fn dict_each(
+pub fn dict_each<'t>(
     alloc: Global,
-    entry: (Part, Part),
-    conditions: Conditions,
+    entry: (Part<'t>, Part<'t>),
+    conditions: Conditions<'t>,
     room: usize,
-) -> Result<Part, Stop>
-    ensures { Makes part_seen (spec.dict_each_part room (pair_seen entry)
-        (conditions_seen conditions)) result }
+) -> Result<Part<'t>, Stop>
+    ensures { Makes part_seen (spec.dict_each_part room (pair_seen entry.entry)
+        (conditions_seen conditions.entry)) result }
 {
     let (key, value) = entry;
-    let depth = key.depth.max(value.depth).max(conditions.depth);
-    let expr = tree::dict_each(key.expr, value.expr, conditions.clauses);
-    over(alloc, expr, depth, false, room)
+    let Part {
+        expr: first,
+        depth: a,
+        ..
+    } = key;
+    let Part {
+        expr: second,
+        depth: b,
+        ..
+    } = value;
+    let Conditions { clauses, depth: c } = conditions;
+    let expr = tree::dict_each(first, second, clauses);
+    over(alloc, expr, a.max(b).max(c), false, room)
 }
 
 /// What stands alone in brackets: it is no target.
-pub fn bracketed(part: Part) -> Part
-    ensures { part_seen result ≡ spec.bracketed (part_seen part) }
+pub fn bracketed<'t>(part: Part<'t>) -> Part<'t>
+    ensures { part_seen result ≡ spec.bracketed (part_seen part.entry) }
 {
     Part {
         expr: part.expr,
@@ -263,7 +327,7 @@ pub fn bracketed(part: Part) -> Part
 }
 
 /// No expressions yet.
-pub fn no_items(alloc: Global) -> Several
+pub fn no_items<'t>(alloc: Global) -> Several<'t>
     ensures { several_seen result ≡ spec.no_items }
 {
     Several {
@@ -272,9 +336,20 @@ pub fn no_items(alloc: Global) -> Several
     }
 }
 
-/// Adds an item. A list of one or two takes no more memory than for these.
-fn add_item(items: &mut Vec<Expr>, item: Expr) -> Result<(), AllocError>
+/// Adds to a list that takes no more memory than for one where it has one alone.
+fn add_one<T: Drop>(items: &mut Vec<T>, item: T) -> Result<(), AllocError>
     ensures { OnOk result (items.new.items ≡ items.old.items ++ item ∷ []) }
+{
+    if items.is_empty() {
+        items.reserve_exact(1)?;
+    }
+    items.push(item)?;
+    Ok(())
+}
+
+/// Adds an item. A list of one or two takes no more memory than for these.
+fn add_item<'t>(items: &mut Vec<Expr<'t>>, item: Expr<'t>) -> Result<(), AllocError>
+    ensures { OnOk result (items.new.items ≡ items.old.items ++ item.entry ∷ []) }
 {
     if items.len() < 2 {
         items.reserve_exact(1)?;
@@ -285,18 +360,24 @@ fn add_item(items: &mut Vec<Expr>, item: Expr) -> Result<(), AllocError>
 
 /// One expression more.
 #[inline(never)]
-pub fn with_item(several: Several, part: Part) -> Result<Several, AllocError>
+pub fn with_item<'t>(several: Several<'t>, part: Part<'t>) -> Result<Several<'t>, AllocError>
     ensures { IfOk result (λ s. several_seen s
-        ≡ spec.with_item (several_seen several) (part_seen part)) }
+        ≡ spec.with_item (several_seen several.entry) (part_seen part.entry)) }
 {
-    let depth = several.depth.max(part.depth);
-    let mut items = several.items;
-    add_item(&mut items, Box::into_inner(part.expr))?;
-    Ok(Several { items, depth })
+    let Several {
+        mut items,
+        depth: a,
+    } = several;
+    let Part { expr, depth: b, .. } = part;
+    add_item(&mut items, Box::into_inner(expr))?;
+    Ok(Several {
+        items,
+        depth: a.max(b),
+    })
 }
 
 /// No entries yet.
-pub fn no_pairs(alloc: Global) -> Pairs
+pub fn no_pairs<'t>(alloc: Global) -> Pairs<'t>
     ensures { pairs_seen result ≡ spec.no_pairs }
 {
     Pairs {
@@ -307,25 +388,35 @@ pub fn no_pairs(alloc: Global) -> Pairs
 
 /// One entry more.
 #[inline(never)]
-pub fn with_pair(found: Pairs, pair: (Part, Part)) -> Result<Pairs, AllocError>
-    ensures { IfOk result (λ s. pairs_seen s ≡ spec.with_pair (pairs_seen found) (pair_seen pair)) }
+pub fn with_pair<'t>(found: Pairs<'t>, pair: (Part<'t>, Part<'t>)) -> Result<Pairs<'t>, AllocError>
+    ensures { IfOk result (λ s. pairs_seen s
+        ≡ spec.with_pair (pairs_seen found.entry) (pair_seen pair.entry)) }
 {
     let (key, value) = pair;
-    let depth = found.depth.max(key.depth.max(value.depth));
-    let mut entries = found.entries;
-    // One alone takes no more memory than for it.
-    if entries.is_empty() {
-        entries.reserve_exact(1)?;
-    }
-    entries.push(Entry {
-        key: Box::into_inner(key.expr),
-        value: Box::into_inner(value.expr),
-    })?;
-    Ok(Pairs { entries, depth })
+    let Part {
+        expr: first,
+        depth: a,
+        ..
+    } = key;
+    let Part {
+        expr: second,
+        depth: b,
+        ..
+    } = value;
+    let Pairs { mut entries, depth } = found;
+    let entry = Entry {
+        key: Box::into_inner(first),
+        value: Box::into_inner(second),
+    };
+    add_one(&mut entries, entry)?;
+    Ok(Pairs {
+        entries,
+        depth: depth.max(a.max(b)),
+    })
 }
 
 /// No arguments yet.
-pub fn no_arguments(alloc: Global) -> Arguments
+pub fn no_arguments<'t>(alloc: Global) -> Arguments<'t>
     ensures { arguments_seen result ≡ spec.no_arguments }
 {
     Arguments {
@@ -338,48 +429,61 @@ pub fn no_arguments(alloc: Global) -> Arguments
 
 /// One positional argument more.
 #[inline(never)]
-pub fn with_positional(arguments: Arguments, part: Part) -> Result<Arguments, AllocError>
+pub fn with_positional<'t>(
+    arguments: Arguments<'t>,
+    part: Part<'t>,
+) -> Result<Arguments<'t>, AllocError>
     ensures { IfOk result (λ s. arguments_seen s
-        ≡ spec.with_argument (arguments_seen arguments) (spec.positional (part_seen part))) }
+        ≡ spec.with_argument (arguments_seen arguments.entry)
+        (spec.positional (part_seen part.entry))) }
 {
-    let depth = arguments.depth.max(part.depth);
-    let in_order = arguments.in_order && arguments.named.is_empty();
-    let mut items = arguments.items;
-    add_item(&mut items, Box::into_inner(part.expr))?;
+    let Arguments {
+        mut items,
+        named,
+        depth: a,
+        in_order,
+    } = arguments;
+    let Part { expr, depth: b, .. } = part;
+    add_item(&mut items, Box::into_inner(expr))?;
+    let in_order = in_order && named.is_empty();
     Ok(Arguments {
         items,
-        named: arguments.named,
-        depth,
+        named,
+        depth: a.max(b),
         in_order,
     })
 }
 
 /// One argument with a name more.
 #[inline(never)]
-pub fn with_keyword(arguments: Arguments, name: Text, part: Part) -> Result<Arguments, AllocError>
+pub fn with_keyword<'t>(
+    arguments: Arguments<'t>,
+    name: Name<'t>,
+    part: Part<'t>,
+) -> Result<Arguments<'t>, AllocError>
     ensures { IfOk result (λ s. arguments_seen s
-        ≡ spec.with_argument (arguments_seen arguments) (spec.keyword name (part_seen part))) }
+        ≡ spec.with_argument (arguments_seen arguments.entry)
+        (spec.keyword name.entry (part_seen part.entry))) }
 {
-    let depth = arguments.depth.max(part.depth);
-    let mut named = arguments.named;
-    // One alone takes no more memory than for it.
-    if named.is_empty() {
-        named.reserve_exact(1)?;
-    }
-    named.push(Keyword {
-        name,
-        value: Box::into_inner(part.expr),
-    })?;
+    let Arguments {
+        items,
+        mut named,
+        depth: a,
+        in_order,
+    } = arguments;
+    let Part { expr, depth: b, .. } = part;
+    let value = Box::into_inner(expr);
+    add_one(&mut named, Keyword { name, value })?;
     Ok(Arguments {
-        items: arguments.items,
+        items,
         named,
-        depth,
-        in_order: arguments.in_order,
+        depth: a.max(b),
+        in_order,
     })
 }
 
 /// No clauses yet.
-pub fn no_conditions(alloc: Global) -> Conditions
+pub fn no_conditions<'t>(alloc: Global) -> Conditions<'t>
     ensures { conditions_seen result ≡ spec.no_conditions }
 {
     Conditions {
@@ -390,33 +494,43 @@ pub fn no_conditions(alloc: Global) -> Conditions
 
 /// A `for` clause more, with its first name and its others.
 #[inline(never)]
-pub fn with_for(
-    found: Conditions,
-    first: Text,
-    others: Vec<Text>,
-    part: Part,
-) -> Result<Conditions, AllocError>
+pub fn with_for<'t>(
+    found: Conditions<'t>,
+    first: Name<'t>,
+    others: Vec<Name<'t>>,
+    part: Part<'t>,
+) -> Result<Conditions<'t>, AllocError>
     ensures { IfOk result (λ s. conditions_seen s
-        ≡ spec.with_for (conditions_seen found) first others.items (part_seen part)) }
+        ≡ spec.with_for (conditions_seen found.entry) first.entry others.entry.items
+        (part_seen part.entry)) }
 {
-    let depth = found.depth.max(part.depth);
-    let mut clauses = found.clauses;
-    // One alone takes no more memory than for it.
-    if clauses.is_empty() {
-        clauses.reserve_exact(1)?;
-    }
-    clauses.push(Clause::For(first, others, Box::into_inner(part.expr)))?;
-    Ok(Conditions { clauses, depth })
+    let Conditions {
+        mut clauses,
+        depth: a,
+    } = found;
+    let Part { expr, depth: b, .. } = part;
+    let clause = Clause::For(first, others, Box::into_inner(expr));
+    add_one(&mut clauses, clause)?;
+    Ok(Conditions {
+        clauses,
+        depth: a.max(b),
+    })
 }
 
 /// An `if` clause more.
 #[inline(never)]
-pub fn with_if(found: Conditions, part: Part) -> Result<Conditions, AllocError>
+pub fn with_if<'t>(found: Conditions<'t>, part: Part<'t>) -> Result<Conditions<'t>, AllocError>
     ensures { IfOk result (λ s. conditions_seen s
-        ≡ spec.with_if (conditions_seen found) (part_seen part)) }
+        ≡ spec.with_if (conditions_seen found.entry) (part_seen part.entry)) }
 {
-    let depth = found.depth.max(part.depth);
-    let mut clauses = found.clauses;
-    clauses.push(Clause::If(Box::into_inner(part.expr)))?;
-    Ok(Conditions { clauses, depth })
+    let Conditions {
+        mut clauses,
+        depth: a,
+    } = found;
+    let Part { expr, depth: b, .. } = part;
+    clauses.push(Clause::If(Box::into_inner(expr)))?;
+    Ok(Conditions {
+        clauses,
+        depth: a.max(b),
+    })
 }

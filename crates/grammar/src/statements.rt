@@ -1,18 +1,19 @@
 //! The lines of a file, as the program keeps them: what only their writing has is gone, and a statement on the line of its
 //! head is the one line of a block.
 
+use crate::Name;
 use crate::tree::Expr;
 use plain::Text;
 
 /// A parameter of a function.
-pub enum Param {
-    Required(Text),
+pub enum Param<'t> {
+    Required(Name<'t>),
     /// With its default.
-    Optional(Text, Expr),
+    Optional(Name<'t>, Expr<'t>),
 }
 
 // By hand, so that letting one go is a call and isn't written out wherever one may be let go.
-impl Drop for Param {
+impl<'t> Drop for Param<'t> {
     fn drop(self) {
         match self {
             Param::Required(_) => {}
@@ -23,39 +24,39 @@ impl Drop for Param {
 
 /// What a `load` asks for: the name that it binds, and the one in the module.
 #[derive(Drop)]
-pub struct Item {
-    pub binds: Text,
+pub struct Item<'t> {
+    pub binds: Name<'t>,
     pub asked: Text,
 }
 
 /// A line, without the lines of its block. Where names are bound, the first stands before the others.
-pub enum Form {
+pub enum Form<'t> {
     /// `load(MODULE, ..)`.
-    Load(Text, Vec<Item>),
+    Load(Text, Vec<Item<'t>>),
     /// `def NAME(..):`.
-    Def(Text, Vec<Param>),
-    If(Expr),
-    Elif(Expr),
+    Def(Name<'t>, Vec<Param<'t>>),
+    If(Expr<'t>),
+    Elif(Expr<'t>),
     Else,
     /// `for FIRST, OTHERS in OPERAND:`.
-    For(Text, Vec<Text>, Expr),
+    For(Name<'t>, Vec<Name<'t>>, Expr<'t>),
     /// `FIRST, OTHERS = VALUE`.
-    Assign(Text, Vec<Text>, Expr),
+    Assign(Name<'t>, Vec<Name<'t>>, Expr<'t>),
     /// `BASE[INDEX] = VALUE`.
-    AssignAt(Box<Expr>, Box<Expr>, Expr),
+    AssignAt(Box<Expr<'t>>, Box<Expr<'t>>, Expr<'t>),
     /// `NAME += VALUE`.
-    Add(Text, Expr),
+    Add(Name<'t>, Expr<'t>),
     /// `BASE[INDEX] += VALUE`.
-    AddAt(Box<Expr>, Box<Expr>, Expr),
-    Evaluate(Expr),
+    AddAt(Box<Expr<'t>>, Box<Expr<'t>>, Expr<'t>),
+    Evaluate(Expr<'t>),
     Pass,
     Break,
     Continue,
-    Return(Option<Expr>),
+    Return(Option<Expr<'t>>),
 }
 
 // By hand, as of `Param`.
-impl Drop for Form {
+impl<'t> Drop for Form<'t> {
     fn drop(self) {
         match self {
             Form::Load(_, _) => {}
@@ -80,8 +81,8 @@ impl Drop for Form {
 /// A line, with the number of its first line in the file, counted from 1, and the lines of its block.
 #[cycle(lines)]
 #[derive(Drop)]
-pub struct Line {
+pub struct Line<'t> {
     pub number: usize,
-    pub form: Form,
-    pub block: Vec<Line>,
+    pub form: Form<'t>,
+    pub block: Vec<Line<'t>>,
 }

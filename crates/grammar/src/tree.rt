@@ -9,6 +9,7 @@ ghost use Rattle.grammar.specs.Bare as bare;
 ghost use Rattle.grammar.specs.Levels.{operator_level};
 ghost use Rattle.grammar.specs.TreeView.{operator_seen, sign_seen, tree_of, trees, entries, keywords, rests};
 
+use crate::Name;
 use plain::Text;
 
 /// How deep an expression may be. A name or a literal is 1 deep, each other form one more than the deepest of its
@@ -66,31 +67,31 @@ pub enum Sign {
 
 /// An expression. It is at most 200 deep in a text that was read.
 #[cycle(tree)]
-pub enum Expr {
+pub enum Expr<'t> {
     /// A name; `None`, `True` and `False` are names.
-    Name(Text),
+    Name(Name<'t>),
     Number(u64),
     /// A string, with its escapes read.
     Str(Text),
-    Tuple(Vec<Expr>),
-    ListOf(Vec<Expr>),
-    DictOf(Vec<Entry>),
+    Tuple(Vec<Expr<'t>>),
+    ListOf(Vec<Expr<'t>>),
+    DictOf(Vec<Entry<'t>>),
     /// `THEN if TEST else OTHER`, in the order of the text.
-    Choice(Box<Expr>, Box<Expr>, Box<Expr>),
-    Binary(Operator, Box<Expr>, Box<Expr>),
-    Unary(Sign, Box<Expr>),
-    Attribute(Box<Expr>, Text),
-    Index(Box<Expr>, Box<Expr>),
+    Choice(Box<Expr<'t>>, Box<Expr<'t>>, Box<Expr<'t>>),
+    Binary(Operator, Box<Expr<'t>>, Box<Expr<'t>>),
+    Unary(Sign, Box<Expr<'t>>),
+    Attribute(Box<Expr<'t>>, Name<'t>),
+    Index(Box<Expr<'t>>, Box<Expr<'t>>),
     /// A call, with its positional arguments and then those with names.
-    Call(Box<Expr>, Vec<Expr>, Vec<Keyword>),
+    Call(Box<Expr<'t>>, Vec<Expr<'t>>, Vec<Keyword<'t>>),
     /// `[ELEMENT for ..]`, with all its clauses; the first one is a `for`.
-    ListEach(Box<Expr>, Vec<Clause>),
+    ListEach(Box<Expr<'t>>, Vec<Clause<'t>>),
     /// `{KEY: VALUE for ..}`.
-    DictEach(Box<Expr>, Box<Expr>, Vec<Clause>),
+    DictEach(Box<Expr<'t>>, Box<Expr<'t>>, Vec<Clause<'t>>),
 }
 
 // By hand, so that letting one go is a call and isn't written out wherever one may be let go.
-impl Drop for Expr {
+impl<'t> Drop for Expr<'t> {
     #[cycle(tree)]
     fn drop(self) {
         match self {
@@ -114,16 +115,16 @@ impl Drop for Expr {
 
 /// What can be assigned to.
 #[derive(Drop)]
-pub enum Target {
-    Name(Text),
+pub enum Target<'t> {
+    Name(Name<'t>),
     /// `BASE[INDEX]`.
-    At(Box<Expr>, Box<Expr>),
+    At(Box<Expr<'t>>, Box<Expr<'t>>),
 }
 
-impl Expr {
+impl<'t> Expr<'t> {
     /// The expression as what is assigned to; None where it is neither a name nor an index.
-    pub fn into_target(self) -> Option<Target>
-        ensures { option_map target_of result ≡ target_in (tree_of self) }
+    pub fn into_target(self) -> Option<Target<'t>>
+        ensures { option_map target_of result ≡ target_in (tree_of self.entry) }
     {
         match self {
             Expr::Name(name) => Some(Target::Name(name)),
@@ -147,111 +148,119 @@ impl Expr {
 /// An entry of a dict.
 #[cycle(tree)]
 #[derive(Drop)]
-pub struct Entry {
-    pub key: Expr,
-    pub value: Expr,
+pub struct Entry<'t> {
+    pub key: Expr<'t>,
+    pub value: Expr<'t>,
 }
 
 /// An argument with its name.
 #[cycle(tree)]
 #[derive(Drop)]
-pub struct Keyword {
-    pub name: Text,
-    pub value: Expr,
+pub struct Keyword<'t> {
+    pub name: Name<'t>,
+    pub value: Expr<'t>,
 }
 
 /// A clause of a comprehension.
 #[cycle(tree)]
 #[derive(Drop)]
-pub enum Clause {
+pub enum Clause<'t> {
     /// `for FIRST, OTHERS in OPERAND`.
-    For(Text, Vec<Text>, Expr),
-    If(Expr),
+    For(Name<'t>, Vec<Name<'t>>, Expr<'t>),
+    If(Expr<'t>),
 }
 
-pub(crate) fn binary(operator: Operator, left: Box<Expr>, right: Box<Expr>) -> Expr
-    ensures { tree_of result ≡ bare.operates (operator_seen operator) (tree_of left.value)
-        (tree_of right.value) }
+pub(crate) fn binary<'t>(operator: Operator, left: Box<Expr<'t>>, right: Box<Expr<'t>>) -> Expr<'t>
+    ensures { tree_of result ≡ bare.operates (operator_seen operator) (tree_of left.entry.value)
+        (tree_of right.entry.value) }
 {
     Expr::Binary(operator, left, right)
 }
 
-pub(crate) fn unary(sign: Sign, operand: Box<Expr>) -> Expr
-    ensures { tree_of result ≡ bare.turned (sign_seen sign) (tree_of operand.value) }
+pub(crate) fn unary<'t>(sign: Sign, operand: Box<Expr<'t>>) -> Expr<'t>
+    ensures { tree_of result ≡ bare.turned (sign_seen sign) (tree_of operand.entry.value) }
 {
     Expr::Unary(sign, operand)
 }
 
-pub(crate) fn choice(then: Box<Expr>, test: Box<Expr>, other: Box<Expr>) -> Expr
-    ensures { tree_of result ≡ bare.choice (tree_of then.value) (tree_of test.value)
-        (tree_of other.value) }
+pub(crate) fn choice<'t>(then: Box<Expr<'t>>, test: Box<Expr<'t>>, other: Box<Expr<'t>>) -> Expr<'t>
+    ensures { tree_of result ≡ bare.choice (tree_of then.entry.value) (tree_of test.entry.value)
+        (tree_of other.entry.value) }
 {
     Expr::Choice(then, test, other)
 }
 
-pub(crate) fn attribute(of: Box<Expr>, name: Text) -> Expr
-    ensures { tree_of result ≡ bare.selects (tree_of of.value) name }
+pub(crate) fn attribute<'t>(of: Box<Expr<'t>>, name: Name<'t>) -> Expr<'t>
+    ensures { tree_of result ≡ bare.selects (tree_of of.entry.value) name.entry }
 {
     Expr::Attribute(of, name)
 }
 
-pub(crate) fn index(of: Box<Expr>, at: Box<Expr>) -> Expr
-    ensures { tree_of result ≡ bare.subscript (tree_of of.value) (tree_of at.value) }
+pub(crate) fn index<'t>(of: Box<Expr<'t>>, at: Box<Expr<'t>>) -> Expr<'t>
+    ensures { tree_of result ≡ bare.subscript (tree_of of.entry.value) (tree_of at.entry.value) }
 {
     Expr::Index(of, at)
 }
 
-pub(crate) fn call(callee: Box<Expr>, arguments: Vec<Expr>, named: Vec<Keyword>) -> Expr
-    ensures { tree_of result ≡ bare.invokes (tree_of callee.value) (trees arguments.items)
-        (keywords named.items) }
+pub(crate) fn call<'t>(
+    callee: Box<Expr<'t>>,
+    arguments: Vec<Expr<'t>>,
+    named: Vec<Keyword<'t>>,
+) -> Expr<'t>
+    ensures { tree_of result ≡ bare.invokes (tree_of callee.entry.value)
+        (trees arguments.entry.items) (keywords named.entry.items) }
 {
     Expr::Call(callee, arguments, named)
 }
 
-pub(crate) fn list_each(element: Box<Expr>, clauses: Vec<Clause>) -> Expr
-    ensures { tree_of result ≡ bare.each (tree_of element.value) (rests clauses.items) }
+pub(crate) fn list_each<'t>(element: Box<Expr<'t>>, clauses: Vec<Clause<'t>>) -> Expr<'t>
+    ensures { tree_of result ≡ bare.each (tree_of element.entry.value) (rests clauses.entry.items) }
 {
     Expr::ListEach(element, clauses)
 }
 
-pub(crate) fn dict_each(key: Box<Expr>, value: Box<Expr>, clauses: Vec<Clause>) -> Expr
-    ensures { tree_of result ≡ bare.each_entry (tree_of key.value) (tree_of value.value)
-        (rests clauses.items) }
+pub(crate) fn dict_each<'t>(
+    key: Box<Expr<'t>>,
+    value: Box<Expr<'t>>,
+    clauses: Vec<Clause<'t>>,
+) -> Expr<'t>
+    ensures { tree_of result ≡ bare.each_entry (tree_of key.entry.value) (tree_of value.entry.value)
+        (rests clauses.entry.items) }
 {
     Expr::DictEach(key, value, clauses)
 }
 
-pub(crate) fn tuple(items: Vec<Expr>) -> Expr
-    ensures { tree_of result ≡ bare.tuple (trees items.items) }
+pub(crate) fn tuple<'t>(items: Vec<Expr<'t>>) -> Expr<'t>
+    ensures { tree_of result ≡ bare.tuple (trees items.entry.items) }
 {
     Expr::Tuple(items)
 }
 
-pub(crate) fn list_of(items: Vec<Expr>) -> Expr
-    ensures { tree_of result ≡ bare.listing (trees items.items) }
+pub(crate) fn list_of<'t>(items: Vec<Expr<'t>>) -> Expr<'t>
+    ensures { tree_of result ≡ bare.listing (trees items.entry.items) }
 {
     Expr::ListOf(items)
 }
 
-pub(crate) fn dict_of(found: Vec<Entry>) -> Expr
-    ensures { tree_of result ≡ bare.dict (entries found.items) }
+pub(crate) fn dict_of<'t>(found: Vec<Entry<'t>>) -> Expr<'t>
+    ensures { tree_of result ≡ bare.dict (entries found.entry.items) }
 {
     Expr::DictOf(found)
 }
 
-pub(crate) fn name(text: Text) -> Expr
-    ensures { tree_of result ≡ bare.named text }
+pub(crate) fn name<'t>(text: Name<'t>) -> Expr<'t>
+    ensures { tree_of result ≡ bare.named text.entry }
 {
     Expr::Name(text)
 }
 
-pub(crate) fn number(value: u64) -> Expr
+pub(crate) fn number<'t>(value: u64) -> Expr<'t>
     ensures { tree_of result ≡ bare.numeral value }
 {
     Expr::Number(value)
 }
 
-pub(crate) fn string(text: Text) -> Expr
+pub(crate) fn string<'t>(text: Text) -> Expr<'t>
     ensures { tree_of result ≡ bare.quoted text }
 {
     Expr::Str(text)

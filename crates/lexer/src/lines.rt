@@ -89,7 +89,7 @@ impl<'t> Lines<'t> {
     }
 
     /// A part of the text, as the tokens name it.
-    pub fn part(&self, span: Span) -> &str
+    pub fn part(&self, span: Span) -> &'t str
         ensures part { result.now ≡ bytes_of self.now.text span }
         ensures ascii { IsAscii result.now }
     {

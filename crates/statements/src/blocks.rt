@@ -10,33 +10,33 @@ use std::alloc::{AllocError, Global};
 
 /// What belongs to a line.
 #[derive(Drop)]
-pub(crate) enum Body {
+pub(crate) enum Body<'t> {
     /// Nothing, since it is no head.
     Nothing,
     /// The block that follows.
     Block,
     /// A statement on the line itself, behind a `Box` since few lines have one.
-    Statement(Box<Form>),
+    Statement(Box<Form<'t>>),
 }
 
 /// A logical line that was read.
 #[derive(Drop)]
-pub(crate) struct Read {
+pub(crate) struct Read<'t> {
     pub(crate) number: usize,
     pub(crate) column: usize,
-    pub(crate) form: Form,
-    pub(crate) body: Body,
+    pub(crate) form: Form<'t>,
+    pub(crate) body: Body<'t>,
 }
 
 /// The lines of a block, the last one first, of which those before them aren't known yet.
 #[derive(Drop)]
-struct Pending {
+struct Pending<'t> {
     column: usize,
-    lines: Vec<Line>,
+    lines: Vec<Line<'t>>,
 }
 
 /// The lines of the innermost block, from the first to the last.
-fn take_block(alloc: Global, blocks: &mut Vec<Pending>) -> Vec<Line>
+fn take_block<'t>(alloc: Global, blocks: &mut Vec<Pending<'t>>) -> Vec<Line<'t>>
     ensures lines { lines result.items ≡ innermost (pendings blocks.old.items) }
     ensures around { pendings blocks.new.items ≡ around (pendings blocks.old.items) }
 {
@@ -51,8 +51,8 @@ fn take_block(alloc: Global, blocks: &mut Vec<Pending>) -> Vec<Line>
 }
 
 /// A block of which the last line is known.
-fn begun(alloc: Global, column: usize, line: Line) -> Result<Pending, AllocError>
-    ensures { IfOk result (λ p. (p.column ≡ column) × (p.lines.items ≡ line ∷ [])) }
+fn begun<'t>(alloc: Global, column: usize, line: Line<'t>) -> Result<Pending<'t>, AllocError>
+    ensures { IfOk result (λ p. (p.column ≡ column) × (p.lines.items ≡ line.entry ∷ [])) }
 {
     let mut lines = Vec::with_capacity(alloc, 1)?;
     lines.push(line)?;
@@ -60,14 +60,14 @@ fn begun(alloc: Global, column: usize, line: Line) -> Result<Pending, AllocError
 }
 
 /// Puts a line before those of its column.
-fn put(
+fn put<'t>(
     alloc: Global,
-    blocks: &mut Vec<Pending>,
+    blocks: &mut Vec<Pending<'t>>,
     column: usize,
-    line: Line,
+    line: Line<'t>,
 ) -> Result<(), AllocError>
     ensures { IfOk result (λ _. pendings blocks.new.items
-        ≡ put column (line_of line) (pendings blocks.old.items)) }
+        ≡ put column (line_of line.entry) (pendings blocks.old.items)) }
 {
     match blocks.pop() {
         Some(mut innermost) => {
@@ -85,16 +85,16 @@ fn put(
 }
 
 /// The lines that belong to a line; those of its block are taken.
-fn block_of(
+fn block_of<'t>(
     alloc: Global,
     number: usize,
-    body: Body,
-    blocks: &mut Vec<Pending>,
-) -> Result<Vec<Line>, AllocError>
+    body: Body<'t>,
+    blocks: &mut Vec<Pending<'t>>,
+) -> Result<Vec<Line<'t>>, AllocError>
     ensures lines { IfOk result (λ ls. lines ls.items
-        ≡ inner_of number (body_of body) (pendings blocks.old.items)) }
+        ≡ inner_of number (body_of body.entry) (pendings blocks.old.items)) }
     ensures left { IfOk result (λ _. pendings blocks.new.items
-        ≡ left_by (body_of body) (pendings blocks.old.items)) }
+        ≡ left_by (body_of body.entry) (pendings blocks.old.items)) }
 {
     match body {
         Body::Nothing => Ok(Vec::new(alloc)),
@@ -112,17 +112,27 @@ fn block_of(
 }
 
 /// Puts a line before those behind it, with what belongs to it.
-fn attach(alloc: Global, blocks: &mut Vec<Pending>, read: Read) -> Result<(), AllocError>
+fn attach<'t>(
+    alloc: Global,
+    blocks: &mut Vec<Pending<'t>>,
+    read: Read<'t>,
+) -> Result<(), AllocError>
     ensures { IfOk result (λ _. pendings blocks.new.items
-        ≡ attached (read_of read) (pendings blocks.old.items)) }
+        ≡ attached (read_of read.entry) (pendings blocks.old.items)) }
 {
-    let block = block_of(alloc, read.number, read.body, blocks)?;
+    let Read {
+        number,
+        column,
+        form,
+        body,
+    } = read;
+    let block = block_of(alloc, number, body, blocks)?;
     let line = Line {
-        number: read.number,
-        form: read.form,
+        number,
+        form,
         block,
     };
-    put(alloc, blocks, read.column, line)
+    put(alloc, blocks, column, line)
 }
 
 /// Puts the lines of a file into their blocks.
@@ -130,8 +140,11 @@ fn attach(alloc: Global, blocks: &mut Vec<Pending>, read: Read) -> Result<(), Al
 /// # Errors
 ///
 /// Where memory was refused.
-pub(crate) fn file_lines(alloc: Global, reads: Vec<Read>) -> Result<Vec<Line>, AllocError>
-    ensures { IfOk result (λ ls. lines ls.items ≡ built (map read_of reads.items)) }
+pub(crate) fn file_lines<'t>(
+    alloc: Global,
+    reads: Vec<Read<'t>>,
+) -> Result<Vec<Line<'t>>, AllocError>
+    ensures { IfOk result (λ ls. lines ls.items ≡ built (map read_of reads.entry.items)) }
 {
     let mut left = reads;
     let mut blocks = Vec::new(alloc);

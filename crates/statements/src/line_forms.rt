@@ -18,7 +18,7 @@ use crate::blocks::Body;
 use descent::expression;
 use grammar::ahead::{Ahead, Opening, Stop};
 use grammar::parts::{Part, Row, Several};
-use grammar::{Expr, Form, Item, MAX_DEPTH, Param, Target, parts};
+use grammar::{Expr, Form, Item, MAX_DEPTH, Name, Param, Target, parts};
 use lexer::{Bracket, Lines, NoMemory, Token, unescape};
 use plain::Text;
 use std::alloc::{AllocError, Global};
@@ -32,8 +32,9 @@ struct FormReader {
 }
 
 /// What is assigned to the target, or to it and the names behind it.
-fn assigned(target: Part, names: Vec<Text>, value: Expr) -> Result<Form, Stop>
-    ensures { Makes form_of (spec.assigned (part_seen target) names.items (tree_of value)) result }
+fn assigned<'t>(target: Part<'t>, names: Vec<Name<'t>>, value: Expr<'t>) -> Result<Form<'t>, Stop>
+    ensures { Makes form_of (spec.assigned (part_seen target.entry) names.entry.items
+        (tree_of value.entry)) result }
 {
     if !target.is_target {
         return Err(Stop::NoForm);
@@ -52,8 +53,8 @@ fn assigned(target: Part, names: Vec<Text>, value: Expr) -> Result<Form, Stop>
 }
 
 /// What is added to the target.
-fn increased(target: Part, value: Expr) -> Result<Form, Stop>
-    ensures { Makes form_of (spec.increased (part_seen target) (tree_of value)) result }
+fn increased<'t>(target: Part<'t>, value: Expr<'t>) -> Result<Form<'t>, Stop>
+    ensures { Makes form_of (spec.increased (part_seen target.entry) (tree_of value.entry)) result }
 {
     if !target.is_target {
         return Err(Stop::NoForm);
@@ -66,8 +67,8 @@ fn increased(target: Part, value: Expr) -> Result<Form, Stop>
 }
 
 /// A form, where nothing is left of the line.
-fn alone(ahead: &Ahead<'_>, form: Form) -> Result<Form, Stop>
-    ensures { Makes form_of (given (is_done ahead.now) (form_of form)) result }
+fn alone<'t>(ahead: &Ahead<'_, 't>, form: Form<'t>) -> Result<Form<'t>, Stop>
+    ensures { Makes form_of (given (is_done ahead.now) (form_of form.entry)) result }
 {
     if ahead.is_done() {
         Ok(form)
@@ -77,8 +78,8 @@ fn alone(ahead: &Ahead<'_>, form: Form) -> Result<Form, Stop>
 }
 
 /// Adds a parameter. A list of one or two takes no more memory than for these.
-fn add_param(found: &mut Vec<Param>, param: Param) -> Result<(), AllocError>
-    ensures { OnOk result (found.new.items ≡ found.old.items ++ param ∷ []) }
+fn add_param<'t>(found: &mut Vec<Param<'t>>, param: Param<'t>) -> Result<(), AllocError>
+    ensures { OnOk result (found.new.items ≡ found.old.items ++ param.entry ∷ []) }
 {
     if found.len() < 2 {
         found.reserve_exact(1)?;
@@ -88,14 +89,14 @@ fn add_param(found: &mut Vec<Param>, param: Param) -> Result<(), AllocError>
 }
 
 impl FormReader {
-    fn expr(&self, ahead: &mut Ahead<'_>, room: usize) -> Result<Part, Stop>
+    fn expr<'t>(&self, ahead: &mut Ahead<'_, 't>, room: usize) -> Result<Part<'t>, Stop>
         ensures { Reads part_seen (read self.now.turns Whole room ahead.old) result ahead.new }
     {
         expression(self.alloc, ahead, self.turns, Row::Whole, room)
     }
 
     /// An expression up to the end of the line.
-    fn last(&self, ahead: &mut Ahead<'_>) -> Result<Expr, Stop>
+    fn last<'t>(&self, ahead: &mut Ahead<'_, 't>) -> Result<Expr<'t>, Stop>
         ensures { Makes tree_of (if_all (read self.now.turns Whole 200 ahead.old)) result }
     {
         let part = self.expr(ahead, MAX_DEPTH)?;
@@ -108,9 +109,13 @@ impl FormReader {
 
     /// Expressions with commas between them, up to the end of the line, behind those that were found.
     #[tactic(auto, unfolding(grammar::specs::FormDescent::more_values))]
-    fn more_values(&self, ahead: &mut Ahead<'_>, mut found: Several) -> Result<Several, Stop>
+    fn more_values<'t>(
+        &self,
+        ahead: &mut Ahead<'_, 't>,
+        mut found: Several<'t>,
+    ) -> Result<Several<'t>, Stop>
         ensures { Makes several_seen (spec.more_values self.now.turns (self.now.turns - 1)
-            (several_seen found) ahead.old) result }
+            (several_seen found.entry) ahead.old) result }
     {
         for _turn in 0..self.turns.saturating_sub(1) {
             let item = self.expr(ahead, MAX_DEPTH - 1)?;
@@ -126,9 +131,13 @@ impl FormReader {
     }
 
     /// Several expressions, of which the first was found, as a tuple.
-    fn values_behind(&self, ahead: &mut Ahead<'_>, first: Part) -> Result<Expr, Stop>
+    fn values_behind<'t>(
+        &self,
+        ahead: &mut Ahead<'_, 't>,
+        first: Part<'t>,
+    ) -> Result<Expr<'t>, Stop>
         ensures { Makes tree_of (spec.value_step self.now.turns (self.now.turns - 1)
-            (part_seen first) [] (Some ahead.old)) result }
+            (part_seen first.entry) [] (Some ahead.old)) result }
     {
         let found = parts::with_item(parts::no_items(self.alloc), first)?;
         let found = self.more_values(ahead, found)?;
@@ -138,7 +147,7 @@ impl FormReader {
 
     /// What is assigned or returned: an expression up to the end of the line, or several, which are a tuple.
     #[tactic(auto, unfolding(grammar::specs::FormDescent::value))]
-    fn value(&self, ahead: &mut Ahead<'_>) -> Result<Expr, Stop>
+    fn value<'t>(&self, ahead: &mut Ahead<'_, 't>) -> Result<Expr<'t>, Stop>
         ensures { Makes tree_of (spec.value self.now.turns ahead.old) result }
     {
         let first = self.expr(ahead, MAX_DEPTH)?;
@@ -153,8 +162,8 @@ impl FormReader {
     }
 
     /// Names behind the first target, up to `=`, and what is assigned.
-    fn names_behind(&self, ahead: &mut Ahead<'_>, first: Part) -> Result<Form, Stop>
-        ensures { Makes form_of (spec.names_step self.now.turns (part_seen first)
+    fn names_behind<'t>(&self, ahead: &mut Ahead<'_, 't>, first: Part<'t>) -> Result<Form<'t>, Stop>
+        ensures { Makes form_of (spec.names_step self.now.turns (part_seen first.entry)
             (names_to ahead.old)) result }
     {
         match ahead.names_to(self.alloc)? {
@@ -168,7 +177,7 @@ impl FormReader {
 
     /// A line that begins with an expression.
     #[tactic(auto, unfolding(grammar::specs::FormDescent::expression_line))]
-    fn expression_line(&self, ahead: &mut Ahead<'_>) -> Result<Form, Stop>
+    fn expression_line<'t>(&self, ahead: &mut Ahead<'_, 't>) -> Result<Form<'t>, Stop>
         ensures { Makes form_of (spec.expression_line self.now.turns ahead.old) result }
     {
         let first = self.expr(ahead, MAX_DEPTH)?;
@@ -187,7 +196,7 @@ impl FormReader {
     }
 
     /// Behind `return`.
-    fn returned(&self, ahead: &mut Ahead<'_>) -> Result<Form, Stop>
+    fn returned<'t>(&self, ahead: &mut Ahead<'_, 't>) -> Result<Form<'t>, Stop>
         ensures { Makes form_of (spec.return_step self.now.turns ahead.old (is_done ahead.old))
             result }
     {
@@ -199,7 +208,11 @@ impl FormReader {
     }
 
     /// Behind the word that a statement without a head begins with.
-    fn simple_behind(&self, opening: Opening, ahead: &mut Ahead<'_>) -> Result<Form, Stop>
+    fn simple_behind<'t>(
+        &self,
+        opening: Opening,
+        ahead: &mut Ahead<'_, 't>,
+    ) -> Result<Form<'t>, Stop>
         ensures { Makes form_of (spec.simple_step self.now.turns [] (Some (opening, ahead.old)))
             result }
     {
@@ -214,7 +227,7 @@ impl FormReader {
 
     /// A statement without a head.
     #[tactic(auto, unfolding(grammar::specs::FormDescent::simple))]
-    fn simple(&self, ahead: &mut Ahead<'_>) -> Result<Form, Stop>
+    fn simple<'t>(&self, ahead: &mut Ahead<'_, 't>) -> Result<Form<'t>, Stop>
         ensures { Makes form_of (spec.simple self.now.turns ahead.old) result }
     {
         match ahead.opening() {
@@ -225,7 +238,7 @@ impl FormReader {
 
     /// The `:` of a head, and what is behind it.
     #[tactic(auto, unfolding(grammar::specs::FormDescent::body))]
-    fn body(&self, ahead: &mut Ahead<'_>) -> Result<Body, Stop>
+    fn body<'t>(&self, ahead: &mut Ahead<'_, 't>) -> Result<Body<'t>, Stop>
         ensures { Makes body_of (spec.body self.now.turns ahead.old) result }
     {
         if !ahead.colon() {
@@ -239,8 +252,12 @@ impl FormReader {
     }
 
     /// A head with its body.
-    fn bodied(&self, ahead: &mut Ahead<'_>, form: Form) -> Result<(Form, Body), Stop>
-        ensures { Makes shaped_of (spec.bodied self.now.turns (form_of form)
+    fn bodied<'t>(
+        &self,
+        ahead: &mut Ahead<'_, 't>,
+        form: Form<'t>,
+    ) -> Result<(Form<'t>, Body<'t>), Stop>
+        ensures { Makes shaped_of (spec.bodied self.now.turns (form_of form.entry)
             (spec.body self.now.turns ahead.old)) result }
     {
         let body = self.body(ahead)?;
@@ -249,13 +266,13 @@ impl FormReader {
 
     /// A parameter, with its default if it has one.
     #[tactic(auto, unfolding(grammar::specs::FormDescent::param))]
-    fn param(&self, ahead: &mut Ahead<'_>) -> Result<Param, Stop>
+    fn param<'t>(&self, ahead: &mut Ahead<'_, 't>) -> Result<Param<'t>, Stop>
         ensures { Reads param_of (spec.param self.now.turns ahead.old) result ahead.new }
     {
         let Some(name) = ahead.name() else {
             return Err(Stop::NoForm);
         };
-        let name = Text::new(self.alloc, name)?;
+        let name = Name::new(name);
         if !ahead.assign() {
             return Ok(Param::Required(name));
         }
@@ -265,7 +282,7 @@ impl FormReader {
 
     /// The parameters of a function, up to the closing bracket.
     #[tactic(auto, unfolding(grammar::specs::FormDescent::params, grammar::specs::Descent::gather))]
-    fn params(&self, ahead: &mut Ahead<'_>) -> Result<Vec<Param>, Stop>
+    fn params<'t>(&self, ahead: &mut Ahead<'_, 't>) -> Result<Vec<Param<'t>>, Stop>
         ensures { Reads (λ ps. map param_of ps.items) (spec.params self.now.turns ahead.old) result
             ahead.new }
     {
@@ -287,7 +304,7 @@ impl FormReader {
     }
 
     /// A string.
-    fn string(&self, ahead: &mut Ahead<'_>) -> Result<Text, Stop>
+    fn string(&self, ahead: &mut Ahead<'_, '_>) -> Result<Text, Stop>
         ensures { Reads (λ s. s) (string_at ahead.old) result ahead.new }
     {
         let Some(body) = ahead.string() else {
@@ -298,18 +315,18 @@ impl FormReader {
 
     /// What a `load` asks for.
     #[tactic(auto, unfolding(grammar::specs::FormDescent::item))]
-    fn item(&self, ahead: &mut Ahead<'_>) -> Result<Item, Stop>
+    fn item<'t>(&self, ahead: &mut Ahead<'_, 't>) -> Result<Item<'t>, Stop>
         ensures { Reads item_of (spec.item self.now.turns ahead.old) result ahead.new }
     {
         match ahead.named() {
             Some(name) => {
-                let binds = Text::new(self.alloc, name)?;
+                let binds = Name::new(name);
                 let asked = self.string(ahead)?;
                 Ok(Item { binds, asked })
             }
             None => {
                 let asked = self.string(ahead)?;
-                let binds = asked.share()?;
+                let binds = Name::from_text(asked.share()?);
                 Ok(Item { binds, asked })
             }
         }
@@ -317,7 +334,7 @@ impl FormReader {
 
     /// All that a `load` asks for, up to the closing bracket.
     #[tactic(auto, unfolding(grammar::specs::FormDescent::items, grammar::specs::Descent::gather))]
-    fn items(&self, ahead: &mut Ahead<'_>) -> Result<Vec<Item>, Stop>
+    fn items<'t>(&self, ahead: &mut Ahead<'_, 't>) -> Result<Vec<Item<'t>>, Stop>
         ensures { Reads (λ is. map item_of is.items) (spec.items self.now.turns ahead.old) result
             ahead.new }
     {
@@ -340,7 +357,7 @@ impl FormReader {
 
     /// Behind `load`.
     #[tactic(auto, unfolding(grammar::specs::FormDescent::load_line))]
-    fn load_line(&self, ahead: &mut Ahead<'_>) -> Result<(Form, Body), Stop>
+    fn load_line<'t>(&self, ahead: &mut Ahead<'_, 't>) -> Result<(Form<'t>, Body<'t>), Stop>
         ensures { Makes shaped_of (spec.load_line self.now.turns ahead.old) result }
     {
         if !ahead.open_round() {
@@ -362,13 +379,13 @@ impl FormReader {
 
     /// Behind `def`.
     #[tactic(auto, unfolding(grammar::specs::FormDescent::def_line))]
-    fn def_line(&self, ahead: &mut Ahead<'_>) -> Result<(Form, Body), Stop>
+    fn def_line<'t>(&self, ahead: &mut Ahead<'_, 't>) -> Result<(Form<'t>, Body<'t>), Stop>
         ensures { Makes shaped_of (spec.def_line self.now.turns ahead.old) result }
     {
         let Some(name) = ahead.name() else {
             return Err(Stop::NoForm);
         };
-        let name = Text::new(self.alloc, name)?;
+        let name = Name::new(name);
         if !ahead.open_round() {
             return Err(Stop::NoForm);
         }
@@ -378,13 +395,13 @@ impl FormReader {
 
     /// Behind `for`.
     #[tactic(auto, unfolding(grammar::specs::FormDescent::for_line, grammar::specs::FormDescent::headed))]
-    fn for_line(&self, ahead: &mut Ahead<'_>) -> Result<(Form, Body), Stop>
+    fn for_line<'t>(&self, ahead: &mut Ahead<'_, 't>) -> Result<(Form<'t>, Body<'t>), Stop>
         ensures { Makes shaped_of (spec.for_line self.now.turns ahead.old) result }
     {
         let Some(name) = ahead.name() else {
             return Err(Stop::NoForm);
         };
-        let name = Text::new(self.alloc, name)?;
+        let name = Name::new(name);
         let Some(others) = ahead.names_in(self.alloc)? else {
             return Err(Stop::NoForm);
         };
@@ -397,7 +414,7 @@ impl FormReader {
 
     /// Behind `if`.
     #[tactic(auto, unfolding(grammar::specs::FormDescent::headed))]
-    fn if_line(&self, ahead: &mut Ahead<'_>) -> Result<(Form, Body), Stop>
+    fn if_line<'t>(&self, ahead: &mut Ahead<'_, 't>) -> Result<(Form<'t>, Body<'t>), Stop>
         ensures { Makes shaped_of (spec.headed self.now.turns bare.if_head ahead.old) result }
     {
         let test = self.expr(ahead, MAX_DEPTH)?;
@@ -406,7 +423,7 @@ impl FormReader {
 
     /// Behind `elif`.
     #[tactic(auto, unfolding(grammar::specs::FormDescent::headed))]
-    fn elif_line(&self, ahead: &mut Ahead<'_>) -> Result<(Form, Body), Stop>
+    fn elif_line<'t>(&self, ahead: &mut Ahead<'_, 't>) -> Result<(Form<'t>, Body<'t>), Stop>
         ensures { Makes shaped_of (spec.headed self.now.turns bare.elif_head ahead.old) result }
     {
         let test = self.expr(ahead, MAX_DEPTH)?;
@@ -414,7 +431,11 @@ impl FormReader {
     }
 
     /// Behind the word that a line begins with.
-    fn form_behind(&self, opening: Opening, ahead: &mut Ahead<'_>) -> Result<(Form, Body), Stop>
+    fn form_behind<'t>(
+        &self,
+        opening: Opening,
+        ahead: &mut Ahead<'_, 't>,
+    ) -> Result<(Form<'t>, Body<'t>), Stop>
         ensures { Makes shaped_of (spec.form_step self.now.turns [] (Some (opening, ahead.old)))
             result }
     {
@@ -434,7 +455,7 @@ impl FormReader {
 
     /// The form of a line.
     #[tactic(auto, unfolding(grammar::specs::FormDescent::form))]
-    fn form(&self, ahead: &mut Ahead<'_>) -> Result<(Form, Body), Stop>
+    fn form<'t>(&self, ahead: &mut Ahead<'_, 't>) -> Result<(Form<'t>, Body<'t>), Stop>
         ensures { Makes shaped_of (spec.form self.now.turns ahead.old) result }
     {
         match ahead.opening() {
@@ -454,11 +475,11 @@ impl FormReader {
 ///
 /// [`NoMemory`] where memory was refused.
 #[tactic(auto, unfolding(grammar::specs::FormDescent::reads_form))]
-pub(crate) fn read_form(
+pub(crate) fn read_form<'t>(
     alloc: Global,
-    lines: &Lines,
+    lines: &Lines<'t>,
     tokens: &[Token],
-) -> Result<Option<(Form, Body)>, NoMemory>
+) -> Result<Option<(Form<'t>, Body<'t>)>, NoMemory>
     ensures { IfOk result (λ r. option_map shaped_of r
         ≡ spec.reads_form (tokens_seen lines.now.text tokens.now)) }
 {

@@ -40,7 +40,7 @@ fn is_text(tokens: &[Token]) -> bool
     }
 }
 
-fn shape_of(form: &Form, is_text: bool) -> Shape
+fn shape_of(form: &Form<'_>, is_text: bool) -> Shape
     ensures { result ≡ shape_of is_text (form_of form.now) }
 {
     match form {
@@ -61,7 +61,7 @@ fn shape_of(form: &Form, is_text: bool) -> Shape
     }
 }
 
-fn body_shape(body: &Body) -> outline::Body
+fn body_shape(body: &Body<'_>) -> outline::Body
     ensures { result ≡ body_shape (body_of body.now) }
 {
     match body {
@@ -84,22 +84,27 @@ fn start_of(tokens: &[Token]) -> (usize, usize)
 
 /// A line with its outline, which has no form where the line has none.
 #[derive(Drop)]
-struct LineRead {
+struct LineRead<'t> {
     outline: Outline,
-    read: Option<Read>,
+    read: Option<Read<'t>>,
 }
 
 /// What is read of a line that begins there.
-fn with_start(number: usize, column: usize, form: Option<(Form, Body)>, is_text: bool) -> LineRead
+fn with_start<'t>(
+    number: usize,
+    column: usize,
+    form: Option<(Form<'t>, Body<'t>)>,
+    is_text: bool,
+) -> LineRead<'t>
     ensures outline { result.outline ≡ record {
       line = number;
       column = column;
       form = option_map
-          (formed_as is_text) (option_map shaped_of form);
+          (formed_as is_text) (option_map shaped_of form.entry);
     } }
     ensures read { option_map read_of result.read ≡ option_map
         (λ s. record { number = number; column = column; form = s.0; body = s.1 })
-        (option_map shaped_of form) }
+        (option_map shaped_of form.entry) }
 {
     match form {
         Some((form, body)) => {
@@ -133,7 +138,11 @@ fn with_start(number: usize, column: usize, form: Option<(Form, Body)>, is_text:
 }
 
 /// Reads the line of these tokens.
-fn read_line(alloc: Global, lines: &Lines, tokens: &[Token]) -> Result<LineRead, NoMemory>
+fn read_line<'t>(
+    alloc: Global,
+    lines: &Lines<'t>,
+    tokens: &[Token],
+) -> Result<LineRead<'t>, NoMemory>
     ensures outline { IfOk result (λ r. r.outline
         ≡ outline_read (laid (map (seen lines.now.text) tokens.now))) }
     ensures read { IfOk result (λ r. option_map read_of r.read
@@ -146,19 +155,20 @@ fn read_line(alloc: Global, lines: &Lines, tokens: &[Token]) -> Result<LineRead,
 
 /// What was read of the lines of a text: the outlines of all, and those that have a form.
 #[derive(Drop)]
-struct LinesRead {
+struct LinesRead<'t> {
     outlines: Vec<Outline>,
-    reads: Vec<Read>,
+    reads: Vec<Read<'t>>,
 }
 
-impl LinesRead {
+impl<'t> LinesRead<'t> {
     /// Adds a line.
-    fn add(&mut self, line: LineRead) -> Result<(), AllocError>
+    fn add(&mut self, line: LineRead<'t>) -> Result<(), AllocError>
         ensures outlines { OnOk result (self.new.outlines.items
-            ≡ self.old.outlines.items ++ line.outline ∷ []) }
+            ≡ self.old.outlines.items ++ line.entry.outline ∷ []) }
         ensures reads { OnOk result ((ms : List Made)
             → map read_of self.new.reads.items ++ ms
-            ≡ map read_of self.old.reads.items ++ cons_option (option_map read_of line.read) ms) }
+            ≡ map read_of self.old.reads.items
+            ++ cons_option (option_map read_of line.entry.read) ms) }
     {
         self.outlines.push(line.outline)?;
         if let Some(read) = line.read {
@@ -169,7 +179,7 @@ impl LinesRead {
 }
 
 /// Reads each line of a text.
-fn read_lines(alloc: Global, lines: &Lines) -> Result<LinesRead, NoMemory>
+fn read_lines<'t>(alloc: Global, lines: &Lines<'t>) -> Result<LinesRead<'t>, NoMemory>
     ensures outlines { IfOk result (λ r. r.outlines.items
         ≡ map outline_read (map laid lines.now.lines)) }
     ensures reads { IfOk result (λ r. map read_of r.reads.items
@@ -197,7 +207,11 @@ fn top_of(kind: FileKind) -> Place
 }
 
 /// The same as [`read_file`].
-fn blocks_of(alloc: Global, lines: Lines, kind: FileKind) -> Result<Vec<Line>, ParseStop>
+fn blocks_of<'t>(
+    alloc: Global,
+    lines: Lines<'t>,
+    kind: FileKind,
+) -> Result<Vec<Line<'t>>, ParseStop>
     ensures tree { IfOk result (λ ls. (tree : Block)
         × (file_reads (top_of kind) (map laid lines.entry.lines) ≡ Ok tree)
         × (view.lines ls.items ≡ bare_lines tree)) }
@@ -224,7 +238,11 @@ fn blocks_of(alloc: Global, lines: Lines, kind: FileKind) -> Result<Vec<Line>, P
 ///
 /// A fault of the statements at the first line that has no form, or stands where it may not. Want of memory may be
 /// answered in its place.
-pub fn read_file(alloc: Global, lines: Lines, kind: FileKind) -> Result<Vec<Line>, ParseStop>
+pub fn read_file<'t>(
+    alloc: Global,
+    lines: Lines<'t>,
+    kind: FileKind,
+) -> Result<Vec<Line<'t>>, ParseStop>
     ensures tree { IfOk result (λ ls. (tree : Block)
         × (file_reads (top_of kind) (map laid lines.entry.lines) ≡ Ok tree)
         × (view.lines ls.items ≡ bare_lines tree)) }

@@ -11,12 +11,11 @@ ghost use Rattle.syntax.specs.Names as names;
 ghost use Rattle.syntax.specs.Names.{Name, form_binds, lines_bind, loads_bind, param_name, passed_on};
 
 use crate::scope::add_names;
-use grammar::{Clause, Form, Item, Line, Param};
-use plain::Text;
+use grammar::{Clause, Form, Item, Line, Name, Param};
 use std::alloc::{AllocError, Global};
 
 /// Adds the names that a `load` binds.
-fn add_items(found: &mut Vec<Text>, items: &[Item]) -> Result<(), AllocError>
+fn add_items<'t>(found: &mut Vec<Name<'t>>, items: &[Item<'t>]) -> Result<(), AllocError>
     ensures { OnOk result (found.new.items ≡ found.old.items ++ map
         (λ i. i.binds) (map item_of items.now)) }
 {
@@ -27,7 +26,11 @@ fn add_items(found: &mut Vec<Text>, items: &[Item]) -> Result<(), AllocError>
 }
 
 /// Adds a name and others behind it.
-fn add_targets(found: &mut Vec<Text>, first: &Text, others: &[Text]) -> Result<(), AllocError>
+fn add_targets<'t>(
+    found: &mut Vec<Name<'t>>,
+    first: &Name<'t>,
+    others: &[Name<'t>],
+) -> Result<(), AllocError>
     ensures { OnOk result (found.new.items ≡ found.old.items ++ first.now ∷ others.now) }
 {
     found.push(first.share()?)?;
@@ -35,7 +38,7 @@ fn add_targets(found: &mut Vec<Text>, first: &Text, others: &[Text]) -> Result<(
 }
 
 /// Adds the names that a line binds.
-fn add_form(found: &mut Vec<Text>, form: &Form) -> Result<(), AllocError>
+fn add_form<'t>(found: &mut Vec<Name<'t>>, form: &Form<'t>) -> Result<(), AllocError>
     ensures { OnOk result (found.new.items ≡ found.old.items ++ form_binds (form_of form.now)) }
 {
     match form {
@@ -61,7 +64,7 @@ fn add_form(found: &mut Vec<Text>, form: &Form) -> Result<(), AllocError>
 }
 
 /// The names that a line binds.
-pub(crate) fn form_names(alloc: Global, form: &Form) -> Result<Vec<Text>, AllocError>
+pub(crate) fn form_names<'t>(alloc: Global, form: &Form<'t>) -> Result<Vec<Name<'t>>, AllocError>
     ensures { IfOk result (λ v. v.items ≡ form_binds (form_of form.now)) }
 {
     let mut found = Vec::new(alloc);
@@ -70,7 +73,10 @@ pub(crate) fn form_names(alloc: Global, form: &Form) -> Result<Vec<Text>, AllocE
 }
 
 /// Adds the names of parameters.
-pub(crate) fn add_params(found: &mut Vec<Text>, params: &[Param]) -> Result<(), AllocError>
+pub(crate) fn add_params<'t>(
+    found: &mut Vec<Name<'t>>,
+    params: &[Param<'t>],
+) -> Result<(), AllocError>
     ensures { OnOk result (found.new.items ≡ found.old.items ++ map param_name
         (map param_of params.now)) }
 {
@@ -83,14 +89,14 @@ pub(crate) fn add_params(found: &mut Vec<Text>, params: &[Param]) -> Result<(), 
 }
 
 /// Whether the block of a line binds no names around it: a function keeps its own.
-fn keeps_names(form: &Form) -> bool
+fn keeps_names(form: &Form<'_>) -> bool
     ensures { (xs : List Name) → passed_on (form_of form.now) xs ≡ (if result then [] else xs) }
 {
     matches!(form, Form::Def(_, _))
 }
 
 /// The lines of the block of a line.
-pub(crate) fn block_of(line: &Line) -> &[Line]
+pub(crate) fn block_of<'l, 't>(line: &'l Line<'t>) -> &'l [Line<'t>]
     ensures block { result.now ≡ (out-Line line.now).block.items }
     ensures seen { (rest : Lines) → line_of line.now rest
         ≡ a_line (out-Line line.now).number (form_of (out-Line line.now).form)
@@ -100,7 +106,7 @@ pub(crate) fn block_of(line: &Line) -> &[Line]
 }
 
 /// Adds the names that a line binds, if it is a `load`.
-pub(crate) fn add_loaded(found: &mut Vec<Text>, line: &Line) -> Result<(), AllocError>
+pub(crate) fn add_loaded<'t>(found: &mut Vec<Name<'t>>, line: &Line<'t>) -> Result<(), AllocError>
     ensures { OnOk result ((rest : Lines) → found.new.items ++ loads_bind rest
         ≡ found.old.items ++ loads_bind (line_of line.now rest)) }
 {
@@ -112,7 +118,7 @@ pub(crate) fn add_loaded(found: &mut Vec<Text>, line: &Line) -> Result<(), Alloc
 
 /// Adds the names that lines bind, in the order of the text. It calls itself once for each block that is open: 32 at most, and
 /// the line of a head.
-pub(crate) fn add_lines(found: &mut Vec<Text>, lines: &[Line]) -> Result<(), AllocError>
+pub(crate) fn add_lines<'t>(found: &mut Vec<Name<'t>>, lines: &[Line<'t>]) -> Result<(), AllocError>
     ensures { OnOk result (found.new.items ≡ found.old.items ++ lines_bind (view.lines lines.now)) }
 {
     for line in lines {
@@ -126,7 +132,7 @@ pub(crate) fn add_lines(found: &mut Vec<Text>, lines: &[Line]) -> Result<(), All
 }
 
 /// Adds the names that a clause binds.
-fn add_clause(found: &mut Vec<Text>, clause: &Clause) -> Result<(), AllocError>
+fn add_clause<'t>(found: &mut Vec<Name<'t>>, clause: &Clause<'t>) -> Result<(), AllocError>
     ensures { OnOk result ((r : Rest) → found.new.items ++ names.clause_names r
         ≡ found.old.items ++ names.clause_names (clause_of clause.now r)) }
 {
@@ -137,7 +143,10 @@ fn add_clause(found: &mut Vec<Text>, clause: &Clause) -> Result<(), AllocError>
 }
 
 /// The names that the clauses of a comprehension bind.
-pub(crate) fn clause_names(alloc: Global, clauses: &[Clause]) -> Result<Vec<Text>, AllocError>
+pub(crate) fn clause_names<'t>(
+    alloc: Global,
+    clauses: &[Clause<'t>],
+) -> Result<Vec<Name<'t>>, AllocError>
     ensures { IfOk result (λ v. v.items ≡ names.clause_names (rests clauses.now)) }
 {
     let mut found = Vec::new(alloc);

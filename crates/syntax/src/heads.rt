@@ -18,8 +18,8 @@ use crate::bound::add_params;
 use crate::names::Binding;
 use crate::program::{Loaded, Statement, Term};
 use crate::resolver::{Unresolved, bindings, resolve};
-use crate::scope::{Scope, are_distinct, is_free, none_predeclared};
-use grammar::{Expr, Form, Item, MAX_DEPTH, Param};
+use crate::scope::{Scope, are_distinct, is_free, none_predeclared, texts_of};
+use grammar::{Expr, Form, Item, MAX_DEPTH, Name, Param};
 use plain::Text;
 use std::alloc::{AllocError, Global};
 
@@ -36,14 +36,14 @@ pub(crate) enum Head {
     Def(usize, Vec<Text>, Vec<Term>),
 }
 
-fn term(alloc: Global, scope: &mut Scope, expr: &Expr) -> Result<Term, Unresolved>
+fn term<'t>(alloc: Global, scope: &mut Scope<'t>, expr: &Expr<'t>) -> Result<Term, Unresolved>
     ensures { GivesTerm (tree_of expr.now) scope.old result scope.new }
 {
     resolve(alloc, scope, expr, MAX_DEPTH)
 }
 
 /// Whether no name that a `load` binds is predeclared.
-fn items_are_free(items: &[Item]) -> bool
+fn items_are_free(items: &[Item<'_>]) -> bool
     ensures { result ≡ none_predeclared (map (λ i. i.binds) (map item_of items.now)) }
 {
     for item in items {
@@ -55,7 +55,7 @@ fn items_are_free(items: &[Item]) -> bool
 }
 
 /// Whether no name that a line binds is predeclared.
-fn binds_free(form: &Form) -> bool
+fn binds_free(form: &Form<'_>) -> bool
     ensures { result ≡ none_predeclared (form_binds (form_of form.now)) }
 {
     match form {
@@ -78,7 +78,7 @@ fn binds_free(form: &Form) -> bool
 }
 
 /// Whether the parameters with defaults come last.
-fn defaults_last(params: &[Param]) -> bool
+fn defaults_last(params: &[Param<'_>]) -> bool
     ensures { result ≡ defaults_last (map param_of params.now) }
 {
     let mut had_default = false;
@@ -96,11 +96,11 @@ fn defaults_last(params: &[Param]) -> bool
 }
 
 /// Adds the default of a parameter, if it has one.
-fn add_default(
+fn add_default<'t>(
     alloc: Global,
-    scope: &mut Scope,
+    scope: &mut Scope<'t>,
     found: &mut Vec<Term>,
-    param: &Param,
+    param: &Param<'t>,
 ) -> Result<(), Unresolved>
     ensures kept { Keeps (λ s. param_scoped s (param_of param.now)) scope.old result scope.new }
     ensures found { IfOk result (λ _. (r : Terms)
@@ -119,7 +119,11 @@ fn add_default(
 }
 
 /// The defaults of the last parameters.
-fn defaults(alloc: Global, scope: &mut Scope, params: &[Param]) -> Result<Vec<Term>, Unresolved>
+fn defaults<'t>(
+    alloc: Global,
+    scope: &mut Scope<'t>,
+    params: &[Param<'t>],
+) -> Result<Vec<Term>, Unresolved>
     ensures { Gives (λ v. view.terms v.items) (λ s. list_all (param_scoped s)
         (map param_of params.now)) (λ s. defaults s (map param_of params.now)) scope.old result
         scope.new }
@@ -132,7 +136,11 @@ fn defaults(alloc: Global, scope: &mut Scope, params: &[Param]) -> Result<Vec<Te
 }
 
 /// What a `load` binds.
-fn loaded(alloc: Global, scope: &Scope, items: &[Item]) -> Result<Vec<Loaded>, AllocError>
+fn loaded<'t>(
+    alloc: Global,
+    scope: &Scope<'t>,
+    items: &[Item<'t>],
+) -> Result<Vec<Loaded>, AllocError>
     ensures { IfOk result (λ v. v.items ≡ map (λ i. record
         { asked = i.asked; binds = global_of scope.now i.binds }) (map item_of items.now)) }
 {
@@ -147,7 +155,12 @@ fn loaded(alloc: Global, scope: &Scope, items: &[Item]) -> Result<Vec<Loaded>, A
 }
 
 /// A `load`.
-fn load(alloc: Global, scope: &Scope, path: &Text, items: &[Item]) -> Result<Statement, AllocError>
+fn load<'t>(
+    alloc: Global,
+    scope: &Scope<'t>,
+    path: &Text,
+    items: &[Item<'t>],
+) -> Result<Statement, AllocError>
     ensures { IfOk result (λ l. view.statement l
         ≡ resolved.load path.now (map (λ i. record
         { asked = i.asked; binds = global_of scope.now i.binds }) (map item_of items.now))) }
@@ -158,7 +171,7 @@ fn load(alloc: Global, scope: &Scope, path: &Text, items: &[Item]) -> Result<Sta
 }
 
 /// The names of parameters.
-fn param_names(alloc: Global, params: &[Param]) -> Result<Vec<Text>, AllocError>
+fn param_names<'t>(alloc: Global, params: &[Param<'t>]) -> Result<Vec<Name<'t>>, AllocError>
     ensures { IfOk result (λ v. v.items ≡ map param_name (map param_of params.now)) }
 {
     let mut names = Vec::with_capacity(alloc, params.len())?;
@@ -167,7 +180,12 @@ fn param_names(alloc: Global, params: &[Param]) -> Result<Vec<Text>, AllocError>
 }
 
 /// The head of a function.
-fn def(alloc: Global, scope: &mut Scope, name: &Text, params: &[Param]) -> Result<Head, Unresolved>
+fn def<'t>(
+    alloc: Global,
+    scope: &mut Scope<'t>,
+    name: &Name<'t>,
+    params: &[Param<'t>],
+) -> Result<Head, Unresolved>
     ensures { GivesHead form_scoped (defines name.now (map param_of params.now)) scope.old result
         scope.new }
 {
@@ -182,16 +200,17 @@ fn def(alloc: Global, scope: &mut Scope, name: &Text, params: &[Param]) -> Resul
         return Err(Unresolved::Breaks);
     }
     let defaults = defaults(alloc, scope, params)?;
-    Ok(Head::Def(scope.global(name), names, defaults))
+    let params = texts_of(alloc, names.as_slice())?;
+    Ok(Head::Def(scope.global(name), params, defaults))
 }
 
 /// The parts of `BASE[INDEX] = VALUE`, or of the same with `+=`.
-fn three(
+fn three<'t>(
     alloc: Global,
-    scope: &mut Scope,
-    base: &Expr,
-    at: &Expr,
-    value: &Expr,
+    scope: &mut Scope<'t>,
+    base: &Expr<'t>,
+    at: &Expr<'t>,
+    value: &Expr<'t>,
 ) -> Result<(Box<Term>, Box<Term>, Term), Unresolved>
     ensures { Gives {B = resolved.Term × resolved.Term × resolved.Term}
         (λ t. (view.term t.0.value, view.term t.1.value, view.term t.2))
@@ -210,7 +229,7 @@ fn three(
 }
 
 /// A line without the rule on what it binds.
-fn form_head(alloc: Global, scope: &mut Scope, form: &Form) -> Result<Head, Unresolved>
+fn form_head<'t>(alloc: Global, scope: &mut Scope<'t>, form: &Form<'t>) -> Result<Head, Unresolved>
     ensures { GivesHead form_scoped (form_of form.now) scope.old result scope.new }
 {
     match form {
@@ -264,7 +283,11 @@ fn form_head(alloc: Global, scope: &mut Scope, form: &Form) -> Result<Head, Unre
 ///
 /// [`Unresolved::Breaks`] where it breaks a rule of scopes. [`Unresolved::NoMemory`] where memory was refused, or an
 /// expression is deeper than those of any text that was read.
-pub(crate) fn line_head(alloc: Global, scope: &mut Scope, form: &Form) -> Result<Head, Unresolved>
+pub(crate) fn line_head<'t>(
+    alloc: Global,
+    scope: &mut Scope<'t>,
+    form: &Form<'t>,
+) -> Result<Head, Unresolved>
     ensures { GivesHead line_scoped (form_of form.now) scope.old result scope.new }
 {
     if !binds_free(form) {

@@ -4,19 +4,19 @@ ghost use Rattle.std.specs.Prelude.{◌≡◌, ◌∷◌, [], ◌<◌, ◌^◌, 
 ghost use Rattle.syntax.specs.Names.{slot_of, width};
 ghost use Rattle.syntax.specs.ScopeView.{outer};
 
+use grammar::Name;
 use indexmap::IndexSet;
-use plain::Text;
 use std::alloc::{AllocError, Global};
 use std::marker::Model;
 
 /// Levels of names, of which each name has a slot: those of a function, and of each comprehension around. To a contract the
 /// innermost level is the first.
 #[derive(Drop)]
-pub(crate) struct Levels {
-    sets: Vec<IndexSet<Text>>,
+pub(crate) struct Levels<'t> {
+    sets: Vec<IndexSet<Name<'t>>>,
 }
 
-impl Model for Levels {
+impl<'t> Model for Levels<'t> {
     ghost use Rattle.std.specs.Prelude.{◌<◌, ◌^◌, List, map, reverse};
     ghost use Rattle.syntax.specs.Names.{Name, width};
 
@@ -28,7 +28,7 @@ impl Model for Levels {
 }
 
 /// How many slots levels have.
-fn width(levels: &[IndexSet<Text>]) -> usize
+fn width(levels: &[IndexSet<Name<'_>>]) -> usize
     requires { width (map (λ s. s.keys) (reverse levels.now)) < 2 ^ 64 }
     ensures { result ≡ width (map (λ s. s.keys) (reverse levels.now)) }
 {
@@ -39,7 +39,7 @@ fn width(levels: &[IndexSet<Text>]) -> usize
 }
 
 /// The slot of a name.
-fn slot(levels: &[IndexSet<Text>], name: &Text) -> Option<usize>
+fn slot<'t>(levels: &[IndexSet<Name<'t>>], name: &Name<'t>) -> Option<usize>
     requires { width (map (λ s. s.keys) (reverse levels.now)) < 2 ^ 64 }
     ensures { result ≡ slot_of name.now (map (λ s. s.keys) (reverse levels.now)) }
 {
@@ -52,9 +52,9 @@ fn slot(levels: &[IndexSet<Text>], name: &Text) -> Option<usize>
     }
 }
 
-impl Levels {
+impl<'t> Levels<'t> {
     /// No level, as at the top level of a file.
-    pub(crate) fn new(alloc: Global) -> Levels
+    pub(crate) fn new(alloc: Global) -> Levels<'t>
         ensures { result ≡ [] }
     {
         Levels {
@@ -70,15 +70,15 @@ impl Levels {
     }
 
     /// The slot of a name: of the innermost level that has it.
-    pub(crate) fn slot(&self, name: &Text) -> Option<usize>
+    pub(crate) fn slot(&self, name: &Name<'t>) -> Option<usize>
         ensures { result ≡ slot_of name.now self.now }
     {
         slot(self.sets.as_slice(), name)
     }
 
     /// Goes into a level of these names. A count of slots past the greatest number is answered as want of memory.
-    pub(crate) fn enter(&mut self, names: IndexSet<Text>) -> Result<(), AllocError>
-        ensures { OnOk result (self.new ≡ names.keys ∷ self.old) }
+    pub(crate) fn enter(&mut self, names: IndexSet<Name<'t>>) -> Result<(), AllocError>
+        ensures { OnOk result (self.new ≡ names.entry.keys ∷ self.old) }
     {
         match self.width().checked_add(names.len()) {
             Some(_) => {

@@ -16,6 +16,7 @@ mod parsing;
 mod program;
 mod resolver;
 mod scope;
+mod spelt;
 mod steps;
 mod top;
 

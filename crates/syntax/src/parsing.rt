@@ -36,8 +36,8 @@ pub struct Parsed {
 }
 
 /// A file of these statements, in the scope of its top level, of whose names so many are loaded.
-fn finished(scope: Scope, loaded: usize, mut steps: Vec<Step>) -> Parsed
-    ensures { program_of result ≡ program scope.globals loaded (view.steps steps.items) }
+fn finished(scope: Scope<'_>, loaded: usize, mut steps: Vec<Step>) -> Parsed
+    ensures { program_of result ≡ program scope.entry.globals loaded (view.steps steps.items) }
 {
     let slots = steps_slots(steps.as_slice());
     number_functions(&mut steps);

@@ -22,8 +22,7 @@ use crate::program::{
     entry, index, keyword, list_each, list_of, name, number, string, tuple, unary,
 };
 use crate::scope::{Scope, are_distinct, none_predeclared};
-use grammar::{Clause, Entry, Expr, Keyword, Operator, Sign};
-use plain::Text;
+use grammar::{Clause, Entry, Expr, Keyword, Name, Operator, Sign};
 use std::alloc::{AllocError, AllocFailed, Global};
 
 /// Why the names of a part of a file aren't resolved.
@@ -58,11 +57,11 @@ impl<T: Drop> From<AllocFailed<T>> for Unresolved {
 }
 
 /// What names that are bound here stand for.
-pub(crate) fn bindings(
+pub(crate) fn bindings<'t>(
     alloc: Global,
-    scope: &Scope,
-    first: &Text,
-    others: &[Text],
+    scope: &Scope<'t>,
+    first: &Name<'t>,
+    others: &[Name<'t>],
 ) -> Result<Vec<Binding>, AllocError>
     ensures { IfOk result (λ v. v.items ≡ map (binding_of scope.now) (first.now ∷ others.now)) }
 {
@@ -75,7 +74,7 @@ pub(crate) fn bindings(
 }
 
 /// A clause and those behind it.
-fn split(clauses: &[Clause]) -> Option<(&Clause, &[Clause])>
+fn split<'l, 't>(clauses: &'l [Clause<'t>]) -> Option<(&'l Clause<'t>, &'l [Clause<'t>])>
     ensures { MatchOption result (clauses.now ≡ []) (λ p. clauses.now ≡ p.0.now ∷ p.1.now) }
 {
     match clauses {
@@ -85,7 +84,7 @@ fn split(clauses: &[Clause]) -> Option<(&Clause, &[Clause])>
 }
 
 /// The expression of a clause.
-fn operand(clause: &Clause) -> &Expr
+fn operand<'l, 't>(clause: &'l Clause<'t>) -> &'l Expr<'t>
     ensures scoped { (s t : Around) (r : Rest)
         → rest_scoped s t (clause_of clause.now r)
         ≡ (scoped s (tree_of result.now) && rest_scoped t t r) }
@@ -101,7 +100,12 @@ fn operand(clause: &Clause) -> &Expr
 
 /// A clause of the comprehension whose scope this is, with its expression, which was resolved before.
 #[inline(never)]
-fn round(alloc: Global, scope: &Scope, clause: &Clause, operand: Term) -> Result<Round, AllocError>
+fn round<'t>(
+    alloc: Global,
+    scope: &Scope<'t>,
+    clause: &Clause<'t>,
+    operand: Term,
+) -> Result<Round, AllocError>
     ensures { IfOk result (λ k. (s : Around) (r : Rest)
         → option_map (resolved.term s) (first_tree (clause_of clause.now r))
         ≡ Some (view.term operand) → view.round k (resolved.rounds scope.now scope.now r)
@@ -117,21 +121,21 @@ fn round(alloc: Global, scope: &Scope, clause: &Clause, operand: Term) -> Result
 }
 
 /// The key and the value of an entry.
-fn parts_of(entry: &Entry) -> (&Expr, &Expr)
+fn parts_of<'l, 't>(entry: &'l Entry<'t>) -> (&'l Expr<'t>, &'l Expr<'t>)
     ensures { entry_of entry.now ≡ (tree_of result.0.now, tree_of result.1.now) }
 {
     (&entry.key, &entry.value)
 }
 
 /// The name and the value of an argument.
-fn named_value(keyword: &Keyword) -> (&Text, &Expr)
+fn named_value<'l, 't>(keyword: &'l Keyword<'t>) -> (&'l Name<'t>, &'l Expr<'t>)
     ensures { keyword_of keyword.now ≡ (result.0.now, tree_of result.1.now) }
 {
     (&keyword.name, &keyword.value)
 }
 
 /// The names of the arguments with names.
-fn argument_names(alloc: Global, named: &[Keyword]) -> Result<Vec<Text>, AllocError>
+fn argument_names<'t>(alloc: Global, named: &[Keyword<'t>]) -> Result<Vec<Name<'t>>, AllocError>
     ensures { IfOk result (λ v. v.items ≡ keyword_names (keywords named.now)) }
 {
     let mut found = Vec::new(alloc);
@@ -142,7 +146,7 @@ fn argument_names(alloc: Global, named: &[Keyword]) -> Result<Vec<Text>, AllocEr
 }
 
 /// Whether no name comes twice among the arguments of a call.
-fn names_differ(alloc: Global, named: &[Keyword]) -> Result<bool, AllocError>
+fn names_differ(alloc: Global, named: &[Keyword<'_>]) -> Result<bool, AllocError>
     ensures { IfOk result (λ b. b ≡ distinct (keyword_names (keywords named.now))) }
 {
     match named {
@@ -156,7 +160,7 @@ fn names_differ(alloc: Global, named: &[Keyword]) -> Result<bool, AllocError>
 
 /// What a name that is used stands for.
 #[inline(never)]
-fn resolve_name(scope: &Scope, text: &Text) -> Result<Term, Unresolved>
+fn resolve_name<'t>(scope: &Scope<'t>, text: &Name<'t>) -> Result<Term, Unresolved>
     ensures { GivesTerm (name_tree text.now) scope.now result scope.now }
 {
     match scope.stands_for(text) {
@@ -174,8 +178,10 @@ struct Resolver<F> {
     inside: F,
 }
 
-impl<F: Fn(Global, &mut Scope, &Expr, usize) -> Result<Term, Unresolved>> Resolver<F> {
-    fn one(&self, scope: &mut Scope, expr: &Expr) -> Result<Term, Unresolved>
+impl<F: for<'t> Fn(Global, &mut Scope<'t>, &Expr<'t>, usize) -> Result<Term, Unresolved>> Resolver<
+    F,
+> {
+    fn one<'t>(&self, scope: &mut Scope<'t>, expr: &Expr<'t>) -> Result<Term, Unresolved>
         requires { ResolvesInside self.now.turns (F.pre self.now.inside) (F.post self.now.inside) }
         ensures { GivesTerm (tree_of expr.now) scope.old result scope.new }
     {
@@ -184,7 +190,7 @@ impl<F: Fn(Global, &mut Scope, &Expr, usize) -> Result<Term, Unresolved>> Resolv
 
     /// The same behind a `Box`, so that those who resolve one inside of another take little of the stack.
     #[inline(never)]
-    fn boxed(&self, scope: &mut Scope, expr: &Expr) -> Result<Box<Term>, Unresolved>
+    fn boxed<'t>(&self, scope: &mut Scope<'t>, expr: &Expr<'t>) -> Result<Box<Term>, Unresolved>
         requires { ResolvesInside self.now.turns (F.pre self.now.inside) (F.post self.now.inside) }
         ensures { GivesBoxed (tree_of expr.now) scope.old result scope.new }
     {
@@ -193,7 +199,7 @@ impl<F: Fn(Global, &mut Scope, &Expr, usize) -> Result<Term, Unresolved>> Resolv
     }
 
     #[inline(never)]
-    fn all(&self, scope: &mut Scope, exprs: &[Expr]) -> Result<Vec<Term>, Unresolved>
+    fn all<'t>(&self, scope: &mut Scope<'t>, exprs: &[Expr<'t>]) -> Result<Vec<Term>, Unresolved>
         requires { ResolvesInside self.now.turns (F.pre self.now.inside) (F.post self.now.inside) }
         ensures { Gives (λ v. view.terms v.items) (λ s. trees_scoped s (trees exprs.now))
             (λ s. resolved.terms s (trees exprs.now)) scope.old result scope.new }
@@ -207,7 +213,11 @@ impl<F: Fn(Global, &mut Scope, &Expr, usize) -> Result<Term, Unresolved>> Resolv
     }
 
     #[inline(never)]
-    fn pairs(&self, scope: &mut Scope, written: &[Entry]) -> Result<Vec<Pair>, Unresolved>
+    fn pairs<'t>(
+        &self,
+        scope: &mut Scope<'t>,
+        written: &[Entry<'t>],
+    ) -> Result<Vec<Pair>, Unresolved>
         requires { ResolvesInside self.now.turns (F.pre self.now.inside) (F.post self.now.inside) }
         ensures { Gives (λ v. view.pairs v.items) (λ s. entries_scoped s (entries written.now))
             (λ s. resolved.pairs s (entries written.now)) scope.old result scope.new }
@@ -224,7 +234,11 @@ impl<F: Fn(Global, &mut Scope, &Expr, usize) -> Result<Term, Unresolved>> Resolv
     }
 
     #[inline(never)]
-    fn arguments(&self, scope: &mut Scope, named: &[Keyword]) -> Result<Vec<Argument>, Unresolved>
+    fn arguments<'t>(
+        &self,
+        scope: &mut Scope<'t>,
+        named: &[Keyword<'t>],
+    ) -> Result<Vec<Argument>, Unresolved>
         requires { ResolvesInside self.now.turns (F.pre self.now.inside) (F.post self.now.inside) }
         ensures { Gives (λ v. view.keywords v.items) (λ s. keywords_scoped s (keywords named.now))
             (λ s. resolved.keywords s (keywords named.now)) scope.old result scope.new }
@@ -233,7 +247,7 @@ impl<F: Fn(Global, &mut Scope, &Expr, usize) -> Result<Term, Unresolved>> Resolv
         for argument in named {
             let read = named_value(argument);
             let value = self.one(scope, read.1)?;
-            let name = read.0.share()?;
+            let name = read.0.to_text(self.alloc)?;
             let made = keyword(name, value);
             found.push(made)?;
         }
@@ -241,7 +255,7 @@ impl<F: Fn(Global, &mut Scope, &Expr, usize) -> Result<Term, Unresolved>> Resolv
     }
 
     #[inline(never)]
-    fn tuple(&self, scope: &mut Scope, items: &[Expr]) -> Result<Term, Unresolved>
+    fn tuple<'t>(&self, scope: &mut Scope<'t>, items: &[Expr<'t>]) -> Result<Term, Unresolved>
         requires { ResolvesInside self.now.turns (F.pre self.now.inside) (F.post self.now.inside) }
         ensures { GivesTerm (tuple_tree (trees items.now)) scope.old result scope.new }
     {
@@ -249,7 +263,7 @@ impl<F: Fn(Global, &mut Scope, &Expr, usize) -> Result<Term, Unresolved>> Resolv
     }
 
     #[inline(never)]
-    fn list_of(&self, scope: &mut Scope, items: &[Expr]) -> Result<Term, Unresolved>
+    fn list_of<'t>(&self, scope: &mut Scope<'t>, items: &[Expr<'t>]) -> Result<Term, Unresolved>
         requires { ResolvesInside self.now.turns (F.pre self.now.inside) (F.post self.now.inside) }
         ensures { GivesTerm (listing (trees items.now)) scope.old result scope.new }
     {
@@ -257,7 +271,7 @@ impl<F: Fn(Global, &mut Scope, &Expr, usize) -> Result<Term, Unresolved>> Resolv
     }
 
     #[inline(never)]
-    fn dict_of(&self, scope: &mut Scope, written: &[Entry]) -> Result<Term, Unresolved>
+    fn dict_of<'t>(&self, scope: &mut Scope<'t>, written: &[Entry<'t>]) -> Result<Term, Unresolved>
         requires { ResolvesInside self.now.turns (F.pre self.now.inside) (F.post self.now.inside) }
         ensures { GivesTerm (dict_tree (entries written.now)) scope.old result scope.new }
     {
@@ -265,12 +279,12 @@ impl<F: Fn(Global, &mut Scope, &Expr, usize) -> Result<Term, Unresolved>> Resolv
     }
 
     #[inline(never)]
-    fn binary(
+    fn binary<'t>(
         &self,
-        scope: &mut Scope,
+        scope: &mut Scope<'t>,
         operator: Operator,
-        left: &Expr,
-        right: &Expr,
+        left: &Expr<'t>,
+        right: &Expr<'t>,
     ) -> Result<Term, Unresolved>
         requires { ResolvesInside self.now.turns (F.pre self.now.inside) (F.post self.now.inside) }
         ensures { GivesTerm (operates (operator_seen operator) (tree_of left.now)
@@ -282,12 +296,12 @@ impl<F: Fn(Global, &mut Scope, &Expr, usize) -> Result<Term, Unresolved>> Resolv
     }
 
     #[inline(never)]
-    fn choice(
+    fn choice<'t>(
         &self,
-        scope: &mut Scope,
-        then: &Expr,
-        test: &Expr,
-        other: &Expr,
+        scope: &mut Scope<'t>,
+        then: &Expr<'t>,
+        test: &Expr<'t>,
+        other: &Expr<'t>,
     ) -> Result<Term, Unresolved>
         requires { ResolvesInside self.now.turns (F.pre self.now.inside) (F.post self.now.inside) }
         ensures { GivesTerm (choice_tree (tree_of then.now) (tree_of test.now) (tree_of other.now))
@@ -300,7 +314,12 @@ impl<F: Fn(Global, &mut Scope, &Expr, usize) -> Result<Term, Unresolved>> Resolv
     }
 
     #[inline(never)]
-    fn unary(&self, scope: &mut Scope, sign: Sign, operand: &Expr) -> Result<Term, Unresolved>
+    fn unary<'t>(
+        &self,
+        scope: &mut Scope<'t>,
+        sign: Sign,
+        operand: &Expr<'t>,
+    ) -> Result<Term, Unresolved>
         requires { ResolvesInside self.now.turns (F.pre self.now.inside) (F.post self.now.inside) }
         ensures { GivesTerm (turned (sign_seen sign) (tree_of operand.now)) scope.old result
             scope.new }
@@ -310,16 +329,26 @@ impl<F: Fn(Global, &mut Scope, &Expr, usize) -> Result<Term, Unresolved>> Resolv
     }
 
     #[inline(never)]
-    fn attribute(&self, scope: &mut Scope, base: &Expr, field: &Text) -> Result<Term, Unresolved>
+    fn attribute<'t>(
+        &self,
+        scope: &mut Scope<'t>,
+        base: &Expr<'t>,
+        field: &Name<'t>,
+    ) -> Result<Term, Unresolved>
         requires { ResolvesInside self.now.turns (F.pre self.now.inside) (F.post self.now.inside) }
         ensures { GivesTerm (selects (tree_of base.now) field.now) scope.old result scope.new }
     {
         let base = self.boxed(scope, base)?;
-        Ok(attribute(base, field.share()?))
+        Ok(attribute(base, field.to_text(self.alloc)?))
     }
 
     #[inline(never)]
-    fn index(&self, scope: &mut Scope, base: &Expr, at: &Expr) -> Result<Term, Unresolved>
+    fn index<'t>(
+        &self,
+        scope: &mut Scope<'t>,
+        base: &Expr<'t>,
+        at: &Expr<'t>,
+    ) -> Result<Term, Unresolved>
         requires { ResolvesInside self.now.turns (F.pre self.now.inside) (F.post self.now.inside) }
         ensures { GivesTerm (subscript (tree_of base.now) (tree_of at.now)) scope.old result
             scope.new }
@@ -330,12 +359,12 @@ impl<F: Fn(Global, &mut Scope, &Expr, usize) -> Result<Term, Unresolved>> Resolv
     }
 
     #[inline(never)]
-    fn call(
+    fn call<'t>(
         &self,
-        scope: &mut Scope,
-        callee: &Expr,
-        items: &[Expr],
-        named: &[Keyword],
+        scope: &mut Scope<'t>,
+        callee: &Expr<'t>,
+        items: &[Expr<'t>],
+        named: &[Keyword<'t>],
     ) -> Result<Term, Unresolved>
         requires { ResolvesInside self.now.turns (F.pre self.now.inside) (F.post self.now.inside) }
         ensures { GivesTerm (invokes (tree_of callee.now) (trees items.now) (keywords named.now))
@@ -351,10 +380,10 @@ impl<F: Fn(Global, &mut Scope, &Expr, usize) -> Result<Term, Unresolved>> Resolv
     }
 
     /// The expression of the first clause, which stands outside of the scope of its comprehension.
-    fn first_operand(
+    fn first_operand<'t>(
         &self,
-        scope: &mut Scope,
-        clauses: &[Clause],
+        scope: &mut Scope<'t>,
+        clauses: &[Clause<'t>],
     ) -> Result<Option<Box<Term>>, Unresolved>
         requires { ResolvesInside self.now.turns (F.pre self.now.inside) (F.post self.now.inside) }
         ensures { Gives (option_map boxed_term) (λ s. first_scoped s (rests clauses.now))
@@ -369,11 +398,11 @@ impl<F: Fn(Global, &mut Scope, &Expr, usize) -> Result<Term, Unresolved>> Resolv
 
     /// Adds clauses that all stand in the scope of their comprehension.
     #[inline(never)]
-    fn add_rounds(
+    fn add_rounds<'t>(
         &self,
-        scope: &mut Scope,
+        scope: &mut Scope<'t>,
         found: &mut Vec<Round>,
-        clauses: &[Clause],
+        clauses: &[Clause<'t>],
     ) -> Result<(), Unresolved>
         requires { ResolvesInside self.now.turns (F.pre self.now.inside) (F.post self.now.inside) }
         ensures { Gives (λ _. view.rounds found.new.items)
@@ -391,11 +420,11 @@ impl<F: Fn(Global, &mut Scope, &Expr, usize) -> Result<Term, Unresolved>> Resolv
 
     /// The clauses of the comprehension whose scope this is, of which the first has its expression already.
     #[inline(never)]
-    fn rounds(
+    fn rounds<'t>(
         &self,
-        scope: &mut Scope,
+        scope: &mut Scope<'t>,
         first: Option<Box<Term>>,
-        clauses: &[Clause],
+        clauses: &[Clause<'t>],
     ) -> Result<Vec<Round>, Unresolved>
         requires { ResolvesInside self.now.turns (F.pre self.now.inside) (F.post self.now.inside) }
         ensures { (s : Around) → option_map boxed_term first
@@ -415,12 +444,12 @@ impl<F: Fn(Global, &mut Scope, &Expr, usize) -> Result<Term, Unresolved>> Resolv
     }
 
     /// What stands inside of the scope of a comprehension over a list.
-    fn in_list(
+    fn in_list<'t>(
         &self,
-        scope: &mut Scope,
-        element: &Expr,
+        scope: &mut Scope<'t>,
+        element: &Expr<'t>,
         first: Option<Box<Term>>,
-        clauses: &[Clause],
+        clauses: &[Clause<'t>],
     ) -> Result<(Box<Term>, Vec<Round>), Unresolved>
         requires { ResolvesInside self.now.turns (F.pre self.now.inside) (F.post self.now.inside) }
         ensures { (s : Around) → option_map boxed_term first
@@ -437,13 +466,13 @@ impl<F: Fn(Global, &mut Scope, &Expr, usize) -> Result<Term, Unresolved>> Resolv
     }
 
     /// The same over a dict.
-    fn in_dict(
+    fn in_dict<'t>(
         &self,
-        scope: &mut Scope,
-        key: &Expr,
-        value: &Expr,
+        scope: &mut Scope<'t>,
+        key: &Expr<'t>,
+        value: &Expr<'t>,
         first: Option<Box<Term>>,
-        clauses: &[Clause],
+        clauses: &[Clause<'t>],
     ) -> Result<(Box<Term>, Box<Term>, Vec<Round>), Unresolved>
         requires { ResolvesInside self.now.turns (F.pre self.now.inside) (F.post self.now.inside) }
         ensures { (s : Around) → option_map boxed_term first
@@ -466,10 +495,10 @@ impl<F: Fn(Global, &mut Scope, &Expr, usize) -> Result<Term, Unresolved>> Resolv
 
     /// Goes into a comprehension, and gives its slots and the expression of its first clause.
     #[inline(never)]
-    fn enter(
+    fn enter<'t>(
         &self,
-        scope: &mut Scope,
-        clauses: &[Clause],
+        scope: &mut Scope<'t>,
+        clauses: &[Clause<'t>],
     ) -> Result<(OwnSlots, Option<Box<Term>>), Unresolved>
         requires { ResolvesInside self.now.turns (F.pre self.now.inside) (F.post self.now.inside) }
         ensures { Enters (rests clauses.now) scope.old result scope.new }
@@ -484,11 +513,11 @@ impl<F: Fn(Global, &mut Scope, &Expr, usize) -> Result<Term, Unresolved>> Resolv
     }
 
     #[inline(never)]
-    fn list_each(
+    fn list_each<'t>(
         &self,
-        scope: &mut Scope,
-        element: &Expr,
-        clauses: &[Clause],
+        scope: &mut Scope<'t>,
+        element: &Expr<'t>,
+        clauses: &[Clause<'t>],
     ) -> Result<Term, Unresolved>
         requires { ResolvesInside self.now.turns (F.pre self.now.inside) (F.post self.now.inside) }
         ensures { GivesTerm (each (tree_of element.now) (rests clauses.now)) scope.old result
@@ -502,12 +531,12 @@ impl<F: Fn(Global, &mut Scope, &Expr, usize) -> Result<Term, Unresolved>> Resolv
     }
 
     #[inline(never)]
-    fn dict_each(
+    fn dict_each<'t>(
         &self,
-        scope: &mut Scope,
-        key: &Expr,
-        value: &Expr,
-        clauses: &[Clause],
+        scope: &mut Scope<'t>,
+        key: &Expr<'t>,
+        value: &Expr<'t>,
+        clauses: &[Clause<'t>],
     ) -> Result<Term, Unresolved>
         requires { ResolvesInside self.now.turns (F.pre self.now.inside) (F.post self.now.inside) }
         ensures { GivesTerm (each_entry (tree_of key.now) (tree_of value.now) (rests clauses.now))
@@ -520,7 +549,7 @@ impl<F: Fn(Global, &mut Scope, &Expr, usize) -> Result<Term, Unresolved>> Resolv
         Ok(dict_each(own, key, value, rounds))
     }
 
-    fn expr(&self, scope: &mut Scope, expr: &Expr) -> Result<Term, Unresolved>
+    fn expr<'t>(&self, scope: &mut Scope<'t>, expr: &Expr<'t>) -> Result<Term, Unresolved>
         requires { ResolvesInside self.now.turns (F.pre self.now.inside) (F.post self.now.inside) }
         ensures { GivesTerm (tree_of expr.now) scope.old result scope.new }
     {
@@ -555,10 +584,10 @@ impl<F: Fn(Global, &mut Scope, &Expr, usize) -> Result<Term, Unresolved>> Resolv
 ///
 /// [`Unresolved::Breaks`] where it breaks a rule of scopes. [`Unresolved::NoMemory`] where memory was refused, or the
 /// expression has more than `turns` others inside of one another.
-pub(crate) fn resolve(
+pub(crate) fn resolve<'t>(
     alloc: Global,
-    scope: &mut Scope,
-    expr: &Expr,
+    scope: &mut Scope<'t>,
+    expr: &Expr<'t>,
     turns: usize,
 ) -> Result<Term, Unresolved>
     ensures { GivesTerm (tree_of expr.now) scope.old result scope.new }

@@ -9,6 +9,8 @@ ghost use Rattle.syntax.specs.ScopeView.{entered, in_function, left};
 use crate::levels::Levels;
 use crate::names::{Binding, predeclared_as};
 use crate::program::OwnSlots;
+use crate::spelt::Spelt;
+use grammar::Name;
 use indexmap::IndexSet;
 use plain::Text;
 use std::alloc::{AllocError, Global};
@@ -16,7 +18,7 @@ use std::marker::Model;
 use std::mem;
 
 /// Adds names behind others.
-pub(crate) fn add_names(found: &mut Vec<Text>, names: &[Text]) -> Result<(), AllocError>
+pub(crate) fn add_names<'t>(found: &mut Vec<Name<'t>>, names: &[Name<'t>]) -> Result<(), AllocError>
     ensures { OnOk result (found.new.items ≡ found.old.items ++ names.now) }
 {
     for name in names {
@@ -26,14 +28,14 @@ pub(crate) fn add_names(found: &mut Vec<Text>, names: &[Text]) -> Result<(), All
 }
 
 /// Whether a name is none that each file finds bound.
-pub(crate) fn is_free(name: &Text) -> bool
+pub(crate) fn is_free(name: &Name<'_>) -> bool
     ensures { result ≡ is_none (predeclared name.now) }
 {
     predeclared_as(name.as_str()).is_none()
 }
 
 /// Whether no name is one that each file finds bound.
-pub(crate) fn none_predeclared(names: &[Text]) -> bool
+pub(crate) fn none_predeclared(names: &[Name<'_>]) -> bool
     ensures { result ≡ none_predeclared names.now }
 {
     for name in names {
@@ -45,7 +47,7 @@ pub(crate) fn none_predeclared(names: &[Text]) -> bool
 }
 
 /// The names, each once.
-fn once(alloc: Global, names: &[Text]) -> Result<IndexSet<Text>, AllocError>
+fn once<'t>(alloc: Global, names: &[Name<'t>]) -> Result<IndexSet<Name<'t>>, AllocError>
     ensures { IfOk result (λ s. s.keys ≡ once names.now) }
 {
     let mut set = IndexSet::with_capacity(alloc, names.len())?;
@@ -56,7 +58,10 @@ fn once(alloc: Global, names: &[Text]) -> Result<IndexSet<Text>, AllocError>
 }
 
 /// Binds names beside those that were bound before, and tells whether none was and none comes twice.
-pub(crate) fn bind_anew(before: &mut IndexSet<Text>, names: &[Text]) -> Result<bool, AllocError>
+pub(crate) fn bind_anew<'t>(
+    before: &mut IndexSet<Name<'t>>,
+    names: &[Name<'t>],
+) -> Result<bool, AllocError>
     ensures new { IfOk result (λ b. b ≡ (distinct names.now && apart names.now before.old.keys)) }
     ensures bound { IfOk result (λ b. b ≡ true → (x : List ℕ)
         → among x before.new.keys ≡ among x (names.now ++ before.old.keys)) }
@@ -71,7 +76,7 @@ pub(crate) fn bind_anew(before: &mut IndexSet<Text>, names: &[Text]) -> Result<b
 }
 
 /// Whether no name comes twice.
-pub(crate) fn are_distinct(alloc: Global, names: &[Text]) -> Result<bool, AllocError>
+pub(crate) fn are_distinct(alloc: Global, names: &[Name<'_>]) -> Result<bool, AllocError>
     ensures { IfOk result (λ b. b ≡ distinct names.now) }
 {
     let mut before = IndexSet::with_capacity(alloc, names.len())?;
@@ -79,14 +84,36 @@ pub(crate) fn are_distinct(alloc: Global, names: &[Text]) -> Result<bool, AllocE
     Ok(told)
 }
 
-/// What is in scope somewhere in a file.
-#[derive(Drop)]
-pub(crate) struct Scope {
-    globals: IndexSet<Text>,
-    levels: Levels,
+/// The texts of names.
+pub(crate) fn texts_of(alloc: Global, names: &[Name<'_>]) -> Result<Vec<Text>, AllocError>
+    ensures { IfOk result (λ v. v.items ≡ names.now) }
+{
+    let mut found = Vec::with_capacity(alloc, names.len())?;
+    for name in names {
+        found.push(name.to_text(alloc)?)?;
+    }
+    Ok(found)
 }
 
-impl Model for Scope {
+/// The texts of the names, each once.
+fn texts_once(alloc: Global, names: &[Name<'_>]) -> Result<IndexSet<Text>, AllocError>
+    ensures { IfOk result (λ s. s.keys ≡ once names.now) }
+{
+    let mut set = IndexSet::with_capacity(alloc, names.len())?;
+    for name in names {
+        set.insert(name.to_text(alloc)?)?;
+    }
+    Ok(set)
+}
+
+/// What is in scope somewhere in a file.
+#[derive(Drop)]
+pub(crate) struct Scope<'t> {
+    globals: IndexSet<Text>,
+    levels: Levels<'t>,
+}
+
+impl<'t> Model for Scope<'t> {
     ghost use Rattle.syntax.specs.Names.{Scope as Names};
 
     ghost Value = { Names };
@@ -94,25 +121,25 @@ impl Model for Scope {
     ghost view = { λ a. record { globals = a.globals.keys; levels = a.levels } };
 }
 
-impl Scope {
+impl<'t> Scope<'t> {
     /// The scope of a top level that binds these names.
-    pub(crate) fn new(alloc: Global, names: &[Text]) -> Result<Scope, AllocError>
+    pub(crate) fn new(alloc: Global, names: &[Name<'t>]) -> Result<Scope<'t>, AllocError>
         ensures { IfOk result (λ s. s ≡ record { globals = once names.now; levels = [] }) }
     {
         Ok(Scope {
-            globals: once(alloc, names)?,
+            globals: texts_once(alloc, names)?,
             levels: Levels::new(alloc),
         })
     }
 
     /// What a name stands for; None where it is bound nowhere.
-    pub(crate) fn stands_for(&self, name: &Text) -> Option<Binding>
+    pub(crate) fn stands_for(&self, name: &Name<'t>) -> Option<Binding>
         ensures { result ≡ stands_for self.now name.now }
     {
         if let Some(slot) = self.levels.slot(name) {
             return Some(Binding::Slot(slot));
         }
-        if let Some(place) = self.globals.get_index_of(name) {
+        if let Some(place) = self.globals.get_index_of(Spelt::of(name)) {
             return Some(Binding::Global(place));
         }
         match predeclared_as(name.as_str()) {
@@ -122,17 +149,17 @@ impl Scope {
     }
 
     /// What a name that is bound here stands for.
-    pub(crate) fn binding(&self, name: &Text) -> Binding
+    pub(crate) fn binding(&self, name: &Name<'t>) -> Binding
         ensures { result ≡ binding_of self.now name.now }
     {
         self.stands_for(name).unwrap_or(Binding::Slot(0))
     }
 
     /// The number of a name that the top level binds.
-    pub(crate) fn global(&self, name: &Text) -> usize
+    pub(crate) fn global(&self, name: &Name<'t>) -> usize
         ensures { result ≡ global_of self.now name.now }
     {
-        self.globals.get_index_of(name).unwrap_or(0)
+        self.globals.get_index_of(Spelt::of(name)).unwrap_or(0)
     }
 
     /// How many slots are in use.
@@ -143,7 +170,11 @@ impl Scope {
     }
 
     /// Goes into a comprehension that binds these names, and gives the slots that they have.
-    pub(crate) fn enter(&mut self, alloc: Global, names: &[Text]) -> Result<OwnSlots, AllocError>
+    pub(crate) fn enter(
+        &mut self,
+        alloc: Global,
+        names: &[Name<'t>],
+    ) -> Result<OwnSlots, AllocError>
         ensures entered { OnOk result (self.new ≡ entered names.now self.old) }
         ensures own { IfOk result (λ own. own ≡ record
             { first = width self.old.levels; end = width self.new.levels }) }
@@ -168,8 +199,8 @@ impl Scope {
     pub(crate) fn enter_function(
         &mut self,
         alloc: Global,
-        names: &[Text],
-    ) -> Result<Levels, AllocError>
+        names: &[Name<'t>],
+    ) -> Result<Levels<'t>, AllocError>
         ensures entered { OnOk result (self.new ≡ in_function names.now self.old) }
         ensures left { IfOk result (λ levels. levels ≡ self.old.levels) }
     {
@@ -180,15 +211,15 @@ impl Scope {
     }
 
     /// Goes back to the levels that a function was entered from.
-    pub(crate) fn leave_function(&mut self, levels: Levels)
-        ensures { self.new ≡ record { globals = self.old.globals; levels = levels } }
+    pub(crate) fn leave_function(&mut self, levels: Levels<'t>)
+        ensures { self.new ≡ record { globals = self.old.globals; levels = levels.entry } }
     {
-        self.levels = levels;
+        drop(mem::replace(&mut self.levels, levels));
     }
 
     /// The names of the top level, by number.
     pub(crate) fn into_globals(self) -> IndexSet<Text>
-        ensures { result.keys ≡ self.globals }
+        ensures { result.keys ≡ self.entry.globals }
     {
         self.globals
     }

@@ -199,7 +199,7 @@ pub(crate) struct Later {
 /// A line with its names resolved, but for those of its block; or its number. It is kept behind a `Box` while its block is
 /// resolved, so that blocks inside of one another take little of the stack.
 #[inline(never)]
-fn head_of(alloc: Global, scope: &mut Scope, line: &Line) -> Result<Box<Head>, Stopped>
+fn head_of<'t>(alloc: Global, scope: &mut Scope<'t>, line: &Line<'t>) -> Result<Box<Head>, Stopped>
     ensures { Places (λ s. unless (out-Line line.now).number
         (line_scoped s (form_of (out-Line line.now).form)))
         (λ h s. head_seen h.value ≡ head s (form_of (out-Line line.now).form)) scope.old result
@@ -214,12 +214,12 @@ fn head_of(alloc: Global, scope: &mut Scope, line: &Line) -> Result<Box<Head>, S
 
 /// Goes into the block of a line: that of a function has a scope of its own. Gives the levels to go back to from one.
 #[inline(never)]
-fn enter_block(
+fn enter_block<'t>(
     alloc: Global,
-    scope: &mut Scope,
-    form: &Form,
-    block: &[Line],
-) -> Result<Option<Levels>, AllocError>
+    scope: &mut Scope<'t>,
+    form: &Form<'t>,
+    block: &[Line<'t>],
+) -> Result<Option<Levels<'t>>, AllocError>
     ensures entered { OnOk result (scope.new ≡ scope_of scope.old (form_of form.now)
         (seen.lines block.now)) }
     ensures back { IfOk result (λ around. back around scope.new ≡ scope.old) }
@@ -238,8 +238,8 @@ fn enter_block(
 
 /// Goes back from a block.
 #[inline(never)]
-fn leave_block(scope: &mut Scope, around: Option<Levels>)
-    ensures { scope.new ≡ back around scope.old }
+fn leave_block<'t>(scope: &mut Scope<'t>, around: Option<Levels<'t>>)
+    ensures { scope.new ≡ back around.entry scope.old }
 {
     if let Some(levels) = around {
         scope.leave_function(levels);
@@ -249,10 +249,10 @@ fn leave_block(scope: &mut Scope, around: Option<Levels>)
 /// A line and its block with their names resolved.
 #[cycle(blocks)]
 #[inline(never)]
-fn line_and_block(
+fn line_and_block<'t>(
     alloc: Global,
-    scope: &mut Scope,
-    line: &Line,
+    scope: &mut Scope<'t>,
+    line: &Line<'t>,
 ) -> Result<(Box<Head>, Inner), Stopped>
     ensures { Places (λ s. own_fault s line.now)
         (λ m s. IsOwn s line.now m.0.value m.1) scope.old result scope.new }
@@ -305,7 +305,7 @@ fn with_line(
 /// A line before those behind it.
 fn follows(
     alloc: Global,
-    line: &Line,
+    line: &Line<'_>,
     own: (Box<Head>, Inner),
     behind: Behind,
 ) -> Result<Behind, AllocError>
@@ -320,7 +320,7 @@ fn follows(
 #[inline(never)]
 fn before(
     alloc: Global,
-    line: &Line,
+    line: &Line<'_>,
     own: Result<(Box<Head>, Inner), Stopped>,
     later: Later,
 ) -> Result<Later, AllocError>
@@ -364,7 +364,11 @@ fn ended(later: Later) -> Result<Vec<Step>, Stopped>
 /// expression is deeper than those of any text that was read.
 #[cycle(blocks)]
 #[inline(never)]
-fn resolve_lines(alloc: Global, scope: &mut Scope, lines: &[Line]) -> Result<Vec<Step>, Stopped>
+fn resolve_lines<'t>(
+    alloc: Global,
+    scope: &mut Scope<'t>,
+    lines: &[Line<'t>],
+) -> Result<Vec<Step>, Stopped>
     ensures { PlacesSteps (λ s. lines_fault s (seen.lines lines.now))
         (λ s. steps_of s (seen.lines lines.now)) scope.old result scope.new }
 {
@@ -383,9 +387,13 @@ fn resolve_lines(alloc: Global, scope: &mut Scope, lines: &[Line]) -> Result<Vec
 }
 
 /// The same of lines that are given back one by one.
-fn resolve_owned(alloc: Global, scope: &mut Scope, lines: Vec<Line>) -> Result<Vec<Step>, Stopped>
-    ensures { PlacesSteps (λ s. lines_fault s (seen.lines lines.items))
-        (λ s. steps_of s (seen.lines lines.items)) scope.old result scope.new }
+fn resolve_owned<'t>(
+    alloc: Global,
+    scope: &mut Scope<'t>,
+    lines: Vec<Line<'t>>,
+) -> Result<Vec<Step>, Stopped>
+    ensures { PlacesSteps (λ s. lines_fault s (seen.lines lines.entry.items))
+        (λ s. steps_of s (seen.lines lines.entry.items)) scope.old result scope.new }
 {
     let mut later = Later {
         fault: None,
@@ -405,13 +413,13 @@ fn resolve_owned(alloc: Global, scope: &mut Scope, lines: Vec<Line>) -> Result<V
 ///
 /// [`Stopped::At`] the first line that breaks a rule of scopes. [`Stopped::NoMemory`] where memory was refused, or an
 /// expression is deeper than those of any text that was read.
-pub(crate) fn resolve_file(
+pub(crate) fn resolve_file<'t>(
     alloc: Global,
-    scope: &mut Scope,
-    lines: Vec<Line>,
+    scope: &mut Scope<'t>,
+    lines: Vec<Line<'t>>,
 ) -> Result<Vec<Step>, Stopped>
-    ensures { PlacesSteps (λ s. top_fault s [] (seen.lines lines.items))
-        (λ s. steps_of s (seen.lines lines.items)) scope.old result scope.new }
+    ensures { PlacesSteps (λ s. top_fault s [] (seen.lines lines.entry.items))
+        (λ s. steps_of s (seen.lines lines.entry.items)) scope.old result scope.new }
 {
     let (kept, number) = until_rebound(alloc, lines.as_slice())?;
     let mut lines = lines;

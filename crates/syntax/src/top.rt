@@ -11,9 +11,8 @@ ghost use Rattle.syntax.specs.Scopes.{adds_to_name, lines_fault, top_fault};
 
 use crate::bound::{add_lines, add_loaded, form_names};
 use crate::scope::{Scope, bind_anew};
-use grammar::{Form, Line};
+use grammar::{Form, Line, Name};
 use indexmap::IndexSet;
-use plain::Text;
 use std::alloc::{AllocError, Global};
 
 /// The scope of the top level of a file.
@@ -21,7 +20,7 @@ use std::alloc::{AllocError, Global};
 /// # Errors
 ///
 /// Where memory was refused.
-pub(crate) fn file_scope(alloc: Global, lines: &[Line]) -> Result<Scope, AllocError>
+pub(crate) fn file_scope<'t>(alloc: Global, lines: &[Line<'t>]) -> Result<Scope<'t>, AllocError>
     ensures { IfOk result (λ s. s ≡ file_scope (view.lines lines.now)) }
 {
     let mut names = Vec::new(alloc);
@@ -34,7 +33,7 @@ pub(crate) fn file_scope(alloc: Global, lines: &[Line]) -> Result<Scope, AllocEr
 /// # Errors
 ///
 /// Where memory was refused.
-pub(crate) fn count_loaded(alloc: Global, lines: &[Line]) -> Result<usize, AllocError>
+pub(crate) fn count_loaded(alloc: Global, lines: &[Line<'_>]) -> Result<usize, AllocError>
     ensures { IfOk result (λ n. n ≡ length (loads_bind (view.lines lines.now))) }
 {
     let mut names = Vec::new(alloc);
@@ -44,14 +43,18 @@ pub(crate) fn count_loaded(alloc: Global, lines: &[Line]) -> Result<usize, Alloc
     Ok(names.len())
 }
 
-fn adds_to_name(form: &Form) -> bool
+fn adds_to_name(form: &Form<'_>) -> bool
     ensures { result ≡ adds_to_name (form_of form.now) }
 {
     matches!(form, Form::Add(_, _))
 }
 
 /// Binds what a line of the top level binds beside the names that were bound before, and tells whether it may.
-fn binds_anew(alloc: Global, before: &mut IndexSet<Text>, form: &Form) -> Result<bool, AllocError>
+fn binds_anew<'t>(
+    alloc: Global,
+    before: &mut IndexSet<Name<'t>>,
+    form: &Form<'t>,
+) -> Result<bool, AllocError>
     ensures told { IfOk result (λ b. b ≡ binds_anew before.old.keys (form_of form.now)) }
     ensures bound { IfOk result (λ b. b ≡ true → (x : List ℕ)
         → among x before.new.keys ≡ among x (form_binds (form_of form.now) ++ before.old.keys)) }
@@ -64,7 +67,7 @@ fn binds_anew(alloc: Global, before: &mut IndexSet<Text>, form: &Form) -> Result
 }
 
 /// The line at a place.
-fn line_at(lines: &[Line], place: usize) -> &Line
+fn line_at<'l, 't>(lines: &'l [Line<'t>], place: usize) -> &'l Line<'t>
     requires { place < length lines.now }
     ensures at { drop place lines.now ≡ result.now ∷ drop (place + 1) lines.now }
     ensures seen { (rest : Lines) → line_of result.now rest
@@ -77,7 +80,7 @@ fn line_at(lines: &[Line], place: usize) -> &Line
 /// How many lines of a top level stand before the first that binds what it may not, and the number of that line.
 pub(crate) fn until_rebound(
     alloc: Global,
-    lines: &[Line],
+    lines: &[Line<'_>],
 ) -> Result<(usize, Option<usize>), AllocError>
     ensures found { IfOk result (λ r. (s : Around)
         → top_fault s [] (view.lines lines.now)

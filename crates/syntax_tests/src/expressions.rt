@@ -50,7 +50,8 @@ fn sign_of(operator: Operator) -> &'static str {
 fn put_shape(out: &mut String, expr: &Expr) -> Result<(), AllocError> {
     let of = kind(expr);
     match expr {
-        Expr::Name(text) | Expr::Str(text) => write!(out, "{of} {}", text.as_str()),
+        Expr::Name(name) => write!(out, "{of} {}", name.as_str()),
+        Expr::Str(text) => write!(out, "{of} {}", text.as_str()),
         Expr::Number(value) => write!(out, "{of} {value}"),
         Expr::Tuple(items) | Expr::ListOf(items) => write!(out, "{of} {}", items.len()),
         Expr::DictOf(entries) => write!(out, "{of} {}", entries.len()),

@@ -11,3 +11,9 @@ unfolding gather
 loop-turn-preserved g c =
     let e = one_more (λ n. gather (argument (read c.args.self.now.turns) c.args.self.now.most c.args.room) with_argument Round n (arguments_seen c.loop-turn.found) c.loop-turn.ahead) _ c.loop-turn._turn c.loop-turn-test.true c.loop-turn.invariant in
     first_of (search rules, grind (arith, common_steps))
+
+pub returns-then-close-2 : goal.returns-then-close-2
+unfolding gather
+returns-then-close-2 g c =
+    let e = one_more (λ n. gather (argument (read c.args.self.now.turns) c.args.self.now.most c.args.room) with_argument Round n (arguments_seen c.loop-turn.found) c.loop-turn.ahead) _ c.loop-turn._turn c.loop-turn-test.true c.loop-turn.invariant in
+    first_of (search rules, grind (arith, common_steps))

@@ -1,0 +1,8 @@
+-- The bytes of a name, wherever they stand.
+use Rattle.std.specs.Prelude.{ℕ, List}
+use Rattle.grammar.specs.declared.name.Spelled as spelled
+use Rattle.grammar.specs.declared.name.Spelled.TheVariants as s
+
+abbrev pub name_bytes : spelled.Spelled → List ℕ
+name_bytes (s.Here part) = part.now
+name_bytes (s.Made text) = text
