@@ -1,5 +1,5 @@
 -- Of a coherent depset, the walk that visits no id twice gives the listing.
-use Rattle.std.proofs.Common.{◌≡◌, ◌+◌, ◌≤◌, Bool, true, false, List, [], ◌∷◌, length, nat_eq, refl, sym, ap, arith}
+use Rattle.std.proofs.Common.{◌≡◌, ◌+◌, ◌≤◌, Bool, true, false, List, [], ◌∷◌, length, nat_eq, refl, ap, arith}
 use Rattle.std.proofs.lemmas.Bool.{eqb-true}
 use Rattle.depsets.specs.Rose.{Rose, node, none, more, label, children}
 use Rattle.depsets.specs.Own.{Own, own_id, own_direct}

@@ -9,7 +9,7 @@ ghost use Rattle.std.specs.Prelude.{◌≡◌, ◌++◌, ◌∷◌, [], ◌<◌,
 use crate::held::{HeldEntries, HeldItems};
 use crate::{Key, Provider, Value};
 use indexmap::{IndexMap, IndexSet};
-use plain::Shared;
+use plain::{Shared, push_last};
 use std::alloc::{AllocError, Global};
 use std::marker::Model;
 
@@ -23,20 +23,6 @@ pub enum Cell {
     Tuple(HeldItems),
     Dict(HeldEntries, u64),
     Instance(Shared<Provider>, Fields),
-}
-
-/// Puts an item last. Where room was taken for it before, it looks for no more. After a refusal of memory all is as it was.
-#[inline(always)]
-pub fn push_last<T: Drop>(items: &mut Vec<T>, item: T) -> Result<(), AllocError>
-    ensures ok { OnOk result (items.new.items ≡ items.old.items ++ item ∷ []) }
-    ensures err { OnErr result (items.new.items ≡ items.old.items) }
-{
-    if items.len() < items.capacity() {
-        items.push_reserved(item);
-    } else {
-        items.push(item)?;
-    }
-    Ok(())
 }
 
 /// The items of a list or a tuple.

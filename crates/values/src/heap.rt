@@ -13,9 +13,9 @@ ghost use Rattle.std.specs.Prelude.{Result};
 
 use crate::{
     Broken, Cell, Entries, Fields, HeldEntries, HeldItems, Items, Key, Kind, LARGEST, Provider,
-    Value, Walked, push_last,
+    Value, Walked,
 };
-use plain::Shared;
+use plain::{Shared, push_last};
 use std::alloc::{AllocError, Global};
 use std::marker::Model;
 

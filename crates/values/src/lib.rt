@@ -20,7 +20,7 @@ mod sees;
 mod ticks;
 mod value;
 
-pub use cells::{Cell, Entries, Fields, Items, LARGEST, push_last};
+pub use cells::{Cell, Entries, Fields, Items, LARGEST};
 pub use depsets::{
     Depset, DepsetError, Element, ElementType, FileRef, Id, ListError, Listing, Order,
 };

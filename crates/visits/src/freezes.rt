@@ -12,11 +12,11 @@ ghost use Rattle.visits.specs.Freeze.{freeze_at, built, frozen_leaf, frozen_entr
 
 use crate::revisit::{freeze_branch, freeze_tree};
 use indexmap::IndexSet;
-use plain::Shared;
+use plain::{Shared, push_last};
 use std::alloc::Global;
 use values::{
     Branch, Broken, Cell, Entries, Frozen, Heap, Item, Key, Kind, Leaf, Provider, Ticks,
-    VISITED_LEVELS, Value, push_last,
+    VISITED_LEVELS, Value,
 };
 
 /// The tree of a value. Each value that is visited costs a tick, one that is frozen already too.

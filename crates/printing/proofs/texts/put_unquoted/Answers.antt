@@ -1,6 +1,6 @@
-use Rattle.std.proofs.Common.{◌≡◌, ◌++◌, string_bytes, flat_map, sym, ap, ◌∙◌, true}
+use Rattle.std.proofs.Common.{◌≡◌, ◌++◌, string_bytes, sym, ap, ◌∙◌, true}
 use Rattle.std.specs.List.{list_all}
-use Rattle.printing.specs.Texts.{escape, is_bare}
+use Rattle.printing.specs.Texts.{is_bare}
 use Rattle.printing.proofs.QuotedLemmas.{escape-all_bare}
 use Rattle.printing.proofs.texts.put_unquoted.Goals as goal
 

@@ -1,0 +1,18 @@
+//! Lists whose room was taken before.
+ghost use Rattle.std.specs.Prelude.{◌≡◌, ◌++◌, ◌∷◌, [], OnOk, OnErr};
+
+use std::alloc::AllocError;
+
+/// Puts an item last. Where room was taken for it before, it looks for no more. After a refusal of memory all is as it was.
+#[inline(always)]
+pub fn push_last<T: Drop>(items: &mut Vec<T>, item: T) -> Result<(), AllocError>
+    ensures ok { OnOk result (items.new.items ≡ items.old.items ++ item ∷ []) }
+    ensures err { OnErr result (items.new.items ≡ items.old.items) }
+{
+    if items.len() < items.capacity() {
+        items.push_reserved(item);
+    } else {
+        items.push(item)?;
+    }
+    Ok(())
+}
