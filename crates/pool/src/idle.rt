@@ -11,10 +11,14 @@ use std::thread;
 /// set. One worker stays awake whatever happens, and goes on looking: so a run never stands still
 /// because all workers sleep, with whatever shelf. A worker that is alone never sleeps, and where it is not, all
 /// start: so each counts as awake from the beginning.
+///
+/// They are woken one after the other: once a worker was called for, nobody calls another until one has told that it
+/// will sleep, and looks once more before it does, or has found a node after that, and then it calls the next.
 #[derive(Drop)]
 pub struct Idle {
     sleepers: EventCount,
     awake: AtomicU64,
+    is_called: AtomicBool,
     is_over: AtomicBool,
 }
 
@@ -24,13 +28,22 @@ impl Idle {
         Idle {
             sleepers: EventCount::new(),
             awake: AtomicU64::new(workers),
+            is_called: AtomicBool::new(false),
             is_over: AtomicBool::new(false),
         }
     }
 
-    /// Wakes a worker, if one sleeps. Call it after a node came on the shelf.
+    /// Wakes a worker, if one sleeps and none was called for that hasn't answered. Call it after a node came on the shelf.
     pub fn wake_one(&self) {
-        self.sleepers.notify_one();
+        if !self.is_called.load(Ordering::SeqCst) {
+            self.is_called.store(true, Ordering::SeqCst);
+            self.sleepers.notify_one();
+        }
+    }
+
+    /// A worker answers: it has found a node, or looks once more before it sleeps. The next node calls for another.
+    fn answer(&self) {
+        self.is_called.store(false, Ordering::SeqCst);
     }
 
     /// The run is over: tells so, and wakes all workers. Call it after the halt was set, or once no node is
@@ -65,6 +78,7 @@ pub struct Rest<'i> {
     idle: &'i Idle,
     backoff: Backoff,
     key: Option<Key<'i>>,
+    has_announced: bool,
 }
 
 impl<'i> Rest<'i> {
@@ -74,11 +88,12 @@ impl<'i> Rest<'i> {
             idle,
             backoff: Backoff::new(),
             key: None,
+            has_announced: false,
         }
     }
 
     /// The worker found no node, and is to look again afterwards. It announces that it will sleep
-    /// one turn before it does: what came on the shelf in between ends that sleep.
+    /// one turn before it does: if it is called for in between, it doesn't sleep.
     pub fn turn<R: Wait>(&mut self, rt: &R) {
         if !self.backoff.is_completed() {
             self.backoff.snooze();
@@ -86,7 +101,11 @@ impl<'i> Rest<'i> {
         }
         match self.key.take() {
             Some(key) => self.idle.sleep(rt, key),
-            None => self.key = Some(self.idle.sleepers.prepare_wait()),
+            None => {
+                self.key = Some(self.idle.sleepers.prepare_wait());
+                self.has_announced = true;
+                self.idle.answer();
+            }
         }
     }
 
@@ -95,9 +114,14 @@ impl<'i> Rest<'i> {
         self.backoff.snooze();
     }
 
-    /// The worker has a node.
+    /// The worker has a node. If it may have been called for there can be more, for which it wakes another.
     pub fn end(&mut self) {
         self.backoff.reset();
         self.key = None;
+        if self.has_announced {
+            self.has_announced = false;
+            self.idle.answer();
+            self.idle.wake_one();
+        }
     }
 }

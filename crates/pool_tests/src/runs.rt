@@ -15,6 +15,7 @@ use pool::{
 use std::alloc::{AllocError, Global};
 use std::sync::Wait;
 use std::test::Fail;
+use std::thread;
 use std::thread::Threads;
 
 /// On which shelf the workers of a test run.
@@ -286,14 +287,66 @@ fn meet<R: Threads + Wait + Sync>(
     low: usize,
     high: usize,
 ) -> bool {
+    meet_behind(rt, alloc, graph, workers, (low, high), &NoGate)
+}
+
+/// The same, where each worker comes to another gate first.
+fn meet_behind<R: Threads + Wait + Sync, G: Gate>(
+    rt: &R,
+    alloc: Global,
+    graph: &Numbered,
+    workers: usize,
+    nodes: (usize, usize),
+    first: &G,
+) -> bool {
+    let (low, high) = nodes;
     for kind in KINDS {
         let wanted = (high as u64).saturating_sub(low as u64).saturating_add(1);
-        let gate = Meeting::of(low, high, wanted);
-        if mix(rt, alloc, graph, (kind, workers), &gate).is_none() || !gate.met() {
+        let second = Meeting::of(low, high, wanted);
+        let gate = Both {
+            first,
+            second: &second,
+        };
+        if mix(rt, alloc, graph, (kind, workers), &gate).is_none() || !second.met() {
             return false;
         }
     }
     true
+}
+
+/// How often a worker looks away at a [`Pause`]: long enough for all others to sleep.
+const LOOKS: u64 = 20_000;
+
+/// Holds the worker at node 0 up for a while.
+struct Pause;
+
+impl Gate for Pause {
+    fn enter(&self, n: NodeId) {
+        if n.number() == 0 {
+            for _ in 0..LOOKS {
+                thread::yield_now();
+            }
+        }
+    }
+
+    fn leave(&self, _n: NodeId) {}
+}
+
+/// Nodes 0 and 1, and eight nodes that depend on node 0.
+fn two_and_fan(alloc: Global) -> Result<Option<Numbered>, AllocError> {
+    let one: &[usize] = &[0];
+    let rows: [&[usize]; 10] = [&[], &[], one, one, one, one, one, one, one, one];
+    small(alloc, &rows)
+}
+
+#[test]
+fn workers_that_sleep_are_all_woken(rt: HostRuntime) -> Result<(), Fail> {
+    let alloc = rt.alloc();
+    let Some(graph) = two_and_fan(alloc)? else {
+        panic!(rt; "no graph")
+    };
+    assert!(rt; meet_behind(&rt, alloc, &graph, 8, (2, 9), &Pause));
+    Ok(())
 }
 
 #[test]
