@@ -167,7 +167,10 @@ pub fn call<'a, W: Operate<'a>>(
         names,
         named,
     } = arguments;
-    match world.call(state, callee, items, names, named) {
+    let mut items = items;
+    let answer = world.call(state, callee, &mut items, names, named);
+    active.keep_arguments(items);
+    match answer {
         Ok(value) => Ok(Called::Value(value)),
         Err(broken) => Err(stop_at(broken, place.file, place.line)),
     }

@@ -21,26 +21,29 @@ use operands::{Operand, owned};
 use operations::Arguments;
 use places::{Link, Place};
 use plain::Text;
+use std::mem::replace;
 use values::{Broken, BuiltIn, Item, Kind, Leaf, Value};
 
 /// A call of what isn't written in Starlark: its values by position, of which the first is at the top, and those by name
-/// with their names.
+/// with their names. They are left where they were, in another order, so that their memory serves again.
 pub(crate) fn call<'a, L: Link<'a>, P: Place<'a>>(
     world: &World<'_, L, P>,
     whole: &mut Whole<P::Work>,
     callee: &Callee<'a>,
-    items: Stack<Operand<'a>>,
+    items: &mut Stack<Operand<'a>>,
     names: &[Text],
     named: Stack<Operand<'a>>,
 ) -> Result<Operand<'a>, Broken>
     ensures { Says (call_of (L.linked world.now.linked.now) (P.place world.now.place.now)
-        (callee_seen callee.now) (given_of (machine_given items.entry names.now named.entry))
+        (callee_seen callee.now) (given_of (machine_given items.old names.now named.entry))
         whole.old) result whole.new }
 {
-    let items = items.into_vec();
+    let places = replace(items, Stack::new(world.alloc)).into_vec();
     let values = named.into_vec();
-    let arguments = arguments(&items, names, &values);
-    call_with(world, whole, callee, &arguments)
+    let arguments = arguments(&places, names, &values);
+    let answer = call_with(world, whole, callee, &arguments);
+    let _none = replace(items, Stack::of(places));
+    answer
 }
 
 /// Arguments where they lie. A name without a value, or a value without a name, is none.

@@ -287,7 +287,7 @@ impl<'a, L: Link<'a>, P: Place<'a>> Operate<'a> for World<'a, L, P> {
         &self,
         state: &mut Whole<'a, P::Work>,
         callee: &Callee<'a>,
-        items: Stack<Operand<'a>>,
+        items: &mut Stack<Operand<'a>>,
         names: &[Text],
         named: Stack<Operand<'a>>,
     ) -> Result<Operand<'a>, Broken> {

@@ -1,6 +1,6 @@
 //! A stack of what owns memory, seen from its top.
 
-ghost use Rattle.std.specs.Prelude.{◌≡◌, List, [], ◌∷◌, length, IfOk, MatchOption};
+ghost use Rattle.std.specs.Prelude.{◌≡◌, List, [], ◌∷◌, length, reverse, IfOk, MatchOption};
 
 use crate::emptying::empty;
 use std::alloc::{AllocError, Global};
@@ -82,6 +82,13 @@ impl<T> Stack<T> {
         ensures { self.new ≡ [] }
     {
         empty(&mut self.items);
+    }
+
+    /// The stack whose bottom is the first of these items.
+    pub fn of(items: Vec<T>) -> Stack<T>
+        ensures { result ≡ reverse items.items }
+    {
+        Stack { items }
     }
 
     /// The items, the top first.

@@ -279,17 +279,17 @@ pub trait Operate<'a> {
             result state.new };
 
     /// A call of what isn't written in Starlark: its values by position, of which the first is at the top, and those by
-    /// name with their names.
+    /// name with their names. The memory of the values is left for the next call.
     fn call(
         &self,
         state: &mut Self::State,
         callee: &Callee<'a>,
-        items: Stack<Operand<'a>>,
+        items: &mut Stack<Operand<'a>>,
         names: &[Text],
         named: Stack<Operand<'a>>,
     ) -> Result<Operand<'a>, Broken>
         ensures { Says ((operations self.now).call (callee_seen callee.now)
-            (given items.entry names.now named.entry) state.old) result state.new };
+            (given items.old names.now named.entry) state.old) result state.new };
 
     /// Where memory comes from.
     fn alloc(&self) -> Global;
