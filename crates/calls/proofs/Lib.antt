@@ -1,3 +1,4 @@
 pub mod Binds
 pub mod Turns
 pub mod Tuples
+pub mod NumberTexts

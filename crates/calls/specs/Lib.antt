@@ -1,3 +1,4 @@
 pub mod Parameters
 pub mod Answered
 pub mod Pairs
+pub mod NumberTexts

@@ -1,20 +1,23 @@
 //! `len`, `str`, `list` and `fail`.
 ghost use Rattle.std.specs.Prelude.{◌≡◌, ◌+◌, pos, Ok, Err, Some, None, MatchResult, IfOk};
-ghost use Rattle.values.specs.Ticking.{FaultOr};
-ghost use Rattle.values.specs.Seeing.{seen};
+ghost use Rattle.values.specs.Ticking.{FaultOr, Says};
+ghost use Rattle.values.specs.Seeing.{seen, item_value};
+ghost use Rattle.printing.specs.Repr.{repr_of};
 ghost use Rattle.operations.specs.States.{Does, Stays, Gives};
 ghost use Rattle.operations.specs.Reading.{of_type};
 ghost use Rattle.operations.specs.Making.{number};
 ghost use Rattle.operations.specs.BuiltIns.{len, size_in, key_size, str, list, listed_in, fail};
+ghost use Rattle.calls.specs.NumberTexts.{number_told};
 
 use crate::dicts::key_items;
+use itoa::Buffer;
 use operands::Operand;
 use operations::{Made, State};
 use plain::Text;
-use printing::repr;
-use state::{copied, place, text_of};
+use printing::{LARGEST_TEXT, repr};
+use state::{copied, number_of, place, text_of};
 use std::alloc::Global;
-use values::{Broken, Key, Kind, Seen, Value};
+use values::{Broken, Heap, Item, Key, Kind, Seen, Ticks, VISITED_LEVELS, Value};
 
 /// `len(value)`: the bytes of a string, the items of a list or a tuple, the entries of a dict.
 ///
@@ -61,11 +64,54 @@ fn size_value(size: usize) -> Result<Value, Broken>
 pub fn str(alloc: Global, state: &mut State, value: &Operand<'_>) -> Result<Value, Broken>
     ensures { Does (str value.now) state.old result state.new }
 {
-    match repr(alloc, value.item(), &state.heap, &mut state.ticks) {
-        Ok(text) => {
-            let text = Text::from_string(text)?;
-            Ok(Value::Key(Key::Text(text)))
-        }
+    match text_of_item(alloc, value.item(), &state.heap, &mut state.ticks) {
+        Ok(text) => Ok(Value::Key(Key::Text(text))),
+        Err(broken) => Err(broken),
+    }
+}
+
+/// The text that `str` gives.
+fn text_of_item(
+    alloc: Global,
+    item: Item<'_>,
+    heap: &Heap,
+    ticks: &mut Ticks,
+) -> Result<Text, Broken>
+    ensures { Says (repr_of heap.now (item_value item.entry) ticks.old) result ticks.new }
+{
+    match number_of(&heap.see_item(item)) {
+        Some(number) => number_text(alloc, number, ticks),
+        None => printed_text(alloc, item, heap, ticks),
+    }
+}
+
+/// The text of a number, after its visit. It is written in place, so that no memory is taken but for the text.
+fn number_text(alloc: Global, number: i64, ticks: &mut Ticks) -> Result<Text, Broken>
+    ensures { Says (number_told number ticks.old) result ticks.new }
+{
+    if let Err(kind) = ticks.enter(VISITED_LEVELS) {
+        return Err(Broken::Kind(kind));
+    }
+    let mut digits = Buffer::new();
+    let digits = digits.format(number);
+    if digits.len() > LARGEST_TEXT {
+        return Err(Broken::Kind(Kind::Large));
+    }
+    let text = Text::new(alloc, digits)?;
+    Ok(text)
+}
+
+/// The text of any value.
+fn printed_text(
+    alloc: Global,
+    item: Item<'_>,
+    heap: &Heap,
+    ticks: &mut Ticks,
+) -> Result<Text, Broken>
+    ensures { Says (repr_of heap.now (item_value item.entry) ticks.old) result ticks.new }
+{
+    match repr(alloc, item, heap, ticks) {
+        Ok(text) => Ok(Text::from_string(text)?),
         Err(broken) => Err(broken),
     }
 }

@@ -43,18 +43,13 @@ fn repeats_for(
     ensures { IfOk result (λ b. b
         ≡ (is_given arguments.now attribute.now.name && repeats_label value.now)) }
 {
-    if arguments.given_as(attribute.name.as_str()).is_none() {
-        return Ok(false);
-    }
-    repeats_label(alloc, value)
-}
-
-/// Whether a value has a label twice.
-fn repeats_label(alloc: Global, value: &AttributeValue) -> Result<bool, AllocError>
-    ensures { IfOk result (λ b. b ≡ repeats_label value.now) }
-{
     match value {
-        AttributeValue::Labels(labels) => repeats(alloc, labels.get().as_slice()),
+        AttributeValue::Labels(labels) => {
+            if arguments.given_as(attribute.name.as_str()).is_none() {
+                return Ok(false);
+            }
+            repeats(alloc, labels.get().as_slice())
+        }
         _ => Ok(false),
     }
 }

@@ -1,5 +1,5 @@
 //! Sums, arithmetic and order.
-ghost use Rattle.std.specs.Prelude.{◌≡◌, ◌++◌, Ok, Err, Some, None, MatchOption, MatchResult, IfOk};
+ghost use Rattle.std.specs.Prelude.{◌≡◌, ◌++◌, Ok, Err, Some, None, MatchOption, MatchResult, IfOk, IfSome};
 ghost use Rattle.values.specs.Ticking.{FaultOr};
 ghost use Rattle.values.specs.Shape.{shape};
 ghost use Rattle.values.specs.Seeing.{seen, item_value, group_items};
@@ -16,6 +16,7 @@ use crate::changes::{copied, copy_into};
 use crate::making::place;
 use crate::reading::number_of;
 use crate::rooms::room;
+use arrayvec::ArrayString;
 use numbers::{Comparison, NumberError, difference, opposite, product, quotient, remainder, sum};
 use operands::Operand;
 use operations::{Arithmetic, Made, State};
@@ -110,10 +111,22 @@ fn behind(alloc: Global, a: &Text, b: &Text) -> Result<Text, Broken>
 fn glued(alloc: Global, a: &Text, b: &Text) -> Result<Text, AllocError>
     ensures { IfOk result (λ t. t ≡ a.now ++ b.now) }
 {
+    if let Some(text) = glued_in_place(a.as_str(), b.as_str()) {
+        return Text::new(alloc, text.as_str());
+    }
     let mut text = String::with_capacity(alloc, a.len().saturating_add(b.len()))?;
     text.push_str(a.as_str())?;
     text.push_str(b.as_str())?;
     Text::from_string(text)
+}
+
+/// The bytes of a text behind another, where they are so few that a `Text` holds them in place.
+fn glued_in_place(a: &str, b: &str) -> Option<ArrayString<32>>
+    ensures { IfSome result (λ t. t.bytes ≡ a.now ++ b.now) }
+{
+    let mut text = ArrayString::from(a).ok()?;
+    text.try_push_str(b).ok()?;
+    Some(text)
 }
 
 /// The items of two groups, one behind the other, or `large`, which is known before any is copied.

@@ -1,0 +1,10 @@
+-- What `str` gives of a whole number.
+use Rattle.std.specs.Prelude.{ℕ, ℤ, List}
+use Rattle.std.specs.Fmt.{signed_decimal}
+use Rattle.values.specs.Ticking.{Count, Ticking, after_tick, with_count, entered}
+use Rattle.values.specs.declared.ticks.TheConstants.{VISITED_LEVELS}
+use Rattle.printing.specs.Repr.{fits}
+
+-- its digits, after its visit
+abbrev pub number_told : ℤ → Count → Ticking (List ℕ)
+number_told n c = after_tick (entered VISITED_LEVELS c) (λ d. with_count (fits (signed_decimal n)) d)
