@@ -1,7 +1,7 @@
 -- What statements do is alike.
 use Rattle.std.proofs.Common.{ℕ, List, [], ◌∷◌, if◌then◌else◌}
 use Rattle.std.specs.Prelude.{Option, Some, None}
-use Rattle.syntax.specs.Resolved.{Term, Statement, load, assign, assign_item, add_to, add_to_item, evaluate, pass, break_loop, continue_loop, give_back, branch, loop, define, Branches, no_branches, a_branch, Steps, no_steps, step}
+use Rattle.program_tree.specs.Resolved.{Term, Statement, load, assign, assign_item, add_to, add_to_item, evaluate, pass, break_loop, continue_loop, give_back, branch, loop, define, Branches, no_branches, a_branch, Steps, no_steps, step}
 use Rattle.meaning.specs.Names.{Loaded, Binding}
 use Rattle.meaning.specs.Operations.{FunctionId, Operations}
 use Rattle.meaning.specs.Outcome.{Effect, ◌>>=◌, pure, act, change, Here}

@@ -2,8 +2,8 @@
 use Rattle.std.proofs.Common.{◌≡◌, Bool, List, [], ◌∷◌, ◌++◌, length, if◌then◌else◌, nat_eq, ap}
 use Rattle.std.specs.Prelude.{Option, Some, None}
 use Rattle.grammar.specs.Tree.{Operator}
-use Rattle.syntax.specs.Resolved as tree
-use Rattle.syntax.specs.Resolved.{Term, named, numeral, quoted, tuple, listing, dict, choice, operates, turned, selects, subscript, invokes, each, each_pair, Terms, no_terms, more_terms, Pairs, no_pairs, more_pairs, Keywords, no_keywords, more_keywords, Rounds, for_each, only_if}
+use Rattle.program_tree.specs.Resolved as tree
+use Rattle.program_tree.specs.Resolved.{Term, named, numeral, quoted, tuple, listing, dict, choice, operates, turned, selects, subscript, invokes, each, each_pair, Terms, no_terms, more_terms, Pairs, no_pairs, more_pairs, Keywords, no_keywords, more_keywords, Rounds, for_each, only_if}
 use Rattle.meaning.specs.Names.{OwnSlots, Binding, slot, global, builtin}
 use Rattle.meaning.specs.Operations.{Callee, plain, Arguments, unset, arity, Operations}
 use Rattle.meaning.specs.Outcome.{done, Effect, ◌>>=◌, pure, raise, act, change, Here, resumed}

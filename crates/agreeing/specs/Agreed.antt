@@ -1,7 +1,7 @@
 -- Where two records of operations agree: on values that are good, in states that hold.
 use Rattle.std.specs.Prelude.{◌≡◌, ℕ, List}
 use Rattle.grammar.specs.Tree.{Operator, Sign}
-use Rattle.syntax.specs.Names.{Name}
+use Rattle.program_tree.specs.Names.{Name}
 use Rattle.meaning.specs.Names.{Predeclared}
 use Rattle.meaning.specs.Operations.{Refusal, FunctionId, Callee, Arguments, Operations}
 use Rattle.keeping.specs.Kept.{Kept, goods, good_callee, good_arguments}

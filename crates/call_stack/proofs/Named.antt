@@ -4,7 +4,7 @@ use Rattle.std.proofs.lemmas.Bool.Decides.{nat_tests}
 use Rattle.std.specs.Prelude.{Bool, true, false, not, ◌&&◌, Option, Some, None, position, slice_get, bytes_eq}
 use Rattle.std.specs.List.{list_any, list_all, position_or_len}
 use Rattle.std.specs.Map.{lookup}
-use Rattle.syntax.specs.Names.{Name}
+use Rattle.program_tree.specs.Names.{Name}
 use Rattle.meaning.specs.Entry.{all_known, paired}
 
 abbrev pub at : {V : Type 0} → Option ℕ → List V → Option V

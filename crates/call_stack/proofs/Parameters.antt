@@ -2,7 +2,7 @@
 use Rattle.std.proofs.Common.{◌≡◌, ◌∙◌, ℕ, zero, suc, ◌+◌, ◌-◌, ◌<◌, ◌≤◌, List, [], ◌∷◌, ◌++◌, ap, refl, sym, length, drop, get_or, append_assoc, append-nil, drop-cons, arith}
 use Rattle.std.specs.Prelude.{Bool, true, false, ◌||◌, Option, Some, None, MatchOption, option_map, slice_get, bytes_eq, if◌then◌else◌, replicate, map, cond}
 use Rattle.std.specs.Map.{lookup}
-use Rattle.syntax.specs.Names.{Name}
+use Rattle.program_tree.specs.Names.{Name}
 use Rattle.meaning.specs.Outcome.{Slots}
 use Rattle.meaning.specs.Entry.{before_all, defaults_of, filled, is_named}
 use Rattle.call_stack.specs.Filled.{default_at, got, unless}

@@ -1,7 +1,7 @@
 -- What one parameter gets, and whether all fit.
 use Rattle.std.specs.Prelude.{ℕ, zero, suc, Bool, true, false, Option, Some, None, List, bytes_eq, slice_get}
 use Rattle.std.specs.Map.{lookup}
-use Rattle.syntax.specs.Names.{Name, or_else}
+use Rattle.program_tree.specs.Names.{Name, or_else}
 
 -- a value by position, unless there is one by name
 abbrev pub unless : {V : Type 0} → Option V → V → Option V

@@ -3,17 +3,18 @@
 ghost use Rattle.std.specs.Prelude.{◌≡◌, [], ◌++◌, List, IfOk, OnOk, map, slice_get, unwrap_or};
 ghost use Rattle.meaning.specs.Functions as functions;
 ghost use Rattle.meaning.specs.StatementCode.{file_code, function_code};
-ghost use Rattle.syntax.specs.ParsedView.{program_of};
-ghost use Rattle.syntax.specs.ProgramView as view;
+ghost use Rattle.program_tree.specs.ParsedView.{program_of};
+ghost use Rattle.program_tree.specs.ProgramView as view;
 
 use crate::code::{Code, FunctionCode};
 use crate::emitter::Emitter;
 use crate::instruction::Instruction;
 use crate::steps::emit_steps;
 use indexmap::IndexSet;
+use lexer::NoMemory;
 use plain::Text;
+use program_tree::{Parsed, Statement, Step};
 use std::alloc::{AllocError, Global};
-use syntax::{NoMemory, Parsed, Statement, Step};
 
 /// The same texts: a count more for each.
 fn shared(alloc: Global, names: &[Text]) -> Result<Vec<Text>, AllocError>

@@ -1,9 +1,9 @@
 -- Worked modules, by computation.
 use Rattle.std.specs.Prelude.{◌≡◌, ℕ, pos, List, [], ◌∷◌, codes, Some, None, Result, Ok, Err, refl}
-use Rattle.syntax.specs.Resolved.{Program, program, numeral, give_back, define, evaluate, step, no_steps}
+use Rattle.program_tree.specs.Resolved.{Program, program, numeral, give_back, define, evaluate, step, no_steps}
 use Rattle.meaning.specs.Names.{builtin}
-use Rattle.syntax.specs.declared.names.Predeclared.TheVariants as predeclared
-use Rattle.syntax.specs.Resolved as resolved
+use Rattle.program_tree.specs.declared.names.Predeclared.TheVariants as predeclared
+use Rattle.program_tree.specs.Resolved as resolved
 use Rattle.meaning.specs.Outcome.{put, slot_value}
 use Rattle.meaning.specs.Entry.{entry}
 use Rattle.meaning.specs.Expressions.{eval}

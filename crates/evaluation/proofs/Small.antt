@@ -1,8 +1,8 @@
 -- Small places, over which small files are run by computation: of a module, `provider()` alone, which makes a provider
 -- without fields; of a BUILD file and of an implementation, nothing. And files as their trees.
 use Rattle.std.specs.Prelude.{ℕ, ◌+◌, false, List, [], ◌∷◌, Some, Ok, Err}
-use Rattle.syntax.specs.Names.{Name}
-use Rattle.syntax.specs.Resolved.{Term, named, listing, invokes, selects, Terms, no_terms, more_terms, no_keywords, Statement, assign, Steps, no_steps, step}
+use Rattle.program_tree.specs.Names.{Name}
+use Rattle.program_tree.specs.Resolved.{Term, named, listing, invokes, selects, Terms, no_terms, more_terms, no_keywords, Statement, assign, Steps, no_steps, step}
 use Rattle.meaning.specs.Names.{slot, global}
 use Rattle.values.specs.declared.leaf.Leaf.{Leaf}
 use Rattle.values.specs.declared.leaf.Leaf.TheVariants as plain

@@ -1,7 +1,7 @@
 -- Worked calls of implementations, by computation.
 use Rattle.std.specs.Prelude.{◌≡◌, ℕ, List, [], ◌∷◌, codes, Some, None, Result, Ok, Err, refl}
-use Rattle.syntax.specs.Resolved.{Program, program, numeral, named, give_back, define, loop, pass, invokes, no_terms, no_keywords, Steps}
-use Rattle.syntax.specs.declared.names.Predeclared.TheVariants as predeclared
+use Rattle.program_tree.specs.Resolved.{Program, program, numeral, named, give_back, define, loop, pass, invokes, no_terms, no_keywords, Steps}
+use Rattle.program_tree.specs.declared.names.Predeclared.TheVariants as predeclared
 use Rattle.meaning.specs.Names.{slot, builtin}
 use Rattle.meaning.specs.Outcome.{put, slot_value}
 use Rattle.meaning.specs.Entry.{entry}

@@ -1,8 +1,8 @@
 -- Worked workspaces, by computation: modules that load others, and a BUILD file.
 use Rattle.std.specs.Prelude.{◌≡◌, ℕ, List, [], ◌∷◌, codes, Some, None, Result, Ok, Err, refl, unwrap_or, position, bytes_eq}
 use Rattle.lexer.specs.declared.fault.FaultKind.{FaultKind}
-use Rattle.syntax.specs.Names.{Name}
-use Rattle.syntax.specs.Resolved.{Program, program, numeral, define, evaluate, load, Statement, no_terms}
+use Rattle.program_tree.specs.Names.{Name}
+use Rattle.program_tree.specs.Resolved.{Program, program, numeral, define, evaluate, load, Statement, no_terms}
 use Rattle.meaning.specs.Outcome.{put, slot_value}
 use Rattle.meaning.specs.Entry.{entry}
 use Rattle.meaning.specs.Expressions.{eval}

@@ -4,7 +4,7 @@
 use Rattle.std.specs.Prelude.{ℕ, List, [], ◌∷◌, map, length, replicate, Option, None, Result, Ok, Err, slice_get, unwrap_or, if◌then◌else◌}
 use Rattle.actions.specs.declared.action.Action.{Action}
 use Rattle.depsets.specs.declared.element.FileRef.{FileRef}
-use Rattle.syntax.specs.Resolved.{Program, no_steps}
+use Rattle.program_tree.specs.Resolved.{Program, no_steps}
 use Rattle.meaning.specs.Operations.{Arguments}
 use Rattle.meaning.specs.Outcome.{Fault, Final}
 use Rattle.meaning.specs.Functions.{Files, functions, def_line}

@@ -15,8 +15,8 @@ use language_calls::DefaultInfo;
 use operands::Operand;
 use places::{Link, Place};
 use plain::Text;
+use program_tree::Predeclared;
 use std::alloc::{AllocError, Global};
-use syntax::Predeclared;
 use values::{Broken, Item, Kind, Leaf, Value};
 
 /// The linked files and the place of an evaluation. Its operations are those of the language.

@@ -9,7 +9,7 @@ use crate::stop::{Step, Stop};
 use crate::world::Operate;
 use keys::TextKey;
 use operands::Operand;
-use syntax::Predeclared;
+use program_tree::Predeclared;
 
 /// A number that the file writes out.
 #[inline(always)]

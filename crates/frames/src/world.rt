@@ -17,8 +17,8 @@ use grammar::{Operator, Sign};
 use keys::TextKey;
 use operands::Operand;
 use plain::Text;
+use program_tree::Predeclared;
 use std::alloc::{AllocError, Global};
-use syntax::Predeclared;
 use values::{Broken, Item, Kind, Value};
 
 /// The faults that evaluation finds itself, whatever the values are.

@@ -2,9 +2,9 @@
 use Rattle.std.proofs.Common.{◌≡◌, ℕ, Bool, not, List, [], ◌∷◌, Option, Some, None, Result, Ok, Err, map, refl}
 use Rattle.numbers.specs.declared.order.Comparison.TheVariants as op
 use Rattle.grammar.specs.Tree.{Operator, either as or, both as and, equal, not_equal, less, greater, less_equal, greater_equal, within, not_within, add, subtract, multiply, divide, remainder, Sign, negation, opposite}
-use Rattle.syntax.specs.Names.{Name}
-use Rattle.syntax.specs.declared.names.Predeclared.{Predeclared}
-use Rattle.syntax.specs.declared.names.Predeclared.TheVariants as name
+use Rattle.program_tree.specs.Names.{Name}
+use Rattle.program_tree.specs.declared.names.Predeclared.{Predeclared}
+use Rattle.program_tree.specs.declared.names.Predeclared.TheVariants as name
 use Rattle.meaning.specs.Operations as meant
 use Rattle.values.specs.Shape.{shape}
 use Rattle.values.specs.declared.cells.Cell.TheVariants as cell

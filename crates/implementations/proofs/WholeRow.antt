@@ -1,6 +1,6 @@
 -- A worked call of an implementation that declares a File and writes it, by computation.
 use Rattle.std.specs.Prelude.{◌≡◌, ℕ, ◌+◌, List, [], ◌∷◌, codes, None, Some, Ok, refl}
-use Rattle.syntax.specs.Resolved.{Program, program, Term, quoted, named, selects, invokes, Terms, no_terms, more_terms, no_keywords, Statement, assign, evaluate, define, Steps, no_steps, step}
+use Rattle.program_tree.specs.Resolved.{Program, program, Term, quoted, named, selects, invokes, Terms, no_terms, more_terms, no_keywords, Statement, assign, evaluate, define, Steps, no_steps, step}
 use Rattle.meaning.specs.Names.{slot}
 use Rattle.meaning.specs.Outcome.{put, slot_value}
 use Rattle.meaning.specs.Entry.{entry}

@@ -2,7 +2,7 @@
 use Rattle.std.proofs.Common.{◌≡◌, ℕ, zero, suc, Bool, true, false, List, [], ◌∷◌, ◌++◌, length, map, if◌then◌else◌, bytes_eq}
 use Rattle.std.specs.Prelude.{◌-◌, Option, Some, None, option_map, replicate}
 use Rattle.std.specs.Map.{lookup}
-use Rattle.syntax.specs.Names.{Name, or_else}
+use Rattle.program_tree.specs.Names.{Name, or_else}
 use Rattle.meaning.specs.Operations.{Arguments}
 use Rattle.meaning.specs.Outcome.{Slots}
 use Rattle.meaning.specs.Entry.{before_all, is_named, filled, defaults_of, all_known, entry}

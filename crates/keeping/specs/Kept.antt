@@ -1,7 +1,7 @@
 -- What holds of states and of values while something is evaluated, over a world that only grows: what is known at a point stays
 -- known (this project's own notion; the depsets that an evaluation has seen are such a world).
 use Rattle.std.specs.Prelude.{List, [], ◌∷◌, Option, Some, None, Result, Ok, Err}
-use Rattle.syntax.specs.Names.{Name}
+use Rattle.program_tree.specs.Names.{Name}
 use Rattle.meaning.specs.Operations.{Callee, plain, method, Arguments}
 
 pub record Kept (S V : Type 0) : Type 1 where

@@ -1,7 +1,7 @@
 -- What each operation owes, so that an evaluation keeps what holds of states and of values.
 use Rattle.std.specs.Prelude.{ℕ, List}
 use Rattle.grammar.specs.Tree.{Operator, Sign}
-use Rattle.syntax.specs.Names.{Name}
+use Rattle.program_tree.specs.Names.{Name}
 use Rattle.meaning.specs.Names.{Predeclared}
 use Rattle.meaning.specs.Operations.{FunctionId, Callee, Arguments, Operations}
 use Rattle.keeping.specs.Kept.{Kept, goods, good_callee, good_arguments, Gives, anything}

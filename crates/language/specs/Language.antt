@@ -2,8 +2,8 @@
 use Rattle.std.specs.Prelude.{ℕ, pos, Bool, true, false, not, List, map, Option, Some, None, option_map, Result, Ok, Err, if◌then◌else◌}
 use Rattle.numbers.specs.declared.order.Comparison.TheVariants as op
 use Rattle.grammar.specs.Tree.{Operator, either, both, equal, not_equal, less, greater, less_equal, greater_equal, within, not_within, add, subtract, multiply, divide, remainder, Sign, negation, opposite}
-use Rattle.syntax.specs.declared.names.Predeclared.{Predeclared}
-use Rattle.syntax.specs.declared.names.Predeclared.TheVariants as name
+use Rattle.program_tree.specs.declared.names.Predeclared.{Predeclared}
+use Rattle.program_tree.specs.declared.names.Predeclared.TheVariants as name
 use Rattle.meaning.specs.Operations as meant
 use Rattle.values.specs.Shape.{shape}
 use Rattle.values.specs.declared.leaf.Leaf.{Leaf}

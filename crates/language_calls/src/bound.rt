@@ -2,12 +2,12 @@
 ghost use Rattle.std.specs.Prelude.{◌≡◌, ◌∷◌, [], IfOk, codes};
 ghost use Rattle.operations.specs.Instances.{default_info};
 ghost use Rattle.language.specs.Language.{predeclared_value};
-ghost use Rattle.syntax.specs.declared.names.Predeclared.TheVariants as name;
+ghost use Rattle.program_tree.specs.declared.names.Predeclared.TheVariants as name;
 
 use operands::Operand;
 use plain::{Shared, Text};
+use program_tree::Predeclared;
 use std::alloc::{AllocError, Global};
-use syntax::Predeclared;
 use values::{BuiltIn, Item, Key, Leaf, Names, Object, Provider, ProviderRef, Value};
 
 /// The provider `DefaultInfo`, made once and lent to all who name it.

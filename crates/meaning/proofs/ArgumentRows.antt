@@ -1,7 +1,7 @@
 -- What the parameters of `def f(a, b = 9)` get, of which the function has a slot more.
 use Rattle.std.proofs.Common.{◌≡◌, ℕ, List, [], ◌∷◌, Option, Some, None, refl}
 use Rattle.std.specs.Prelude.{codes}
-use Rattle.syntax.specs.Names.{Name}
+use Rattle.program_tree.specs.Names.{Name}
 use Rattle.meaning.specs.Outcome.{Slots}
 use Rattle.meaning.specs.Entry.{entry}
 

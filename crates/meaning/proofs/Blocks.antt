@@ -1,7 +1,7 @@
 -- The code of a statement ends as it means.
 use Rattle.std.proofs.Common.{◌≡◌, ℕ, suc, ◌+◌, List, [], ◌∷◌, ◌++◌, length, Option, Some, None, refl, ap, ◌∙◌, arith}
 use Rattle.meaning.specs.Instructions as instr
-use Rattle.syntax.specs.Resolved.{Term, Statement, load, assign, assign_item, add_to, add_to_item, evaluate, pass, break_loop, continue_loop, give_back, branch, loop, define, Branches, no_branches, a_branch, Steps, no_steps, step}
+use Rattle.program_tree.specs.Resolved.{Term, Statement, load, assign, assign_item, add_to, add_to_item, evaluate, pass, break_loop, continue_loop, give_back, branch, loop, define, Branches, no_branches, a_branch, Steps, no_steps, step}
 use Rattle.meaning.specs.Names.{Binding, Loaded}
 use Rattle.meaning.specs.Operations.{FunctionId}
 use Rattle.meaning.specs.Outcome.{Slots, Outcome, ◌>>=◌, pure, act, change, Here}

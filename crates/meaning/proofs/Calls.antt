@@ -6,7 +6,7 @@ use Rattle.std.proofs.Math.Seq.{get_or-append_seam}
 use Rattle.std.proofs.lemmas.Option.{slice_get-get_or, slice_get-map}
 use Rattle.std.proofs.lemmas.Bool.{lt-ltb, le-ltb}
 use Rattle.meaning.specs.Instructions as instr
-use Rattle.syntax.specs.Resolved.{Program}
+use Rattle.program_tree.specs.Resolved.{Program}
 use Rattle.meaning.specs.Operations.{recursion, deep, FunctionId, Callee, Arguments, Operations}
 use Rattle.meaning.specs.Outcome.{Slots, Outcome, done, fault, Final, final_of, ◌>>=◌, pure, act, Here, refused}
 use Rattle.meaning.specs.Entry.{in_file, same_function, entry, called}

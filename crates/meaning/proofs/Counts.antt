@@ -1,6 +1,6 @@
 -- How many values expressions have.
 use Rattle.std.proofs.Common.{◌≡◌, suc, ◌+◌, List, [], ◌∷◌, ◌++◌, length, arith, length-append}
-use Rattle.syntax.specs.Resolved.{Terms, no_terms, more_terms, Keywords, no_keywords, more_keywords}
+use Rattle.program_tree.specs.Resolved.{Terms, no_terms, more_terms, Keywords, no_keywords, more_keywords}
 use Rattle.meaning.specs.Operations.{Operations}
 use Rattle.meaning.specs.Outcome.{Slots, Here}
 use Rattle.meaning.specs.Expressions.{Invoke, names_of, eval, evals, values}

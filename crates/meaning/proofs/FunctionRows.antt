@@ -1,7 +1,7 @@
 -- Functions: defaults, recursion, names that loads bind, and calls from outside.
 use Rattle.std.proofs.Common.{◌≡◌, ℕ, [], ◌∷◌, Option, Some, None, refl}
 use Rattle.std.specs.Prelude.{Ok, codes}
-use Rattle.syntax.specs.Resolved.{numeral, operates, invokes, selects, no_keywords, load, evaluate, pass, give_back, define, step, Program}
+use Rattle.program_tree.specs.Resolved.{numeral, operates, invokes, selects, no_keywords, load, evaluate, pass, give_back, define, step, Program}
 use Rattle.grammar.specs.Tree.{both}
 use Rattle.meaning.specs.Operations.{FunctionId, arity, recursion, deep, plain}
 use Rattle.meaning.specs.Outcome.{Final, put, slot_value}

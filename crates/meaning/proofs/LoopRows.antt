@@ -2,8 +2,8 @@
 use Rattle.std.proofs.Common.{◌≡◌, ℕ, List, [], ◌∷◌, ◌++◌, Some, refl}
 use Rattle.std.specs.Prelude.{Ok, codes}
 use Rattle.grammar.specs.Tree.{equal, not_equal}
-use Rattle.syntax.specs.Resolved as tree
-use Rattle.syntax.specs.Resolved.{Term, numeral, operates, each, only_if, Steps, no_steps, step, Statement, add_to, evaluate, pass, break_loop, give_back, branch, loop, no_branches, a_branch, Program}
+use Rattle.program_tree.specs.Resolved as tree
+use Rattle.program_tree.specs.Resolved.{Term, numeral, operates, each, only_if, Steps, no_steps, step, Statement, add_to, evaluate, pass, break_loop, give_back, branch, loop, no_branches, a_branch, Program}
 use Rattle.meaning.specs.Names.{slot}
 use Rattle.meaning.specs.Operations.{arity}
 use Rattle.meaning.specs.Outcome.{Final, put, slot_value}

@@ -4,7 +4,7 @@ use Rattle.std.proofs.lemmas.Bool.{eqb-true}
 use Rattle.std.proofs.lemmas.List.{append-nil}
 use Rattle.std.specs.Prelude.{Ok, Err}
 use Rattle.meaning.specs.Instructions as instr
-use Rattle.syntax.specs.Names.{Name}
+use Rattle.program_tree.specs.Names.{Name}
 use Rattle.meaning.specs.Names.{OwnSlots, Binding, slot, global, builtin}
 use Rattle.meaning.specs.Operations.{arity, FunctionId, Callee, Arguments, Operations}
 use Rattle.meaning.specs.Outcome.{Slots, Outcome, done, Final, Effect, raise, act, resumed, Here, put, cleared}

@@ -5,7 +5,7 @@ use Rattle.std.proofs.Common.{ℕ, zero, suc, ◌+◌, ◌-◌, Bool, true, fals
 use Rattle.std.specs.Prelude.{Result, Ok, Err, slice_get, slice_set, unwrap_or, bytes_eq, codes}
 use Rattle.grammar.specs.Tree.{Operator, add, equal, not_equal}
 use Rattle.meaning.specs.Names as names
-use Rattle.syntax.specs.Names.{Name}
+use Rattle.program_tree.specs.Names.{Name}
 use Rattle.meaning.specs.Names.{Predeclared, len_function, fail_function, true_value, false_value}
 use Rattle.meaning.specs.Operations.{Refusal, FunctionId, Callee, plain, method, Operations}
 

@@ -1,8 +1,8 @@
 -- The code of an expression gives what it means.
 use Rattle.std.proofs.Common.{◌≡◌, ℕ, suc, ◌+◌, List, [], ◌∷◌, ◌++◌, length, Option, Some, None, refl, sym, subst, arith}
-use Rattle.syntax.specs.Resolved as tree
+use Rattle.program_tree.specs.Resolved as tree
 use Rattle.meaning.specs.Instructions as instr
-use Rattle.syntax.specs.Resolved.{Term, named, numeral, quoted, tuple, listing, dict, choice, operates, turned, selects, subscript, invokes, each, each_pair, Terms, no_terms, more_terms, Pairs, no_pairs, more_pairs, Keywords, no_keywords, more_keywords, Rounds, for_each, only_if}
+use Rattle.program_tree.specs.Resolved.{Term, named, numeral, quoted, tuple, listing, dict, choice, operates, turned, selects, subscript, invokes, each, each_pair, Terms, no_terms, more_terms, Pairs, no_pairs, more_pairs, Keywords, no_keywords, more_keywords, Rounds, for_each, only_if}
 use Rattle.meaning.specs.Names.{OwnSlots, slot, global, builtin}
 use Rattle.meaning.specs.Operations.{Callee, plain}
 use Rattle.meaning.specs.Outcome.{Slots, Outcome, done, Effect, ◌>>=◌, pure, act, Here}

@@ -1,8 +1,8 @@
 -- Programs as their trees, and how they end.
 use Rattle.std.proofs.Common.{ℕ, ◌+◌, List, [], ◌∷◌}
 use Rattle.std.specs.Prelude.{Err, codes}
-use Rattle.syntax.specs.Names.{Name}
-use Rattle.syntax.specs.Resolved.{Term, named, numeral, listing, invokes, selects, Terms, no_terms, more_terms, Keywords, no_keywords, more_keywords, Rounds, for_each, Statement, assign, define, Steps, no_steps, step, Program, program}
+use Rattle.program_tree.specs.Names.{Name}
+use Rattle.program_tree.specs.Resolved.{Term, named, numeral, listing, invokes, selects, Terms, no_terms, more_terms, Keywords, no_keywords, more_keywords, Rounds, for_each, Statement, assign, define, Steps, no_steps, step, Program, program}
 use Rattle.meaning.specs.Names.{OwnSlots, slot, global, builtin, len_function, fail_function}
 use Rattle.meaning.specs.Outcome.{Final}
 use Rattle.meaning.specs.Calls.{function_meaning, top_meaning}

@@ -3,7 +3,7 @@
 use Rattle.std.specs.Prelude.{ℕ, ◌-◌, Bool, nat_eq, if◌then◌else◌, ◌&&◌, List, [], ◌∷◌, ◌++◌, length, map, Option, Some, None, option_map, bytes_eq, replicate, slice_get}
 use Rattle.std.specs.List.{list_any, list_all}
 use Rattle.std.specs.Map.{lookup}
-use Rattle.syntax.specs.Names.{Name, or_else}
+use Rattle.program_tree.specs.Names.{Name, or_else}
 use Rattle.meaning.specs.Operations.{FunctionId, Callee, plain, method, Arguments, Operations}
 use Rattle.meaning.specs.Outcome.{Slots}
 

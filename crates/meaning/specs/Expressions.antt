@@ -1,9 +1,9 @@
 -- What an expression does (Starlark specification, "Expressions"): its value, and what it changes, in the order of the text.
 use Rattle.std.specs.Prelude.{◌-◌, nat_eq, Bool, if◌then◌else◌, List, [], ◌∷◌, ◌++◌, length, Option, Some, None}
 use Rattle.grammar.specs.Tree.{Operator, either, both}
-use Rattle.syntax.specs.Names.{Name}
-use Rattle.syntax.specs.Resolved as tree
-use Rattle.syntax.specs.Resolved.{Term, named, numeral, quoted, tuple, listing, dict, choice, operates, turned, selects, subscript, invokes, each, each_pair, Terms, no_terms, more_terms, Pairs, no_pairs, more_pairs, Keywords, no_keywords, more_keywords, Rounds, for_each, only_if}
+use Rattle.program_tree.specs.Names.{Name}
+use Rattle.program_tree.specs.Resolved as tree
+use Rattle.program_tree.specs.Resolved.{Term, named, numeral, quoted, tuple, listing, dict, choice, operates, turned, selects, subscript, invokes, each, each_pair, Terms, no_terms, more_terms, Pairs, no_pairs, more_pairs, Keywords, no_keywords, more_keywords, Rounds, for_each, only_if}
 use Rattle.meaning.specs.Names.{OwnSlots, Binding, slot, global, builtin}
 use Rattle.meaning.specs.Operations.{Callee, plain, Arguments, arity, Operations}
 use Rattle.meaning.specs.Outcome.{done, Final, resumed, Effect, ◌>>=◌, pure, raise, act, change, Here, cleared, set_slot, slot_value}

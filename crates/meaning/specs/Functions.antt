@@ -1,7 +1,7 @@
 -- The functions of files, by their numbers, and the lines of their `def`s.
 use Rattle.std.specs.Prelude.{ℕ, List, [], ◌∷◌, map, Option, Some, None, slice_get, unwrap_or}
-use Rattle.syntax.specs.Names.{Name}
-use Rattle.syntax.specs.Resolved.{Statement, define, Steps, no_steps, step, Program}
+use Rattle.program_tree.specs.Names.{Name}
+use Rattle.program_tree.specs.Resolved.{Statement, define, Steps, no_steps, step, Program}
 use Rattle.meaning.specs.Operations.{FunctionId}
 use Rattle.meaning.specs.Entry.{in_file}
 

@@ -1,6 +1,6 @@
 -- Codes that were compiled, each from a file of its own.
 use Rattle.std.specs.Prelude.{◌≡◌, List, [], ◌∷◌}
-use Rattle.syntax.specs.Resolved.{Program}
+use Rattle.program_tree.specs.Resolved.{Program}
 use Rattle.meaning.specs.Instructions.{FunctionCode, Codes}
 use Rattle.meaning.specs.StatementCode.{file_code}
 

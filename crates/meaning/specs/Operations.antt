@@ -5,7 +5,7 @@
 -- of values, `K` that of the kinds of fault.
 use Rattle.std.specs.Prelude.{ℕ, List, Option, Bool, Result}
 use Rattle.grammar.specs.Tree.{Operator, Sign}
-use Rattle.syntax.specs.Names.{Name}
+use Rattle.program_tree.specs.Names.{Name}
 use Rattle.meaning.specs.Names.{Predeclared}
 
 -- an operation on a state: what it gives and the state after it, or the kind of its fault

@@ -1,6 +1,6 @@
 -- What a statement does (Starlark specification, "Statements"): what it changes, and how it ends.
 use Rattle.std.specs.Prelude.{ℕ, if◌then◌else◌, List, [], ◌∷◌, Option, Some, None}
-use Rattle.syntax.specs.Resolved.{Term, Statement, load, assign, assign_item, add_to, add_to_item, evaluate, pass, break_loop, continue_loop, give_back, branch, loop, define, Branches, no_branches, a_branch, Steps, no_steps, step}
+use Rattle.program_tree.specs.Resolved.{Term, Statement, load, assign, assign_item, add_to, add_to_item, evaluate, pass, break_loop, continue_loop, give_back, branch, loop, define, Branches, no_branches, a_branch, Steps, no_steps, step}
 use Rattle.meaning.specs.Names.{Loaded}
 use Rattle.meaning.specs.Operations.{Operations}
 use Rattle.meaning.specs.Outcome.{Effect, ◌>>=◌, pure, act, change, Here}

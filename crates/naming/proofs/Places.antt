@@ -3,7 +3,7 @@ use Rattle.std.proofs.Common.{◌≡◌, ℕ, zero, suc, true, not, List, [], �
 use Rattle.std.proofs.lemmas.Map.Keys.{any_passes_from_place}
 use Rattle.std.proofs.lemmas.Option.{same_Some}
 use Rattle.std.proofs.lemmas.Slice.Eq.{bytes_eq-Decides}
-use Rattle.syntax.specs.Names.{among, distinct}
+use Rattle.program_tree.specs.Names.{among, distinct}
 use Rattle.values.specs.View.{FrozenTree}
 use Rattle.loading.specs.Loads.{Path, Name}
 use Rattle.evaluation.specs.declared.made.Made.{Made}

@@ -1,7 +1,7 @@
 //! What the numbers and the names of what a module made have to do with each other. This function does nothing; its
 //! contract holds of all modules.
 ghost use Rattle.std.specs.Prelude.{◌≡◌, ℕ, List, Option, Ok, true};
-ghost use Rattle.syntax.specs.Names.{distinct};
+ghost use Rattle.program_tree.specs.Names.{distinct};
 ghost use Rattle.values.specs.View.{FrozenTree};
 ghost use Rattle.operations.specs.declared.state.State.{State};
 ghost use Rattle.loading.specs.Loads.{Path, Name};

@@ -9,7 +9,7 @@ use Rattle.std.proofs.lemmas.Slice.Eq.{bytes_eq-Decides}
 use Rattle.edges.proofs.Tests.{neither}
 use Rattle.lexer.specs.declared.fault.FaultKind.{FaultKind}
 use Rattle.lexer.specs.declared.fault.SyntaxFault.{SyntaxFault}
-use Rattle.syntax.specs.Resolved.{Program}
+use Rattle.program_tree.specs.Resolved.{Program}
 use Rattle.meaning.specs.Functions.{functions}
 use Rattle.loading.specs.Loads.{Path, Load}
 use Rattle.workspace.specs.Workspaces.{Pair, paths_of}

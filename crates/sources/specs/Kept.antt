@@ -2,8 +2,8 @@
 use Rattle.std.specs.Prelude.{◌≡◌, ℕ, List, length, map, Result, Ok, Err}
 use Rattle.lexer.specs.declared.fault.FaultKind.{FaultKind}
 use Rattle.lexer.specs.declared.fault.SyntaxFault.{SyntaxFault}
-use Rattle.syntax.specs.Names.{Name}
-use Rattle.syntax.specs.Resolved.{Program}
+use Rattle.program_tree.specs.Names.{Name}
+use Rattle.program_tree.specs.Resolved.{Program}
 use Rattle.meaning.specs.Functions.{functions}
 use Rattle.meaning.specs.Instructions.{Codes}
 use Rattle.meaning.specs.StatementCode.{code_of}

@@ -2,7 +2,7 @@
 ghost use Rattle.std.specs.Prelude.{◌≡◌, Ok, Err, IfOk, length};
 ghost use Rattle.meaning.specs.Functions.{functions};
 ghost use Rattle.meaning.specs.StatementCode.{file_code};
-ghost use Rattle.syntax.specs.ParsedView.{program_of};
+ghost use Rattle.program_tree.specs.ParsedView.{program_of};
 ghost use Rattle.evaluation.specs.Runs.{no_program};
 ghost use Rattle.evaluation.specs.Workspaces.{is_starlark, kind_of, parsed, code_of_parsed};
 ghost use Rattle.sources.specs.Kept.{kept_as};

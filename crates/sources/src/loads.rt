@@ -1,14 +1,14 @@
 //! The load statements of a file.
 ghost use Rattle.std.specs.Prelude.{◌≡◌, ◌++◌, List, IfOk, OnOk, map};
-ghost use Rattle.syntax.specs.ProgramView as view;
+ghost use Rattle.program_tree.specs.ProgramView as view;
 ghost use Rattle.loading.specs.Loads.{Load};
 ghost use Rattle.evaluation.specs.Workspaces.{with_load, loads_in};
 
 use crate::labels::load_path;
 use loading::LoadStatement;
 use plain::Text;
+use program_tree::{Loaded, Statement, Step};
 use std::alloc::{AllocError, Global};
-use syntax::{Loaded, Statement, Step};
 use targets::Sequence;
 
 /// The names that a statement asks for.

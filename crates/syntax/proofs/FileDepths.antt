@@ -6,8 +6,8 @@ use Rattle.grammar.specs.BareLines.{bare_lines}
 use Rattle.grammar.specs.Places.{top_of}
 use Rattle.grammar.proofs.BareLaws.{block_shallow}
 use Rattle.syntax.specs.Files.{syntax}
-use Rattle.syntax.specs.Names.{file_scope}
-use Rattle.syntax.specs.Resolved.{Program, resolved, steps_of}
+use Rattle.program_tree.specs.Names.{file_scope}
+use Rattle.program_tree.specs.Resolved.{Program, resolved, steps_of}
 use Rattle.syntax.specs.ProgramDepth.{IsShallow}
 use Rattle.syntax.proofs.FileLaws.{syntax_is}
 use Rattle.syntax.proofs.ProgramDepths.{made_within, nested_within, numbered_depth, numbered_nesting}

@@ -4,8 +4,8 @@ use Rattle.lexer.specs.declared.file_kind.FileKind.{FileKind}
 use Rattle.grammar.specs.Blocks.{Block}
 use Rattle.grammar.specs.BareLines.{bare_lines}
 use Rattle.syntax.specs.Files.{syntax}
-use Rattle.syntax.specs.Names.{lines_bind, once, file_scope}
-use Rattle.syntax.specs.Resolved.{Program, resolved, steps_of, steps_slots}
+use Rattle.program_tree.specs.Names.{lines_bind, once, file_scope}
+use Rattle.program_tree.specs.Resolved.{Program, resolved, steps_of, steps_slots}
 use Rattle.syntax.specs.IsProgram.{IsProgram, at_top}
 use Rattle.syntax.proofs.FileLaws.{syntax_is}
 use Rattle.syntax.proofs.NamePlaces.{all_among, among_once, distinct_once}

@@ -14,8 +14,10 @@ use Rattle.grammar.specs.FormReading.{lead, then_at, names_to, string_at, commas
 use Rattle.grammar.specs.Blocks.{Block}
 use Rattle.grammar.specs.BlockReading.{read_lines}
 use Rattle.grammar.specs.BareLines.{bare_lines}
-use Rattle.syntax.specs.Names.{global, slot, builtin, len_function}
-use Rattle.syntax.specs.Resolved.{OwnSlots, Program, named, numeral, invokes, each, more_terms, no_terms, no_keywords, done, for_each, assign, give_back, branch, a_branch, no_branches, define, no_steps, step, resolved}
+use Rattle.program_tree.specs.declared.names.Binding.TheVariants.{Global as global, Slot as slot, Builtin as builtin}
+use Rattle.program_tree.specs.declared.names.Predeclared.TheVariants.{LenFunction as len_function}
+use Rattle.program_tree.specs.Resolved.{Program, named, numeral, invokes, each, more_terms, no_terms, no_keywords, done, for_each, assign, give_back, branch, a_branch, no_branches, define, no_steps, step, resolved}
+use Rattle.program_tree.specs.declared.program.OwnSlots.{OwnSlots}
 use Rattle.syntax.specs.IsProgram.{all_loaded, all_own}
 use Rattle.syntax.specs.Files.{syntax}
 

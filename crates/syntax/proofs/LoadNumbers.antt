@@ -12,9 +12,11 @@ use Rattle.grammar.specs.Places.{Place, top_of, still_early}
 use Rattle.grammar.specs.Blocks as laid
 use Rattle.grammar.specs.Blocks.{Block, IsBlock}
 use Rattle.grammar.specs.BareLines.{Item, Form, loads, defines, if_head, elif_head, else_head, for_head, assigns, assigns_at, increases, increases_at, evaluates, passes, breaks, continues, returns, Lines, no_lines, a_line, bare_item, bare_lines, without_commas}
-use Rattle.syntax.specs.Names.{Name, Scope, slot, global, builtin, or_else, among, apart, distinct, once, without, form_binds, loads_bind, lines_bind, slot_of, predeclared, file_scope, scope_of}
+use Rattle.program_tree.specs.Names.{Name, Scope, or_else, among, apart, distinct, once, without, form_binds, loads_bind, lines_bind, slot_of, predeclared, file_scope, scope_of}
+use Rattle.program_tree.specs.declared.names.Binding.TheVariants.{Slot as slot, Global as global, Builtin as builtin}
 use Rattle.syntax.specs.Scopes.{line_scoped, adds_to_name, top_line_scoped, lines_fault, top_fault}
-use Rattle.syntax.specs.Resolved.{Loaded, Statement, load, assign, assign_item, add_to, add_to_item, evaluate, pass, break_loop, continue_loop, give_back, branch, loop, define, Steps, no_steps, step, made, steps_of, binding_of, global_of, with_number, next_number, numbered}
+use Rattle.program_tree.specs.Resolved.{Statement, load, assign, assign_item, add_to, add_to_item, evaluate, pass, break_loop, continue_loop, give_back, branch, loop, define, Steps, no_steps, step, made, steps_of, binding_of, global_of, with_number, next_number, numbered}
+use Rattle.program_tree.specs.declared.program.Loaded.{Loaded}
 use Rattle.syntax.specs.IsProgram.{at_top, loaded_numbers, globals_among, own_numbers, all_loaded, all_own, numbers_from}
 use Rattle.syntax.proofs.NamePlaces.{both, not_both, same, has_place, without_front, all_among}
 use Rattle.syntax.proofs.ScopeLemmas.{same_name}

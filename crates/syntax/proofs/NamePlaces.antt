@@ -7,9 +7,12 @@ use Rattle.std.proofs.lemmas.List.Quantifiers.{position-Some}
 use Rattle.std.proofs.lemmas.List.Recursion.{is_position_or_len}
 use Rattle.std.proofs.lemmas.Slice.Eq.{bytes_eq-Decides}
 use Rattle.grammar.specs.Bare.{Rest}
-use Rattle.syntax.specs.Names.{Name, Binding, Predeclared, Scope, slot, global, builtin, or_else, among, distinct, once, without, clause_names, width, slot_of, predeclared, inside_of}
+use Rattle.program_tree.specs.Names.{Name, Scope, or_else, among, distinct, once, without, clause_names, width, slot_of, predeclared, inside_of}
+use Rattle.program_tree.specs.declared.names.Binding.{Binding}
+use Rattle.program_tree.specs.declared.names.Predeclared.{Predeclared}
+use Rattle.program_tree.specs.declared.names.Binding.TheVariants.{Slot as slot, Global as global, Builtin as builtin}
 use Rattle.syntax.specs.Scopes.{is_bound}
-use Rattle.syntax.specs.Resolved.{binding_of, global_of, own_slots}
+use Rattle.program_tree.specs.Resolved.{binding_of, global_of, own_slots}
 use Rattle.syntax.specs.IsProgram.{IsInRange, IsOwnSlot, Around, at_top, in_function, in_loop, IsTarget}
 use Rattle.syntax.proofs.ScopeLemmas.{same_name}
 
@@ -31,7 +34,7 @@ before_it x [] = 0
 before_it x (y ∷ ys) = if bytes_eq x y then 0 else 1 + before_it x ys
 
 -- a name among others has a place there
-counted : (x : Name) (xs : List Name) → among x xs ≡ true → before_it x xs < length xs
+pub counted : (x : Name) (xs : List Name) → among x xs ≡ true → before_it x xs < length xs
 counted x [] h = absurd cc
 counted x (y ∷ ys) h = by (λ k. counted x ys k) (bytes_eq x y) refl
   where

@@ -8,7 +8,8 @@ use Rattle.std.proofs.lemmas.List.Quantifiers.{position-Some}
 use Rattle.std.proofs.lemmas.List.Recursion.{is_position_or_len}
 use Rattle.std.proofs.lemmas.List.{length-append}
 use Rattle.grammar.specs.BareLines.{Param, Lines}
-use Rattle.syntax.specs.Names.{Name, Scope, slot, global, builtin, or_else, among, distinct, once, param_name, lines_bind, width, slot_of, stands_for, predeclared, function_scope}
+use Rattle.program_tree.specs.Names.{Name, Scope, or_else, among, distinct, once, param_name, lines_bind, width, slot_of, stands_for, predeclared, function_scope}
+use Rattle.program_tree.specs.declared.names.Binding.TheVariants.{Slot as slot, Global as global, Builtin as builtin}
 use Rattle.syntax.proofs.NamePlaces.{both, not_both, before_it, same, slot_within, stay_first}
 use Rattle.syntax.proofs.ScopeLemmas.{same_name}
 

@@ -3,8 +3,8 @@ use Rattle.std.proofs.Common.{◌≡◌, ℕ, suc, ◌≤◌, max, List, [], ◌
 use Rattle.grammar.specs.Bare as bare
 use Rattle.grammar.specs.BareDepth.{tree_depth, trees_depth, entries_depth, keywords_depth, rest_depth, params_depth, form_depth, lines_depth}
 use Rattle.grammar.specs.BareLines.{Param, required, optional, Form, loads, defines, if_head, elif_head, else_head, for_head, assigns, assigns_at, increases, increases_at, evaluates, passes, breaks, continues, returns, Lines, no_lines, a_line}
-use Rattle.syntax.specs.Names.{Scope, inside_of, scope_of, width}
-use Rattle.syntax.specs.Resolved.{term, terms, pairs, keywords, rounds, defaults, Head, simple, tests, tests_again, otherwise, repeats, makes, head, Made, with_line, made, Statement, load, assign, assign_item, add_to, add_to_item, evaluate, pass, break_loop, continue_loop, give_back, branch, loop, define, Steps, no_steps, step, with_number, next_number, numbered}
+use Rattle.program_tree.specs.Names.{Scope, inside_of, scope_of, width}
+use Rattle.program_tree.specs.Resolved.{term, terms, pairs, keywords, rounds, defaults, Head, simple, tests, tests_again, otherwise, repeats, makes, head, Made, with_line, made, Statement, load, assign, assign_item, add_to, add_to_item, evaluate, pass, break_loop, continue_loop, give_back, branch, loop, define, Steps, no_steps, step, with_number, next_number, numbered}
 use Rattle.syntax.specs.ProgramDepth.{term_depth, terms_depth, pairs_depth, keywords_depth as named_depth, rounds_depth, statement_depth, branches_depth, steps_depth, statement_nesting, branches_nesting, steps_nesting}
 
 mutual

@@ -4,12 +4,12 @@ use Rattle.std.proofs.Math.ListN.{get_or}
 use Rattle.std.proofs.Math.Seq.{drop-cons}
 use Rattle.std.specs.Prelude.{option_map, IfOk, Result, Ok, Err}
 use Rattle.grammar.specs.Bare.{Tree, Rest, done, for_each, only_if}
-use Rattle.syntax.specs.ProgramView.{onto}
+use Rattle.program_tree.specs.ProgramView.{onto}
 use Rattle.syntax.specs.Resolves.{first_tree}
 use Rattle.grammar.specs.BareLines.{Form, Lines, a_line, no_lines}
 use Rattle.grammar.specs.LineView.{lines_of}
-use Rattle.syntax.specs.Names.{Scope, scope_of, width}
-use Rattle.syntax.specs.Resolved.{Head, Made, Steps, head, made, steps_of, with_line}
+use Rattle.program_tree.specs.Names.{Scope, scope_of, width}
+use Rattle.program_tree.specs.Resolved.{Head, Made, Steps, head, made, steps_of, with_line}
 
 -- a list from a place on
 pub drop_at : {A : Type 0} (xs : List A) (i : ℕ) (x : A) → i < length xs → x ≡ get_or xs i x → drop i xs ≡ x ∷ drop (i + 1) xs

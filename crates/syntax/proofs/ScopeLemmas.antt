@@ -5,9 +5,9 @@ use Rattle.std.specs.Bool.{one_answer}
 use Rattle.std.proofs.lemmas.List.Folds.{list_any-append}
 use Rattle.std.proofs.lemmas.Slice.Eq.{bytes_eq-Decides}
 use Rattle.indexmap.specs.IndexSet.{insert_key, insert_all}
-use Rattle.syntax.specs.Names.{Name, Scope, or_else, among, apart, distinct, once, without}
+use Rattle.program_tree.specs.Names.{Name, Scope, or_else, among, apart, distinct, once, without}
 use Rattle.grammar.specs.BareLines.{Form, Lines, no_lines, a_line}
-use Rattle.syntax.specs.Names.{form_binds, scope_of}
+use Rattle.program_tree.specs.Names.{form_binds, scope_of}
 use Rattle.syntax.specs.Resolves.{binds_anew}
 use Rattle.syntax.specs.Scopes.{adds_to_name, line_scoped, lines_fault, top_fault, top_line_scoped, unless}
 

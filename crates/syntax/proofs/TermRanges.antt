@@ -3,10 +3,11 @@
 use Rattle.std.proofs.Common.{◌≡◌, ℕ, ◌≤◌, true, List, [], ◌∷◌, ◌++◌, length, map, refl, subst, arith}
 use Rattle.std.specs.List.{AllByRecursion}
 use Rattle.grammar.specs.Bare as bare
-use Rattle.syntax.specs.Names.{Scope, width, clause_names, inside_of}
+use Rattle.program_tree.specs.Names.{Scope, width, clause_names, inside_of}
 use Rattle.syntax.specs.Scopes.{scoped, trees_scoped, entries_scoped, keywords_scoped, rest_scoped, none_predeclared, keyword_names}
-use Rattle.syntax.specs.Names.{distinct}
-use Rattle.syntax.specs.Resolved.{OwnSlots, term, terms, pairs, keywords, rounds, binding_of, own_slots, term_slots, terms_slots, pairs_slots, keywords_slots, rounds_slots}
+use Rattle.program_tree.specs.Names.{distinct}
+use Rattle.program_tree.specs.Resolved.{term, terms, pairs, keywords, rounds, binding_of, own_slots, term_slots, terms_slots, pairs_slots, keywords_slots, rounds_slots}
+use Rattle.program_tree.specs.declared.program.OwnSlots.{OwnSlots}
 use Rattle.syntax.specs.IsProgram.{begins_with_for, IsOwnSlot, IsTerm, AreTerms, ArePairs, AreKeywords, AreRounds}
 use Rattle.syntax.proofs.NamePlaces.{both, in_range, wider, own_names}
 use Rattle.syntax.proofs.WellFormed.{begins, Well, AreWell, EntriesWell, KeywordsWell, RestWell}

@@ -4,8 +4,12 @@
 use Rattle.std.specs.Prelude.{◌≡◌, ℕ, zero, suc, ◌+◌, ◌≤◌, ◌<◌, Bool, true, false, List, [], ◌∷◌, ◌++◌, length, map, None, Some}
 use Rattle.std.specs.List.{AllByRecursion}
 use Rattle.lexer.specs.Begins.{greatest_number}
-use Rattle.syntax.specs.Names.{Binding, slot, global, builtin, distinct}
-use Rattle.syntax.specs.Resolved.{OwnSlots, Loaded, Term, named, numeral, quoted, tuple, listing, dict, choice, operates, turned, selects, subscript, invokes, each, each_pair, Terms, no_terms, more_terms, Pairs, no_pairs, more_pairs, Keywords, no_keywords, more_keywords, Rounds, done, for_each, only_if, Statement, load, assign, assign_item, add_to, add_to_item, evaluate, pass, break_loop, continue_loop, give_back, branch, loop, define, Branches, no_branches, a_branch, Steps, no_steps, step, Program, numbered}
+use Rattle.program_tree.specs.Names.{distinct}
+use Rattle.program_tree.specs.declared.names.Binding.{Binding}
+use Rattle.program_tree.specs.declared.names.Binding.TheVariants.{Slot as slot, Global as global, Builtin as builtin}
+use Rattle.program_tree.specs.Resolved.{Term, named, numeral, quoted, tuple, listing, dict, choice, operates, turned, selects, subscript, invokes, each, each_pair, Terms, no_terms, more_terms, Pairs, no_pairs, more_pairs, Keywords, no_keywords, more_keywords, Rounds, done, for_each, only_if, Statement, load, assign, assign_item, add_to, add_to_item, evaluate, pass, break_loop, continue_loop, give_back, branch, loop, define, Branches, no_branches, a_branch, Steps, no_steps, step, Program, numbered}
+use Rattle.program_tree.specs.declared.program.OwnSlots.{OwnSlots}
+use Rattle.program_tree.specs.declared.program.Loaded.{Loaded}
 
 -- what a name stands for is there, in a file that binds g names and in a frame of n slots
 abbrev pub IsInRange : ℕ → ℕ → Binding → Type 0

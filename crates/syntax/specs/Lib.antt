@@ -1,11 +1,7 @@
-pub mod Names
 pub mod Scopes
 pub mod Files
 pub mod FirstFault
-pub mod Resolved
 pub mod ProgramDepth
 pub mod ScopeView
-pub mod ProgramView
 pub mod IsProgram
 pub mod Resolves
-pub mod ParsedView

@@ -1,6 +1,6 @@
 -- How deep the parts of a file are inside of one another: what a program that walks it needs of its stack.
 use Rattle.std.specs.Prelude.{ℕ, suc, ◌≤◌, max, None, Some}
-use Rattle.syntax.specs.Resolved.{Term, named, numeral, quoted, tuple, listing, dict, choice, operates, turned, selects, subscript, invokes, each, each_pair, Terms, no_terms, more_terms, Pairs, no_pairs, more_pairs, Keywords, no_keywords, more_keywords, Rounds, done, for_each, only_if, Statement, load, assign, assign_item, add_to, add_to_item, evaluate, pass, break_loop, continue_loop, give_back, branch, loop, define, Branches, no_branches, a_branch, Steps, no_steps, step, Program}
+use Rattle.program_tree.specs.Resolved.{Term, named, numeral, quoted, tuple, listing, dict, choice, operates, turned, selects, subscript, invokes, each, each_pair, Terms, no_terms, more_terms, Pairs, no_pairs, more_pairs, Keywords, no_keywords, more_keywords, Rounds, done, for_each, only_if, Statement, load, assign, assign_item, add_to, add_to_item, evaluate, pass, break_loop, continue_loop, give_back, branch, loop, define, Branches, no_branches, a_branch, Steps, no_steps, step, Program}
 
 -- a name or literal is 1 deep, each other expression one more than the deepest of its parts
 abbrev mutual

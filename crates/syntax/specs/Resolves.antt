@@ -6,8 +6,8 @@ use Rattle.std.specs.declared.vec.Vec.{Vec}
 use denote.Ref.{Bor, MutBor}
 use Rattle.grammar.specs.declared.tree.Expr.{Expr}
 use Rattle.grammar.specs.declared.statements.Line.{Line, out-Line}
-use Rattle.syntax.specs.declared.program.Term.{Term}
-use Rattle.syntax.specs.declared.program.Step.{Step}
+use Rattle.program_tree.specs.declared.program.Term.{Term}
+use Rattle.program_tree.specs.declared.program.Step.{Step}
 use Rattle.syntax.specs.declared.resolver.Unresolved.{Unresolved}
 use Rattle.syntax.specs.declared.resolver.Unresolved.TheVariants as stop
 use Rattle.syntax.specs.declared.heads.Head as head
@@ -21,10 +21,11 @@ use Rattle.grammar.specs.Bare.{Tree, Rest, done, for_each, only_if}
 use Rattle.grammar.specs.BareLines.{Form, Lines, a_line}
 use Rattle.grammar.specs.LineView.{form_of, lines}
 use Rattle.grammar.specs.TreeView.{tree_of}
-use Rattle.syntax.specs.Names.{Name, Scope, apart, clause_names, distinct, form_binds, or_else, scope_of, width}
-use Rattle.syntax.specs.ProgramView as view
-use Rattle.syntax.specs.Resolved as resolved
-use Rattle.syntax.specs.Resolved.{Made, OwnSlots, Steps, own_slots, steps_of}
+use Rattle.program_tree.specs.Names.{Name, Scope, apart, clause_names, distinct, form_binds, or_else, scope_of, width}
+use Rattle.program_tree.specs.ProgramView as view
+use Rattle.program_tree.specs.Resolved as resolved
+use Rattle.program_tree.specs.Resolved.{Made, Steps, own_slots, steps_of}
+use Rattle.program_tree.specs.declared.program.OwnSlots.{OwnSlots}
 use Rattle.syntax.specs.Scopes.{adds_to_name, line_scoped, lines_fault, none_predeclared, rest_scoped, scoped, unless}
 use Rattle.syntax.specs.ScopeView.{entered}
 

@@ -7,7 +7,7 @@ use Rattle.std.specs.Prelude.{ℕ, Bool, true, false, not, ◌&&◌, List, [], �
 use Rattle.std.specs.List.{list_all}
 use Rattle.grammar.specs.Bare.{Tree, named, numeral, quoted, tuple, listing, dict, choice, operates, turned, selects, subscript, invokes, each, each_entry, Trees, no_trees, more_trees, Entries, no_entries, more_entries, Keywords, no_keywords, more_keywords, Rest, done, for_each, only_if}
 use Rattle.grammar.specs.BareLines.{Param, required, optional, Form, defines, if_head, elif_head, for_head, assigns, assigns_at, increases, increases_at, evaluates, returns, Lines, no_lines, a_line}
-use Rattle.syntax.specs.Names.{Name, predeclared, or_else, distinct, apart, param_name, form_binds, clause_names, Scope, stands_for, file_scope, scope_of, inside_of}
+use Rattle.program_tree.specs.Names.{Name, predeclared, or_else, distinct, apart, param_name, form_binds, clause_names, Scope, stands_for, file_scope, scope_of, inside_of}
 
 -- a name that is used stands for something
 abbrev pub is_bound : Scope → Name → Bool

@@ -7,8 +7,8 @@ ghost use Rattle.grammar.specs.BareLines.{Lines, a_line};
 ghost use Rattle.grammar.specs.LineView.{form_of, item_of, line_of, param_of};
 ghost use Rattle.grammar.specs.declared.statements.Line.{out-Line};
 ghost use Rattle.grammar.specs.TreeView.{clause_of, rests};
-ghost use Rattle.syntax.specs.Names as names;
-ghost use Rattle.syntax.specs.Names.{Name, form_binds, lines_bind, loads_bind, param_name, passed_on};
+ghost use Rattle.program_tree.specs.Names as names;
+ghost use Rattle.program_tree.specs.Names.{Name, form_binds, lines_bind, loads_bind, param_name, passed_on};
 
 use crate::scope::add_names;
 use grammar::{Clause, Form, Item, Line, Name, Param};

@@ -6,7 +6,8 @@ ghost use Rattle.grammar.specs.BareLines.{Lines, Param, bare_lines};
 ghost use Rattle.grammar.specs.BareDepth.{lines_depth};
 ghost use Rattle.syntax.specs.Files.{IsFile, syntax};
 ghost use Rattle.syntax.specs.FirstFault.{IsFault};
-ghost use Rattle.syntax.specs.Names.{Name, Scope, distinct, function_scope, param_name, slot, slot_of, stands_for};
+ghost use Rattle.program_tree.specs.Names.{Name, Scope, distinct, function_scope, param_name, slot_of, stands_for};
+ghost use Rattle.program_tree.specs.declared.names.Binding.TheVariants.{Slot as slot};
 
 use lexer::{FileKind, SyntaxFault};
 

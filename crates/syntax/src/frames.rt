@@ -1,10 +1,10 @@
 //! How many slots comprehensions take, in expressions and in statements: what the frame of a function needs of them.
 
 ghost use Rattle.std.specs.Prelude.{◌≡◌};
-ghost use Rattle.syntax.specs.ProgramView as view;
-ghost use Rattle.syntax.specs.Resolved as resolved;
+ghost use Rattle.program_tree.specs.ProgramView as view;
+ghost use Rattle.program_tree.specs.Resolved as resolved;
 
-use crate::program::{Argument, Branch, Pair, Round, Statement, Step, Term};
+use program_tree::{Argument, Branch, Pair, Round, Statement, Step, Term};
 
 /// The slots that comprehensions in an expression take: the number behind that of the last one.
 #[cycle(term_frames)]

@@ -6,21 +6,20 @@ ghost use Rattle.std.specs.List.{list_all};
 ghost use Rattle.grammar.specs.BareLines.{defines};
 ghost use Rattle.grammar.specs.LineView.{form_of, item_of, param_of};
 ghost use Rattle.grammar.specs.TreeView.{tree_of};
-ghost use Rattle.syntax.specs.Names.{form_binds, param_name};
-ghost use Rattle.syntax.specs.ProgramView as view;
-ghost use Rattle.syntax.specs.ProgramView.{terms_onto};
-ghost use Rattle.syntax.specs.Resolved as resolved;
-ghost use Rattle.syntax.specs.Resolved.{Terms, defaults, global_of, with_default};
+ghost use Rattle.program_tree.specs.Names.{form_binds, param_name};
+ghost use Rattle.program_tree.specs.ProgramView as view;
+ghost use Rattle.program_tree.specs.ProgramView.{terms_onto};
+ghost use Rattle.program_tree.specs.Resolved as resolved;
+ghost use Rattle.program_tree.specs.Resolved.{Terms, defaults, global_of, with_default};
 ghost use Rattle.syntax.specs.Resolves.{Gives, GivesHead, GivesTerm, Keeps};
 ghost use Rattle.syntax.specs.Scopes.{defaults_last, form_scoped, line_scoped, none_predeclared, param_scoped, scoped};
 
 use crate::bound::add_params;
-use crate::names::Binding;
-use crate::program::{Loaded, Statement, Term};
 use crate::resolver::{Unresolved, bindings, resolve};
 use crate::scope::{Scope, are_distinct, is_free, none_predeclared, texts_of};
 use grammar::{Expr, Form, Item, MAX_DEPTH, Name, Param};
 use plain::Text;
+use program_tree::{Binding, Loaded, Statement, Term};
 use std::alloc::{AllocError, Global};
 
 /// A line with its names resolved, without the lines of its block.

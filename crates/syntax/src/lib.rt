@@ -3,7 +3,7 @@
 //! Five passes, each over the whole of a text. The first three give the logical lines, and are those of crate `lexer`; the
 //! fourth gives the statements in their blocks, and is that of crate `statements`. The fifth resolves the names of the top level
 //! ([`top`]), of lines ([`steps`], [`heads`]) and of expressions ([`resolver`]), which gives the tree that is handed on
-//! ([`program`]), or finds the first line that breaks a rule of scopes. [`parsing`] joins the five.
+//! (crate `program_tree`), or finds the first line that breaks a rule of scopes. [`parsing`] joins the five.
 #![tactic(auto)]
 
 mod bound;
@@ -11,9 +11,7 @@ pub mod file_laws;
 mod frames;
 mod heads;
 mod levels;
-mod names;
 mod parsing;
-mod program;
 mod resolver;
 mod scope;
 mod spelt;
@@ -22,6 +20,8 @@ mod top;
 
 pub use grammar::{Operator, Sign};
 pub use lexer::{FaultKind, FileKind, NoMemory, ParseStop, SyntaxFault};
-pub use names::{Binding, Predeclared, predeclared_as};
-pub use parsing::{Parsed, parse};
-pub use program::{Argument, Function, Loaded, OwnSlots, Pair, Round, Statement, Step, Term};
+pub use parsing::parse;
+pub use program_tree::{
+    Argument, Binding, Branch, Function, Loaded, OwnSlots, Pair, Parsed, Predeclared, Round,
+    Statement, Step, Term, predeclared_as,
+};

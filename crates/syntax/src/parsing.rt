@@ -5,35 +5,19 @@ ghost use Rattle.grammar.specs.BareLines.{bare_lines};
 ghost use Rattle.grammar.specs.Blocks.{Block};
 ghost use Rattle.syntax.specs.Files.{syntax};
 ghost use Rattle.syntax.specs.IsProgram.{IsProgram};
-ghost use Rattle.syntax.specs.ParsedView.{program_of};
+ghost use Rattle.program_tree.specs.ParsedView.{program_of};
 ghost use Rattle.syntax.specs.ProgramDepth.{IsShallow};
-ghost use Rattle.syntax.specs.ProgramView as view;
-ghost use Rattle.syntax.specs.Resolved.{program, resolved};
+ghost use Rattle.program_tree.specs.ProgramView as view;
+ghost use Rattle.program_tree.specs.Resolved.{program, resolved};
 
 use crate::frames::steps_slots;
-use crate::program::Step;
 use crate::scope::Scope;
 use crate::steps::{Stopped, number_functions, resolve_file};
 use crate::top::{count_loaded, file_scope};
-use indexmap::IndexSet;
 use lexer::{FaultKind, FileKind, ParseStop, SyntaxFault, logical_lines};
-use plain::Text;
+use program_tree::{Parsed, Step};
 use statements::read_file;
 use std::alloc::Global;
-
-/// The tree of a file, with its names resolved.
-#[derive(Drop)]
-pub struct Parsed {
-    /// The names that its top level binds, by number: first those that its loads bind, then its globals, each in the order of
-    /// the text.
-    pub globals: IndexSet<Text>,
-    /// How many of these names its loads bind.
-    pub loaded: usize,
-    /// How many slots its top level has: those of the comprehensions that stand there.
-    pub slots: usize,
-    /// The statements of its top level.
-    pub steps: Vec<Step>,
-}
 
 /// A file of these statements, in the scope of its top level, of whose names so many are loaded.
 fn finished(scope: Scope<'_>, loaded: usize, mut steps: Vec<Step>) -> Parsed

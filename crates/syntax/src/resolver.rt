@@ -5,24 +5,24 @@
 ghost use Rattle.std.specs.Prelude.{◌≡◌, ◌&&◌, ◌∷◌, [], IfOk, MatchOption, Some, map};
 ghost use Rattle.std.specs.Option.{option_map};
 ghost use Rattle.grammar.specs.Bare.{Rest, Tree, choice as choice_tree, dict as dict_tree, each, each_entry, invokes, listing, named as name_tree, operates, selects, subscript, tuple as tuple_tree, turned};
-ghost use Rattle.syntax.specs.Names.{distinct};
-ghost use Rattle.syntax.specs.Names.{Scope as Around};
-ghost use Rattle.syntax.specs.ProgramView as view;
-ghost use Rattle.syntax.specs.ProgramView.{rounds_onto};
-ghost use Rattle.syntax.specs.Resolved as resolved;
-ghost use Rattle.syntax.specs.Resolved.{binding_of};
+ghost use Rattle.program_tree.specs.Names.{distinct};
+ghost use Rattle.program_tree.specs.Names.{Scope as Around};
+ghost use Rattle.program_tree.specs.ProgramView as view;
+ghost use Rattle.program_tree.specs.ProgramView.{rounds_onto};
+ghost use Rattle.program_tree.specs.Resolved as resolved;
+ghost use Rattle.program_tree.specs.Resolved.{binding_of};
 ghost use Rattle.syntax.specs.Resolves.{Enters, Gives, GivesBoxed, GivesTerm, ResolvesInside, boxed_term, first_scoped, first_tree, others_scoped};
 ghost use Rattle.syntax.specs.Scopes.{entries_scoped, keyword_names, keywords_scoped, rest_scoped, scoped, trees_scoped};
 ghost use Rattle.grammar.specs.TreeView.{clause_of, entries, entry_of, keyword_of, keywords, operator_seen, rests, sign_seen, tree_of, trees};
 
 use crate::bound::clause_names;
-use crate::names::Binding;
-use crate::program::{
-    Argument, OwnSlots, Pair, Round, Term, attribute, binary, call, choice, dict_each, dict_of,
-    entry, index, keyword, list_each, list_of, name, number, string, tuple, unary,
-};
 use crate::scope::{Scope, are_distinct, none_predeclared};
 use grammar::{Clause, Entry, Expr, Keyword, Name, Operator, Sign};
+use program_tree::program::{
+    attribute, binary, call, choice, dict_each, dict_of, entry, index, keyword, list_each, list_of,
+    name, number, string, tuple, unary,
+};
+use program_tree::{Argument, Binding, OwnSlots, Pair, Round, Term};
 use std::alloc::{AllocError, AllocFailed, Global};
 
 /// Why the names of a part of a file aren't resolved.

@@ -1,18 +1,17 @@
 //! What is in scope: the names of the top level, of a function and of the comprehensions in it.
 
 ghost use Rattle.std.specs.Prelude.{◌≡◌, ◌&&◌, ◌++◌, ◌∷◌, [], ℕ, List, IfOk, OnOk, is_none, true};
-ghost use Rattle.syntax.specs.Names.{among, apart, distinct, once, predeclared, stands_for, width};
-ghost use Rattle.syntax.specs.Resolved.{binding_of, global_of};
+ghost use Rattle.program_tree.specs.Names.{among, apart, distinct, once, predeclared, stands_for, width};
+ghost use Rattle.program_tree.specs.Resolved.{binding_of, global_of};
 ghost use Rattle.syntax.specs.Scopes.{none_predeclared};
 ghost use Rattle.syntax.specs.ScopeView.{entered, in_function, left};
 
 use crate::levels::Levels;
-use crate::names::{Binding, predeclared_as};
-use crate::program::OwnSlots;
 use crate::spelt::Spelt;
 use grammar::Name;
 use indexmap::IndexSet;
 use plain::Text;
+use program_tree::{Binding, OwnSlots, predeclared_as};
 use std::alloc::{AllocError, Global};
 use std::marker::Model;
 use std::mem;
@@ -44,17 +43,6 @@ pub(crate) fn none_predeclared(names: &[Name<'_>]) -> bool
         }
     }
     true
-}
-
-/// The names, each once.
-fn once<'t>(alloc: Global, names: &[Name<'t>]) -> Result<IndexSet<Name<'t>>, AllocError>
-    ensures { IfOk result (λ s. s.keys ≡ once names.now) }
-{
-    let mut set = IndexSet::with_capacity(alloc, names.len())?;
-    for name in names {
-        set.insert(name.share()?)?;
-    }
-    Ok(set)
 }
 
 /// Binds names beside those that were bound before, and tells whether none was and none comes twice.
@@ -114,7 +102,7 @@ pub(crate) struct Scope<'t> {
 }
 
 impl<'t> Model for Scope<'t> {
-    ghost use Rattle.syntax.specs.Names.{Scope as Names};
+    ghost use Rattle.program_tree.specs.Names.{Scope as Names};
 
     ghost Value = { Names };
 
@@ -179,9 +167,8 @@ impl<'t> Scope<'t> {
         ensures own { IfOk result (λ own. own ≡ record
             { first = width self.old.levels; end = width self.new.levels }) }
     {
-        let level = once(alloc, names)?;
         let first = self.slots();
-        self.levels.enter(level)?;
+        self.levels.enter(alloc, names)?;
         Ok(OwnSlots {
             first,
             end: self.slots(),
@@ -204,9 +191,7 @@ impl<'t> Scope<'t> {
         ensures entered { OnOk result (self.new ≡ in_function names.now self.old) }
         ensures left { IfOk result (λ levels. levels ≡ self.old.levels) }
     {
-        let level = once(alloc, names)?;
-        let mut levels = Levels::new(alloc);
-        levels.enter(level)?;
+        let levels = Levels::new(alloc).with_level(alloc, names)?;
         Ok(mem::replace(&mut self.levels, levels))
     }
 

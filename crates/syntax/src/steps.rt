@@ -6,10 +6,10 @@ ghost use Rattle.grammar.specs.BareLines.{Lines};
 ghost use Rattle.grammar.specs.LineView as seen;
 ghost use Rattle.grammar.specs.LineView.{form_of, line_of};
 ghost use Rattle.grammar.specs.declared.statements.Line.{out-Line};
-ghost use Rattle.syntax.specs.Names.{Scope as Around, scope_of};
-ghost use Rattle.syntax.specs.ProgramView as view;
-ghost use Rattle.syntax.specs.Resolved as resolved;
-ghost use Rattle.syntax.specs.Resolved.{Branches, begun, head, next_number, no_steps, steps_of, with_line, with_number};
+ghost use Rattle.program_tree.specs.Names.{Scope as Around, scope_of};
+ghost use Rattle.program_tree.specs.ProgramView as view;
+ghost use Rattle.program_tree.specs.Resolved as resolved;
+ghost use Rattle.program_tree.specs.Resolved.{Branches, begun, head, next_number, no_steps, steps_of, with_line, with_number};
 ghost use Rattle.syntax.specs.Resolves.{FollowsOn, IsLater, IsOwn, Places, PlacesSteps, back, before_lines, behind_seen, head_seen, own_fault};
 ghost use Rattle.syntax.specs.Scopes.{line_scoped, lines_fault, top_fault, unless};
 
@@ -17,13 +17,12 @@ use crate::bound::{add_lines, add_params, block_of};
 use crate::frames::steps_slots;
 use crate::heads::{Head, line_head};
 use crate::levels::Levels;
-use crate::names::Binding;
-use crate::program::{Branch, Function, Statement, Step, Term};
 use crate::resolver::Unresolved;
 use crate::scope::Scope;
 use crate::top::until_rebound;
 use grammar::{Form, Line};
 use plain::Text;
+use program_tree::{Binding, Branch, Function, Statement, Step, Term};
 use std::alloc::{AllocError, AllocFailed, Global};
 
 /// Why the lines of a file aren't resolved.

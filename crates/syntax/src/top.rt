@@ -5,7 +5,7 @@ ghost use Rattle.grammar.specs.LineView as view;
 ghost use Rattle.grammar.specs.BareLines.{Lines, a_line};
 ghost use Rattle.grammar.specs.LineView.{form_of, line_of};
 ghost use Rattle.grammar.specs.declared.statements.Line.{out-Line};
-ghost use Rattle.syntax.specs.Names.{Scope as Around, among, file_scope, form_binds, loads_bind, or_else};
+ghost use Rattle.program_tree.specs.Names.{Scope as Around, among, file_scope, form_binds, loads_bind, or_else};
 ghost use Rattle.syntax.specs.Resolves.{binds_anew};
 ghost use Rattle.syntax.specs.Scopes.{adds_to_name, lines_fault, top_fault};
 

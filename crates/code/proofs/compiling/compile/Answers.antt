@@ -1,5 +1,5 @@
 use Rattle.std.proofs.lemmas.Grind.{merely}
-use Rattle.syntax.specs.ParsedView.{program_of}
+use Rattle.program_tree.specs.ParsedView.{program_of}
 use Rattle.code.proofs.compiling.compile.Goals as goal
 
 pub invariant_of-result : goal.invariant_of-result

@@ -1,8 +1,8 @@
 use Rattle.std.proofs.Common.{◌≡◌, ◌++◌, drop, map}
 use Rattle.meaning.specs.Functions.{functions_of}
 use Rattle.meaning.specs.StatementCode.{file_code, function_code}
-use Rattle.syntax.specs.ParsedView.{program_of}
-use Rattle.syntax.specs.ProgramView.{steps}
+use Rattle.program_tree.specs.ParsedView.{program_of}
+use Rattle.program_tree.specs.ProgramView.{steps}
 use Rattle.code.proofs.compiling.functions.Given as goal
 
 -- the codes so far, and those of the functions that the other steps define

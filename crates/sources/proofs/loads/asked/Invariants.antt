@@ -1,5 +1,5 @@
 use Rattle.std.proofs.Common.{◌≡◌, ◌++◌, drop, map}
-use Rattle.syntax.specs.declared.program.Loaded.{Loaded}
+use Rattle.program_tree.specs.declared.program.Loaded.{Loaded}
 use Rattle.sources.proofs.loads.asked.Given as goal
 
 abbrev pub invariant-loop-item : goal.invariant-loop-item

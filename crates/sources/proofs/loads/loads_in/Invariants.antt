@@ -1,5 +1,5 @@
 use Rattle.std.proofs.Common.{◌≡◌, ◌++◌, drop}
-use Rattle.syntax.specs.ProgramView.{steps}
+use Rattle.program_tree.specs.ProgramView.{steps}
 use Rattle.evaluation.specs.Workspaces.{loads_in}
 use Rattle.sources.proofs.loads.loads_in.Given as goal
 

@@ -1,6 +1,6 @@
 use Rattle.std.proofs.Common.{◌≡◌, ◌++◌, drop}
 use Rattle.grammar.specs.LineView.{lines}
-use Rattle.syntax.specs.Names.{lines_bind}
+use Rattle.program_tree.specs.Names.{lines_bind}
 use Rattle.syntax.proofs.bound.+add_lines.Given as goal
 
 abbrev pub invariant-loop-line : goal.invariant-loop-line

@@ -1,6 +1,6 @@
 use Rattle.std.proofs.Common.{◌≡◌, ◌++◌, drop, map}
 use Rattle.grammar.specs.LineView.{param_of}
-use Rattle.syntax.specs.Names.{param_name}
+use Rattle.program_tree.specs.Names.{param_name}
 use Rattle.syntax.proofs.bound.add_params.Given as goal
 
 abbrev pub invariant-loop-param : goal.invariant-loop-param

@@ -1,5 +1,5 @@
 use Rattle.std.proofs.Common.{◌≡◌, ◌++◌, drop}
-use Rattle.syntax.specs.Names.{clause_names}
+use Rattle.program_tree.specs.Names.{clause_names}
 use Rattle.grammar.specs.TreeView.{rests}
 use Rattle.syntax.proofs.bound.clause_names.Given as goal
 

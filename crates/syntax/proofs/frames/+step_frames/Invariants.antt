@@ -1,6 +1,6 @@
 use Rattle.std.proofs.Common.{◌≡◌, drop, max}
-use Rattle.syntax.specs.ProgramView.{branches, steps}
-use Rattle.syntax.specs.Resolved as resolved
+use Rattle.program_tree.specs.ProgramView.{branches, steps}
+use Rattle.program_tree.specs.Resolved as resolved
 use Rattle.syntax.proofs.frames.+step_frames.Given as goal
 
 -- the greatest so far and what is left give what all give

@@ -1,6 +1,6 @@
 use Rattle.std.proofs.Common.{◌≡◌, drop, max}
-use Rattle.syntax.specs.ProgramView.{terms, pairs, keywords, rounds}
-use Rattle.syntax.specs.Resolved as resolved
+use Rattle.program_tree.specs.ProgramView.{terms, pairs, keywords, rounds}
+use Rattle.program_tree.specs.Resolved as resolved
 use Rattle.syntax.proofs.frames.+term_frames.Given as goal
 
 -- the greatest so far and what is left give what all give

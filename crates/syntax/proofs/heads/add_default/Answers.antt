@@ -1,8 +1,8 @@
 use Rattle.std.proofs.Common.{◌∙◌, ap, map, sym}
 use Rattle.grammar.specs.LineView.{param_of}
-use Rattle.syntax.specs.ProgramView as view
-use Rattle.syntax.specs.ProgramView.{terms_onto}
-use Rattle.syntax.specs.Resolved.{more_terms, with_default}
+use Rattle.program_tree.specs.ProgramView as view
+use Rattle.program_tree.specs.ProgramView.{terms_onto}
+use Rattle.program_tree.specs.Resolved.{more_terms, with_default}
 use Rattle.syntax.specs.Scopes.{param_scoped}
 use Rattle.syntax.proofs.ProgramLemmas.{onto_last}
 use Rattle.syntax.proofs.heads.add_default.Goals as goal

@@ -1,9 +1,9 @@
 use Rattle.std.proofs.Common.{◌≡◌, drop, map}
 use Rattle.std.specs.List.{list_all}
 use Rattle.grammar.specs.LineView.{param_of}
-use Rattle.syntax.specs.ProgramView as view
-use Rattle.syntax.specs.ProgramView.{terms_onto}
-use Rattle.syntax.specs.Resolved.{defaults}
+use Rattle.program_tree.specs.ProgramView as view
+use Rattle.program_tree.specs.ProgramView.{terms_onto}
+use Rattle.program_tree.specs.Resolved.{defaults}
 use Rattle.syntax.specs.Scopes.{param_scoped}
 use Rattle.syntax.proofs.heads.defaults.Given as goal
 

@@ -1,6 +1,6 @@
 use Rattle.std.proofs.Common.{◌≡◌, ◌++◌, drop, map}
 use Rattle.grammar.specs.LineView.{item_of}
-use Rattle.syntax.specs.Resolved.{global_of}
+use Rattle.program_tree.specs.Resolved.{global_of}
 use Rattle.syntax.proofs.heads.loaded.Given as goal
 
 abbrev pub invariant-loop-item : goal.invariant-loop-item

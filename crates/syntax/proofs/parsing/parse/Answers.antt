@@ -3,9 +3,9 @@ use Rattle.grammar.specs.Blocks.{Block}
 use Rattle.grammar.specs.BareLines.{bare_lines}
 use Rattle.syntax.specs.Files.{syntax}
 use Rattle.syntax.specs.IsProgram.{IsProgram}
-use Rattle.syntax.specs.ParsedView.{program_of}
+use Rattle.program_tree.specs.ParsedView.{program_of}
 use Rattle.syntax.specs.ProgramDepth.{IsShallow}
-use Rattle.syntax.specs.Resolved.{resolved}
+use Rattle.program_tree.specs.Resolved.{resolved}
 use Rattle.syntax.proofs.FileDepths.{program_shallow}
 use Rattle.syntax.proofs.FileRanges.{program_is}
 use Rattle.syntax.proofs.ProgramLemmas.{if_ok_then}

@@ -1,5 +1,5 @@
 use Rattle.std.proofs.Common.{◌≡◌, ◌++◌, ◌∷◌, drop, map}
-use Rattle.syntax.specs.Resolved.{binding_of}
+use Rattle.program_tree.specs.Resolved.{binding_of}
 use Rattle.syntax.proofs.resolver.bindings.Given as goal
 
 abbrev pub invariant-loop-other : goal.invariant-loop-other

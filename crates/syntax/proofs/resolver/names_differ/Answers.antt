@@ -1,7 +1,7 @@
 use Rattle.std.proofs.Common.{◌≡◌, ◌<◌, List, [], ◌∷◌, length, refl, true, arith}
 use Rattle.grammar.specs.declared.tree.Keyword.{Keyword}
 use Rattle.grammar.specs.TreeView.{keywords}
-use Rattle.syntax.specs.Names.{distinct}
+use Rattle.program_tree.specs.Names.{distinct}
 use Rattle.syntax.specs.Scopes.{keyword_names}
 use Rattle.syntax.proofs.resolver.names_differ.Goals as goal
 

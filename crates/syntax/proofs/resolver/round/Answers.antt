@@ -4,14 +4,14 @@ use Rattle.grammar.specs.Bare as bare
 use Rattle.grammar.specs.TreeView.{clause_of, tree_of, clause_step, expr_step, entry_step, keyword_step}
 use Rattle.grammar.specs.declared.tree.Clause.TheOpen.{Clause-F}
 use Rattle.grammar.specs.declared.tree.Clause.TheFolds.{fold-roll-Clause}
-use Rattle.syntax.specs.ProgramView as view
-use Rattle.syntax.specs.ProgramView.{round_step, term_step, argument_step, pair_step}
-use Rattle.syntax.specs.declared.program.Round.TheOpen.{Round-F}
-use Rattle.syntax.specs.declared.program.Round.TheFolds.{fold-roll-Round}
-use Rattle.syntax.specs.Resolved as resolved
+use Rattle.program_tree.specs.ProgramView as view
+use Rattle.program_tree.specs.ProgramView.{round_step, term_step, argument_step, pair_step}
+use Rattle.program_tree.specs.declared.program.Round.TheOpen.{Round-F}
+use Rattle.program_tree.specs.declared.program.Round.TheFolds.{fold-roll-Round}
+use Rattle.program_tree.specs.Resolved as resolved
 use Rattle.syntax.specs.Resolves.{first_tree}
 use Rattle.grammar.specs.declared.tree.Clause as X
-use Rattle.syntax.specs.declared.program.Round as Y
+use Rattle.program_tree.specs.declared.program.Round as Y
 use Rattle.syntax.proofs.resolver.round.Goals as goal
 
 pub returns-in_ok-names-in-For : goal.returns-in_ok-names-in-For

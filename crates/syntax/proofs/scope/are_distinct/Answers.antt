@@ -1,5 +1,5 @@
 use Rattle.std.proofs.Common.{◌&&◌, ap, ◌∙◌}
-use Rattle.syntax.specs.Names.{apart, distinct}
+use Rattle.program_tree.specs.Names.{apart, distinct}
 use Rattle.syntax.proofs.ScopeLemmas.{distinct_alone}
 use Rattle.syntax.proofs.scope.are_distinct.Goals as goal
 

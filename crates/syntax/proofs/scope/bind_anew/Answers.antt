@@ -1,7 +1,7 @@
 use Rattle.std.proofs.Common.{arith, ◌≡◌, ◌&&◌, ◌+◌, ◌++◌, ◌∷◌, [], drop, false, sym, ap, ◌∙◌}
 use Rattle.std.specs.Prelude.{bytes_eq}
 use Rattle.indexmap.specs.IndexSet.{insert_key}
-use Rattle.syntax.specs.Names.{among, apart, distinct}
+use Rattle.program_tree.specs.Names.{among, apart, distinct}
 use Rattle.syntax.proofs.ProgramLemmas.{drop_at}
 use Rattle.syntax.proofs.ScopeLemmas.{among_turn, anew_next, new_keys}
 use Rattle.syntax.proofs.scope.bind_anew.Goals as goal

@@ -1,5 +1,5 @@
 use Rattle.std.proofs.Common.{◌≡◌, ◌&&◌, ◌++◌, List, ℕ, drop}
-use Rattle.syntax.specs.Names.{among, apart, distinct}
+use Rattle.program_tree.specs.Names.{among, apart, distinct}
 use Rattle.syntax.proofs.scope.bind_anew.Given as goal
 
 -- the names that are left are new beside those that were bound as all are beside those from before; and with them the

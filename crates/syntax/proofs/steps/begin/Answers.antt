@@ -1,7 +1,7 @@
 use Rattle.std.proofs.Common.{◌∙◌, ap, reverse}
-use Rattle.syntax.specs.ProgramView as view
-use Rattle.syntax.specs.Resolved as resolved
-use Rattle.syntax.specs.Resolved.{Steps, Made, begun}
+use Rattle.program_tree.specs.ProgramView as view
+use Rattle.program_tree.specs.Resolved as resolved
+use Rattle.program_tree.specs.Resolved.{Steps, Made, begun}
 use Rattle.syntax.proofs.steps.begin.Goals as goal
 
 pub returns : goal.returns

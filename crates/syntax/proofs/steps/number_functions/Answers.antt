@@ -1,7 +1,7 @@
 use Rattle.std.proofs.Common.{◌+◌, ◌<◌, ◌∷◌, ◌++◌, ◌∙◌, [], ap, arith, drop, length, map, slice_set, sym, take}
 use Rattle.std.proofs.lemmas.List.{drop-set-lt, take_more_set}
-use Rattle.syntax.specs.ProgramView.{line_and_statement, steps, steps_onto}
-use Rattle.syntax.specs.Resolved.{Steps, next_number, numbered, step, with_number}
+use Rattle.program_tree.specs.ProgramView.{line_and_statement, steps, steps_onto}
+use Rattle.program_tree.specs.Resolved.{Steps, next_number, numbered, step, with_number}
 use Rattle.syntax.proofs.ProgramLemmas.{drop_at, onto_last}
 use Rattle.syntax.proofs.steps.number_functions.Goals as goal
 

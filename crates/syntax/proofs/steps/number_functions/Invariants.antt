@@ -1,6 +1,6 @@
 use Rattle.std.proofs.Common.{◌≡◌, ◌≤◌, ◌+◌, drop, map, take}
-use Rattle.syntax.specs.ProgramView.{line_and_statement, steps, steps_onto}
-use Rattle.syntax.specs.Resolved.{numbered}
+use Rattle.program_tree.specs.ProgramView.{line_and_statement, steps, steps_onto}
+use Rattle.program_tree.specs.Resolved.{numbered}
 use Rattle.syntax.proofs.steps.number_functions.Given as goal
 
 -- the steps before this one have their numbers; with those behind them, numbered from here on, all have

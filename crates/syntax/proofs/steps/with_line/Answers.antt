@@ -1,6 +1,6 @@
 use Rattle.std.proofs.Common.{◌≡◌, ◌∙◌, ap, sym}
-use Rattle.syntax.specs.ProgramView as view
-use Rattle.syntax.specs.Resolved.{Made, with_line}
+use Rattle.program_tree.specs.ProgramView as view
+use Rattle.program_tree.specs.Resolved.{Made, with_line}
 use Rattle.syntax.specs.Resolves.{behind_seen, head_seen}
 use Rattle.syntax.proofs.ProgramLemmas.{if_ok_then}
 use Rattle.syntax.proofs.steps.with_line.Goals as goal

@@ -1,5 +1,5 @@
 use Rattle.std.proofs.Common.{◌++◌, ap, ◌∙◌}
-use Rattle.syntax.specs.Names.{among}
+use Rattle.program_tree.specs.Names.{among}
 use Rattle.syntax.proofs.top.binds_anew.Goals as goal
 
 pub returns-clause-bound : goal.returns-clause-bound

@@ -1,6 +1,6 @@
 use Rattle.std.proofs.Common.{◌≡◌, ◌++◌, drop}
 use Rattle.grammar.specs.LineView.{lines}
-use Rattle.syntax.specs.Names.{loads_bind}
+use Rattle.program_tree.specs.Names.{loads_bind}
 use Rattle.syntax.proofs.top.count_loaded.Given as goal
 
 abbrev pub invariant-loop-line : goal.invariant-loop-line

@@ -4,8 +4,8 @@ use Rattle.std.proofs.Math.Seq.{take-add}
 use Rattle.grammar.specs.declared.statements.Line.{out-Line}
 use Rattle.grammar.specs.BareLines.{Lines, a_line, no_lines}
 use Rattle.grammar.specs.LineView.{form_of, line_of, lines}
-use Rattle.syntax.specs.Names.{Scope, or_else, scope_of}
-use Rattle.syntax.specs.ProgramView.{onto}
+use Rattle.program_tree.specs.Names.{Scope, or_else, scope_of}
+use Rattle.program_tree.specs.ProgramView.{onto}
 use Rattle.syntax.specs.Scopes.{line_scoped, lines_fault, top_fault, unless}
 use Rattle.syntax.proofs.ProgramLemmas.{lines_onto, onto_last, take_whole}
 use Rattle.syntax.proofs.ScopeLemmas.{append_none, or_line, top_bound, top_rebound}

@@ -1,8 +1,8 @@
 use Rattle.std.proofs.Common.{◌≡◌, [], drop, map, take}
 use Rattle.grammar.specs.BareLines.{Lines, no_lines}
 use Rattle.grammar.specs.LineView.{line_of, lines}
-use Rattle.syntax.specs.Names.{Scope, or_else}
-use Rattle.syntax.specs.ProgramView.{onto}
+use Rattle.program_tree.specs.Names.{Scope, or_else}
+use Rattle.program_tree.specs.ProgramView.{onto}
 use Rattle.syntax.specs.Scopes.{lines_fault, top_fault}
 use Rattle.syntax.proofs.top.until_rebound.Given as goal
 

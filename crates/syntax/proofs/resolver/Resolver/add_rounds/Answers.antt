@@ -1,7 +1,7 @@
 use Rattle.std.proofs.Common.{arith, ◌&&◌, ◌+◌, ◌∙◌, ap, drop, map, sym}
-use Rattle.syntax.specs.ProgramView as view
-use Rattle.syntax.specs.ProgramView.{rounds_onto}
-use Rattle.syntax.specs.Resolved as resolved
+use Rattle.program_tree.specs.ProgramView as view
+use Rattle.program_tree.specs.ProgramView.{rounds_onto}
+use Rattle.program_tree.specs.Resolved as resolved
 use Rattle.syntax.specs.Scopes.{rest_scoped, scoped}
 use Rattle.grammar.specs.TreeView.{clause_of, rests, tree_of}
 use Rattle.std.specs.Prelude.{Some, option_map}

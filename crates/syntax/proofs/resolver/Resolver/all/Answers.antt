@@ -1,7 +1,7 @@
 use Rattle.std.proofs.Common.{arith, ◌&&◌, ◌+◌, ◌∙◌, ap, drop, map, sym}
-use Rattle.syntax.specs.ProgramView as view
-use Rattle.syntax.specs.ProgramView.{terms_onto}
-use Rattle.syntax.specs.Resolved as resolved
+use Rattle.program_tree.specs.ProgramView as view
+use Rattle.program_tree.specs.ProgramView.{terms_onto}
+use Rattle.program_tree.specs.Resolved as resolved
 use Rattle.syntax.specs.Scopes.{scoped, trees_scoped}
 use Rattle.grammar.specs.TreeView.{tree_of, trees}
 use Rattle.syntax.proofs.ProgramLemmas.{drop_at, onto_last}

@@ -1,8 +1,8 @@
 use Rattle.std.proofs.Common.{arith, ◌&&◌, ◌+◌, ◌∙◌, ap, drop, map, sym}
-use Rattle.syntax.specs.ProgramView as view
-use Rattle.syntax.specs.ProgramView.{pairs_onto}
-use Rattle.syntax.specs.Resolved as resolved
-use Rattle.syntax.specs.Resolved.{more_pairs}
+use Rattle.program_tree.specs.ProgramView as view
+use Rattle.program_tree.specs.ProgramView.{pairs_onto}
+use Rattle.program_tree.specs.Resolved as resolved
+use Rattle.program_tree.specs.Resolved.{more_pairs}
 use Rattle.syntax.specs.Scopes.{entries_scoped, scoped}
 use Rattle.grammar.specs.Bare.{more_entries}
 use Rattle.grammar.specs.TreeView.{entries, tree_of}

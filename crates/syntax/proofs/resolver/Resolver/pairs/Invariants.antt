@@ -1,7 +1,7 @@
 use Rattle.std.proofs.Common.{◌≡◌, drop, map}
-use Rattle.syntax.specs.ProgramView as view
-use Rattle.syntax.specs.ProgramView.{pairs_onto}
-use Rattle.syntax.specs.Resolved as resolved
+use Rattle.program_tree.specs.ProgramView as view
+use Rattle.program_tree.specs.ProgramView.{pairs_onto}
+use Rattle.program_tree.specs.Resolved as resolved
 use Rattle.syntax.specs.Scopes.{entries_scoped}
 use Rattle.grammar.specs.TreeView.{entries}
 use Rattle.syntax.proofs.resolver.Resolver.pairs.Given as goal

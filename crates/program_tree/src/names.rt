@@ -1,7 +1,7 @@
 //! What names stand for, and those that each file finds bound.
 
 ghost use Rattle.std.specs.Prelude.{◌≡◌};
-ghost use Rattle.syntax.specs.Names.{predeclared_value, predeclared_function, predeclared_for_rules, predeclared};
+ghost use Rattle.program_tree.specs.Names.{predeclared_value, predeclared_function, predeclared_for_rules, predeclared};
 
 /// What each file finds bound, whatever it binds itself.
 #[derive(Clone, Copy, PartialEq, Eq, Debug)]

@@ -3,10 +3,10 @@ use Rattle.std.specs.Prelude.{ℕ, ◌+◌, Bool, true, not, ◌&&◌, List, [],
 use Rattle.std.specs.List.{list_any, list_all}
 use Rattle.grammar.specs.Bare.{Rest, done, for_each, only_if}
 use Rattle.grammar.specs.BareLines.{Param, required, optional, Form, loads, defines, for_head, assigns, increases, Lines, no_lines, a_line}
-pub use Rattle.syntax.specs.declared.names.Binding.{Binding}
-pub use Rattle.syntax.specs.declared.names.Binding.TheVariants.{Slot as slot, Global as global, Builtin as builtin}
-pub use Rattle.syntax.specs.declared.names.Predeclared.{Predeclared}
-pub use Rattle.syntax.specs.declared.names.Predeclared.TheVariants.{NoneValue as none_value, TrueValue as true_value, FalseValue as false_value, LenFunction as len_function, StrFunction as str_function, RangeFunction as range_function, ListFunction as list_function, FailFunction as fail_function, DepsetFunction as depset_function, ProviderFunction as provider_function, RuleFunction as rule_function, AttrModule as attr_module, DefaultInfo as default_info}
+pub use Rattle.program_tree.specs.declared.names.Binding.{Binding}
+pub use Rattle.program_tree.specs.declared.names.Binding.TheVariants.{Slot as slot, Global as global, Builtin as builtin}
+pub use Rattle.program_tree.specs.declared.names.Predeclared.{Predeclared}
+pub use Rattle.program_tree.specs.declared.names.Predeclared.TheVariants.{NoneValue as none_value, TrueValue as true_value, FalseValue as false_value, LenFunction as len_function, StrFunction as str_function, RangeFunction as range_function, ListFunction as list_function, FailFunction as fail_function, DepsetFunction as depset_function, ProviderFunction as provider_function, RuleFunction as rule_function, AttrModule as attr_module, DefaultInfo as default_info}
 
 -- a name, by its bytes
 abbrev pub Name : Type 0

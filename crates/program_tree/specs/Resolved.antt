@@ -4,12 +4,12 @@
 -- use around it. A name of the top level has its number, by the order of the bindings there; and functions have numbers,
 -- by the order of their `def`s, where 0 is the top level.
 use Rattle.std.specs.Prelude.{ℕ, suc, max, List, [], ◌∷◌, map, length, position, bytes_eq, Option, None, Some, option_map, unwrap_or}
-pub use Rattle.syntax.specs.declared.program.Loaded.{Loaded}
-pub use Rattle.syntax.specs.declared.program.OwnSlots.{OwnSlots}
+pub use Rattle.program_tree.specs.declared.program.Loaded.{Loaded}
+pub use Rattle.program_tree.specs.declared.program.OwnSlots.{OwnSlots}
 use Rattle.grammar.specs.Tree.{Operator, Sign}
 use Rattle.grammar.specs.Bare as bare
 use Rattle.grammar.specs.BareLines.{Param, required, optional, Form, loads, defines, if_head, elif_head, else_head, for_head, assigns, assigns_at, increases, increases_at, evaluates, passes, breaks, continues, returns, Lines, no_lines, a_line}
-use Rattle.syntax.specs.Names.{Name, param_name, lines_bind, loads_bind, once, Binding, Scope, width, slot, stands_for, file_scope, scope_of, inside_of}
+use Rattle.program_tree.specs.Names.{Name, param_name, lines_bind, loads_bind, once, Binding, Scope, width, slot, stands_for, file_scope, scope_of, inside_of}
 
 mutual
   -- an expression (Starlark specification, "Expressions")

@@ -1,8 +1,8 @@
 //! A file whose names are resolved: what a program that runs it reads.
 
 ghost use Rattle.std.specs.Prelude.{◌≡◌};
-ghost use Rattle.syntax.specs.ProgramView as view;
-ghost use Rattle.syntax.specs.Resolved as resolved;
+ghost use Rattle.program_tree.specs.ProgramView as view;
+ghost use Rattle.program_tree.specs.Resolved as resolved;
 ghost use Rattle.grammar.specs.TreeView.{operator_seen, sign_seen};
 
 use crate::names::Binding;
@@ -176,107 +176,102 @@ pub struct Step {
     pub statement: Statement,
 }
 
-pub(crate) fn binary(operator: Operator, left: Box<Term>, right: Box<Term>) -> Term
+pub fn binary(operator: Operator, left: Box<Term>, right: Box<Term>) -> Term
     ensures { view.term result ≡ resolved.operates (operator_seen operator) (view.term left.value)
         (view.term right.value) }
 {
     Term::Binary(operator, left, right)
 }
 
-pub(crate) fn unary(sign: Sign, operand: Box<Term>) -> Term
+pub fn unary(sign: Sign, operand: Box<Term>) -> Term
     ensures { view.term result ≡ resolved.turned (sign_seen sign) (view.term operand.value) }
 {
     Term::Unary(sign, operand)
 }
 
-pub(crate) fn choice(then: Box<Term>, test: Box<Term>, other: Box<Term>) -> Term
+pub fn choice(then: Box<Term>, test: Box<Term>, other: Box<Term>) -> Term
     ensures { view.term result ≡ resolved.choice (view.term then.value) (view.term test.value)
         (view.term other.value) }
 {
     Term::Choice(then, test, other)
 }
 
-pub(crate) fn attribute(of: Box<Term>, name: Text) -> Term
+pub fn attribute(of: Box<Term>, name: Text) -> Term
     ensures { view.term result ≡ resolved.selects (view.term of.value) name }
 {
     Term::Attribute(of, name)
 }
 
-pub(crate) fn index(of: Box<Term>, at: Box<Term>) -> Term
+pub fn index(of: Box<Term>, at: Box<Term>) -> Term
     ensures { view.term result ≡ resolved.subscript (view.term of.value) (view.term at.value) }
 {
     Term::Index(of, at)
 }
 
-pub(crate) fn call(callee: Box<Term>, items: Vec<Term>, named: Vec<Argument>) -> Term
+pub fn call(callee: Box<Term>, items: Vec<Term>, named: Vec<Argument>) -> Term
     ensures { view.term result ≡ resolved.invokes (view.term callee.value) (view.terms items.items)
         (view.keywords named.items) }
 {
     Term::Call(callee, items, named)
 }
 
-pub(crate) fn list_each(own: OwnSlots, element: Box<Term>, clauses: Vec<Round>) -> Term
+pub fn list_each(own: OwnSlots, element: Box<Term>, clauses: Vec<Round>) -> Term
     ensures { view.term result ≡ resolved.each own (view.term element.value)
         (view.rounds clauses.items) }
 {
     Term::ListEach(own, element, clauses)
 }
 
-pub(crate) fn dict_each(
-    own: OwnSlots,
-    key: Box<Term>,
-    value: Box<Term>,
-    clauses: Vec<Round>,
-) -> Term
+pub fn dict_each(own: OwnSlots, key: Box<Term>, value: Box<Term>, clauses: Vec<Round>) -> Term
     ensures { view.term result ≡ resolved.each_pair own (view.term key.value)
         (view.term value.value) (view.rounds clauses.items) }
 {
     Term::DictEach(own, key, value, clauses)
 }
 
-pub(crate) fn tuple(items: Vec<Term>) -> Term
+pub fn tuple(items: Vec<Term>) -> Term
     ensures { view.term result ≡ resolved.tuple (view.terms items.items) }
 {
     Term::Tuple(items)
 }
 
-pub(crate) fn list_of(items: Vec<Term>) -> Term
+pub fn list_of(items: Vec<Term>) -> Term
     ensures { view.term result ≡ resolved.listing (view.terms items.items) }
 {
     Term::ListOf(items)
 }
 
-pub(crate) fn dict_of(found: Vec<Pair>) -> Term
+pub fn dict_of(found: Vec<Pair>) -> Term
     ensures { view.term result ≡ resolved.dict (view.pairs found.items) }
 {
     Term::DictOf(found)
 }
 
-pub(crate) fn name(binding: Binding) -> Term
+pub fn name(binding: Binding) -> Term
     ensures { view.term result ≡ resolved.named binding }
 {
     Term::Name(binding)
 }
 
-pub(crate) fn number(value: u64) -> Term
+pub fn number(value: u64) -> Term
     ensures { view.term result ≡ resolved.numeral value }
 {
     Term::Number(value)
 }
 
-pub(crate) fn string(text: Text) -> Term
+pub fn string(text: Text) -> Term
     ensures { view.term result ≡ resolved.quoted text }
 {
     Term::Str(text)
 }
 
-pub(crate) fn entry(key: Term, value: Term) -> Pair
+pub fn entry(key: Term, value: Term) -> Pair
     ensures { view.pair result ≡ (view.term key, view.term value) }
 {
     Pair { key, value }
 }
 
-pub(crate) fn keyword(name: Text, value: Term) -> Argument
+pub fn keyword(name: Text, value: Term) -> Argument
     ensures { view.argument result ≡ (name, view.term value) }
 {
     Argument { name, value }

@@ -1,17 +1,17 @@
 -- The file with resolved names that the program's tree stands for.
 use Rattle.std.specs.Prelude.{ℕ, List, [], ◌∷◌, map, option_map}
 use Rattle.grammar.specs.TreeView.{operator_seen, sign_seen}
-use Rattle.syntax.specs.Resolved as resolved
-use Rattle.syntax.specs.Resolved.{Terms, no_terms, more_terms, Pairs, no_pairs, more_pairs, Keywords, no_keywords, more_keywords, Rounds, done, for_each, only_if, Branches, no_branches, a_branch, Steps, no_steps, step}
-use Rattle.syntax.specs.declared.program.Term.{Term, fold-Term}
-use Rattle.syntax.specs.declared.program.Round.TheOpen.{Term-F, Pair-F, Argument-F, Round-F}
-use Rattle.syntax.specs.declared.program.Pair.{Pair, fold-Pair}
-use Rattle.syntax.specs.declared.program.Argument.{Argument, fold-Argument}
-use Rattle.syntax.specs.declared.program.Round.{Round, fold-Round}
-use Rattle.syntax.specs.declared.program.Statement.{Statement, fold-Statement}
-use Rattle.syntax.specs.declared.program.Branch.{Branch, fold-Branch}
-use Rattle.syntax.specs.declared.program.Statement.TheOpen.{Statement-F, Branch-F, Function-F, Step-F}
-use Rattle.syntax.specs.declared.program.Step.{Step, fold-Step}
+use Rattle.program_tree.specs.Resolved as resolved
+use Rattle.program_tree.specs.Resolved.{Terms, no_terms, more_terms, Pairs, no_pairs, more_pairs, Keywords, no_keywords, more_keywords, Rounds, done, for_each, only_if, Branches, no_branches, a_branch, Steps, no_steps, step}
+use Rattle.program_tree.specs.declared.program.Term.{Term, fold-Term}
+use Rattle.program_tree.specs.declared.program.Round.TheOpen.{Term-F, Pair-F, Argument-F, Round-F}
+use Rattle.program_tree.specs.declared.program.Pair.{Pair, fold-Pair}
+use Rattle.program_tree.specs.declared.program.Argument.{Argument, fold-Argument}
+use Rattle.program_tree.specs.declared.program.Round.{Round, fold-Round}
+use Rattle.program_tree.specs.declared.program.Statement.{Statement, fold-Statement}
+use Rattle.program_tree.specs.declared.program.Branch.{Branch, fold-Branch}
+use Rattle.program_tree.specs.declared.program.Statement.TheOpen.{Statement-F, Branch-F, Function-F, Step-F}
+use Rattle.program_tree.specs.declared.program.Step.{Step, fold-Step}
 
 -- things one after the other, before others
 abbrev pub onto : {A R : Type 0} → (A → R → R) → List A → R → R

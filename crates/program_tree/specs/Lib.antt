@@ -1,0 +1,4 @@
+pub mod Names
+pub mod Resolved
+pub mod ProgramView
+pub mod ParsedView
