@@ -1,6 +1,5 @@
-//! What a target has for its attributes, as values that are made once.
-ghost use Rattle.std.specs.Prelude.{◌≡◌, ◌++◌, ◌∷◌, [], IfOk, OnOk, map, slice_get};
-ghost use Rattle.values.specs.Seeing.{option_value};
+//! What a target has for its attributes, as values.
+ghost use Rattle.std.specs.Prelude.{◌≡◌, ◌++◌, ◌∷◌, [], IfOk, IfSome, OnOk, map, option_map, slice_get};
 ghost use Rattle.values.specs.Tree.{leaf};
 ghost use Rattle.operations.specs.Items.{at_place};
 ghost use Rattle.contexts.specs.Fields.{attribute_value, target_tree, frozen_list};
@@ -14,8 +13,9 @@ use targets::AttributeValue;
 use values::{Branch, Frozen, Item, Leaf, Value};
 use workspace::Label;
 
-/// What a target has for each attribute of its rule, as a value. What lies in the target is lent, strings in lists and dicts too;
-/// what depends on the dependencies is made here, once, and lent to each that reads it.
+/// What a target has for each attribute of its rule, as a value. What lies in the target is lent, strings in lists and
+/// dicts too; what depends on the dependencies is made here, once, and lent to each that reads it. A target has this where
+/// it has a list of labels, which takes as long to make as it has labels; all else is as soon made at each read.
 #[derive(Drop)]
 pub(crate) struct AttributeValues<'a> {
     values: Vec<Operand<'a>>,
@@ -34,36 +34,67 @@ impl<'a> Model for AttributeValues<'a> {
 }
 
 impl<'a> AttributeValues<'a> {
-    /// Those of a target with these dependencies.
-    pub(crate) fn new(
+    /// Those of a target with these dependencies, if there is a label in a list of them.
+    pub(crate) fn with_lists(
         alloc: Global,
         dependencies: &Dependencies<'a>,
         values: &'a [AttributeValue],
-    ) -> Result<AttributeValues<'a>, AllocError>
-        ensures { IfOk result (λ a. a ≡ map (attribute_value dependencies.now) values.now) }
+    ) -> Result<Option<AttributeValues<'a>>, AllocError>
+        ensures { IfOk result
+            (λ o. IfSome o (λ a. a ≡ map (attribute_value dependencies.now) values.now)) }
     {
+        if !values.iter().any(|value| has_listed(value)) {
+            return Ok(None);
+        }
         let values = made_values(alloc, dependencies, values)?;
-        Ok(AttributeValues { values })
+        Ok(Some(AttributeValues { values }))
     }
 
     /// That of the attribute at a place, if there is one.
-    pub(crate) fn at(&self, place: Option<usize>) -> Option<Item<'_>>
-        ensures { option_value result ≡ at_place self.now place }
+    pub(crate) fn at(&self, place: Option<usize>) -> Option<Operand<'_>>
+        ensures { result ≡ at_place self.now place }
     {
         match place {
-            Some(place) => item_at(self.values.as_slice(), place),
+            Some(place) => lent_at(self.values.as_slice(), place),
             None => None,
         }
     }
 }
 
-/// The value at a place, where it lies.
-fn item_at<'a>(values: &'a [Operand<'_>], place: usize) -> Option<Item<'a>>
-    ensures { option_value result ≡ slice_get values.now place }
+/// Whether a value is a list of labels that has one.
+fn has_listed(value: &AttributeValue) -> bool {
+    match value {
+        AttributeValue::Labels(labels) => !labels.get().as_slice().is_empty(),
+        _ => false,
+    }
+}
+
+/// The value at a place, lent from where it lies.
+fn lent_at<'a>(values: &'a [Operand<'_>], place: usize) -> Option<Operand<'a>>
+    ensures { result ≡ slice_get values.now place }
 {
     match values.get(place) {
-        Some(value) => Some(value.item()),
+        Some(value) => Some(Operand::lent(value.item())),
         None => None,
+    }
+}
+
+/// What a target has for the attribute at a place, if there is one, made anew.
+pub(crate) fn made_at<'a>(
+    alloc: Global,
+    dependencies: &Dependencies<'a>,
+    values: &'a [AttributeValue],
+    place: Option<usize>,
+) -> Result<Option<Operand<'a>>, AllocError>
+    ensures { IfOk result
+        (λ o. o ≡ option_map (attribute_value dependencies.now) (at_place values.now place)) }
+{
+    let Some(place) = place else {
+        return Ok(None);
+    };
+    match values.get(place) {
+        Some(value) => Ok(Some(attribute_value(alloc, dependencies, value)?)),
+        None => Ok(None),
     }
 }
 

@@ -1,6 +1,7 @@
 //! What the implementation of a target reads.
-ghost use Rattle.std.specs.Prelude.{◌≡◌, ℕ, IfOk, map, option_map};
-ghost use Rattle.values.specs.Seeing.{item_value, option_value};
+ghost use Rattle.std.proofs.Props.{props};
+ghost use Rattle.std.specs.Prelude.{◌≡◌, ℕ, IfOk, IfSome, map, option_map};
+ghost use Rattle.values.specs.Seeing.{item_value};
 ghost use Rattle.operations.specs.Arguments.{place_named};
 ghost use Rattle.operations.specs.Instances.{default_info};
 ghost use Rattle.targets.specs.Placed.{names_of};
@@ -10,7 +11,7 @@ ghost use Rattle.operations.specs.States.{Gives};
 ghost use Rattle.contexts.specs.Fields.{attribute_value, label_value, value_for};
 ghost use Rattle.target_fields.specs.ByPlace.{files_at};
 
-use crate::attributes::AttributeValues;
+use crate::attributes::{AttributeValues, made_at};
 use crate::dependencies::Dependencies;
 use crate::kept::{FileLists, KeptLists};
 use crate::listings::files;
@@ -23,21 +24,20 @@ use targets::Target;
 use values::{Broken, Item, Key, Kind, Leaf, Provider, Value};
 use workspace::Label;
 
-/// A label, its target and the target's dependencies with their outcomes; and what is made of them once, and lent to all that
-/// reads it: the label and its name as values, what the target has for its attributes, and the lists of `ctx.files` that were read.
-/// In the type of these, `I` stands for the target.
+/// A label, its target and the target's dependencies with their outcomes; and what is made of them once, and lent to all
+/// that reads it: the label as a value, what a target with lists of labels has for its attributes, and the lists of
+/// `ctx.files` that were read. In the type of these, `I` stands for the target.
 #[derive(Drop)]
 pub struct TargetContext<'a, I: FileLists> {
     pub label: &'a Label,
     pub target: &'a Target,
     pub dependencies: Dependencies<'a>,
     own_label: Value,
-    own_name: Value,
-    attributes: AttributeValues<'a>,
+    attributes: Option<AttributeValues<'a>>,
     kept: KeptLists<I>,
     ghost labelled: { own_label ≡ label_value label.now },
-    ghost named: { own_name ≡ text label.now.name },
-    ghost made: { attributes ≡ map (attribute_value dependencies) target.now.values },
+    ghost made: { IfSome attributes
+        (λ a. a ≡ map (attribute_value dependencies) target.now.values) } by { Prim.hlevel props },
     ghost listed: { (place : ℕ) → I.list_at place ≡ files_at target.now dependencies place },
 }
 
@@ -65,15 +65,17 @@ impl<'a, I: FileLists> TargetContext<'a, I> {
             (λ c. c.dependencies ≡ dependencies_seen dependencies.now) }
     {
         let dependencies = Dependencies::new(alloc, dependencies, info)?;
-        let attributes = AttributeValues::new(alloc, &dependencies, target.values.as_slice())?;
+        let attributes = AttributeValues::with_lists(
+            alloc,
+            &dependencies,
+            target.values.as_slice(),
+        )?;
         let own_label = label_value(label)?;
-        let own_name = name_value(alloc, label)?;
         Ok(TargetContext {
             label,
             target,
             dependencies,
             own_label,
-            own_name,
             attributes,
             kept: KeptLists::new(),
         })
@@ -86,19 +88,33 @@ impl<'a, I: FileLists> TargetContext<'a, I> {
         Item::Value(&self.own_label)
     }
 
-    /// `ctx.attr.name`.
-    pub(crate) fn own_name(&self) -> Item<'_>
-        ensures { item_value result ≡ text self.now.label.now.name }
+    /// `ctx.attr.name`, made anew.
+    pub(crate) fn own_name(&self, alloc: Global) -> Result<Operand<'_>, AllocError>
+        ensures { IfOk result (λ v. v ≡ text self.now.label.now.name) }
     {
-        Item::Value(&self.own_name)
+        let name = Text::new(alloc, self.label.name())?;
+        Ok(Operand::own(Value::Key(Key::Text(name))))
     }
 
     /// What the target has for the attribute of a name, as a value.
-    pub(crate) fn attribute(&self, name: &FieldName) -> Option<Item<'_>>
-        ensures { option_value result ≡ option_map (attribute_value self.now.dependencies)
-            (value_for self.now.target.now name.now) }
+    pub(crate) fn attribute(
+        &self,
+        alloc: Global,
+        name: &FieldName,
+    ) -> Result<Option<Operand<'_>>, AllocError>
+        ensures { IfOk result (λ o. o ≡ option_map (attribute_value self.now.dependencies)
+            (value_for self.now.target.now name.now)) }
     {
-        self.attributes.at(attribute_place(self.target, name))
+        let place = attribute_place(self.target, name);
+        match &self.attributes {
+            Some(values) => Ok(values.at(place)),
+            None => made_at(
+                alloc,
+                &self.dependencies,
+                self.target.values.as_slice(),
+                place,
+            ),
+        }
     }
 
     /// `ctx.files` of the attribute at a place: it is listed at its first read, and lent from then on.
@@ -135,14 +151,6 @@ fn label_value(label: &Label) -> Result<Value, AllocError>
 {
     let text = label.shared_text().share()?;
     Ok(Value::Leaf(Leaf::Label(text)))
-}
-
-/// The name of a label as a value.
-fn name_value(alloc: Global, label: &Label) -> Result<Value, AllocError>
-    ensures { IfOk result (λ v. v ≡ text label.now.name) }
-{
-    let name = Text::new(alloc, label.name())?;
-    Ok(Value::Key(Key::Text(name)))
 }
 
 /// The place of the attribute of a name, which is found by order.

@@ -13,11 +13,11 @@ use crate::files::files_in;
 use crate::kept::FileLists;
 use field_names::{FieldName, KnownName};
 use operands::Operand;
-use std::alloc::Global;
+use std::alloc::{AllocError, Global};
 use values::{Broken, Item, Kind, Leaf, Object, Value};
 
-/// A field of a target or of an object, in the implementation of a target. Each is lent; a list of `ctx.files` is made at its first
-/// read.
+/// A field of a target or of an object, in the implementation of a target. Each is lent, or is soon made; a list of
+/// `ctx.files` is made at its first read.
 ///
 /// # Errors
 ///
@@ -34,7 +34,7 @@ pub fn field<'a, 'b, I: FileLists>(
     match owner {
         Leaf::Target(place) => or_name(target_field(&context.dependencies, *place, name)),
         Leaf::Object(Object::Context) => { or_name(context_field(context, name)) }
-        Leaf::Object(Object::ContextAttr) => { or_name(attr_field(context, name)) }
+        Leaf::Object(Object::ContextAttr) => { or_name(attr_field(alloc, context, name)?) }
         Leaf::Object(Object::ContextFiles) => files_field(alloc, context, name),
         _ => Err(Broken::Kind(Kind::Name)),
     }
@@ -97,21 +97,19 @@ fn object_value<'a>(object: Object) -> Operand<'a>
     Operand::own(Value::Leaf(Leaf::Object(object)))
 }
 
-/// A field of `ctx.attr`: the name, and what the target has for an attribute, are lent.
+/// A field of `ctx.attr`: the name, or what the target has for an attribute.
 fn attr_field<'a, 'b, I: FileLists>(
+    alloc: Global,
     context: &'a TargetContext<'b, I>,
     name: &FieldName,
-) -> Option<Operand<'a>>
-    ensures { result ≡ attr_field context.now.target.now context.now.dependencies
-        context.now.label.now name.now }
+) -> Result<Option<Operand<'a>>, AllocError>
+    ensures { IfOk result (λ o. o ≡ attr_field context.now.target.now context.now.dependencies
+        context.now.label.now name.now) }
 {
     if name.is(KnownName::Name) {
-        return Some(Operand::lent(context.own_name()));
+        return Ok(Some(context.own_name(alloc)?));
     }
-    match context.attribute(name) {
-        Some(item) => Some(Operand::lent(item)),
-        None => None,
-    }
+    context.attribute(alloc, name)
 }
 
 /// A field of `ctx.files`, which is lent once it was listed.

@@ -2,9 +2,9 @@
 //! providers that targets offer.
 //!
 //! Each call gives what its definition in `contexts` says, or answers that memory was refused. Nothing of a dependency is
-//! copied or counted: its label, its depsets and its instances are lent where they lie, and so is what [`TargetContext`] made
-//! once of the target's label and attributes. A list of `ctx.files` names each File once more: it is made at its first read, kept
-//! in [`TargetContext`], and lent from then on.
+//! copied or counted: its label, its depsets and its instances are lent where they lie, and so are the lists of targets
+//! that [`TargetContext`] made once of the target's attributes. A list of `ctx.files` names each File once more: it is made
+//! at its first read, kept in [`TargetContext`], and lent from then on.
 #![tactic(auto)]
 
 mod attributes;
