@@ -43,8 +43,14 @@ const READY: usize = 1_000;
 /// How often what takes some nanoseconds is done.
 const TURNS: u64 = 1_000_000;
 
-/// How many instances are made, read and frozen.
+/// How many instances are made, read and frozen in one heap.
 const INSTANCES: u64 = 100_000;
+
+/// How many heaps of few instances are made, one after the other.
+const HEAPS: u64 = 10_000;
+
+/// How many instances each of them has.
+const INSTANCES_OF_A_HEAP: u64 = 10;
 
 /// A text for the element of this number of the depset of that number.
 fn key_text(alloc: Global, serial: u64, element: u64) -> Result<Text> {
@@ -189,13 +195,12 @@ fn provider(alloc: Global) -> Result<Shared<Provider>> {
     Ok(Shared::new(alloc, Provider { id, name, fields })?)
 }
 
-/// How many of the instances have their second field.
-fn instances(alloc: Global) -> Result<u64> {
+/// How many of so many instances in a heap of their own have their second field.
+fn instances(alloc: Global, provider: &Shared<Provider>, count: u64) -> Result<u64> {
     let mut heap = Heap::new(alloc);
     let mut ticks = Ticks::new(u64::MAX);
-    let provider = provider(alloc)?;
     let mut read = 0u64;
-    for _ in 0..INSTANCES {
+    for _ in 0..count {
         let mut fields = Fields::with_capacity(alloc, 2)?;
         fields.push(Some(Value::Key(Key::Number(1))))?;
         fields.push(Some(Value::Key(Key::Number(2))))?;
@@ -210,6 +215,16 @@ fn instances(alloc: Global) -> Result<u64> {
         if freeze(alloc, Item::Value(&made), &heap, &mut ticks).is_err() {
             return Ok(read);
         }
+    }
+    Ok(read)
+}
+
+/// The same of many heaps. Each is given back before the next, as an evaluation gives back its own.
+fn instances_of_heaps(alloc: Global, provider: &Shared<Provider>) -> Result<u64> {
+    let mut read = 0u64;
+    for _ in 0..HEAPS {
+        let of_heap = instances(alloc, provider, INSTANCES_OF_A_HEAP)?;
+        read = read.saturating_add(of_heap);
     }
     Ok(read)
 }
@@ -320,11 +335,16 @@ fn small<R: Print + Clock>(rt: &R, alloc: Global, timed: bool) -> Result<()> {
     report(rt, "strings joined", bytes / 16, start, timed)
 }
 
-/// Instances of two fields, made, read and frozen.
+/// Instances of two fields, made, read and frozen: in one heap, whose memory is touched for the first time, and in heaps of
+/// a few, which take the memory that those before gave back.
 fn all_instances<R: Print + Clock>(rt: &R, alloc: Global, timed: bool) -> Result<()> {
+    let provider = provider(alloc)?;
     let start = Instant::now(rt)?;
-    let read = instances(alloc)?;
+    let read = instances(alloc, &provider, INSTANCES)?;
     report(rt, "instances made, read and frozen", read, start, timed)?;
+    let start = Instant::now(rt)?;
+    let read = instances_of_heaps(alloc, &provider)?;
+    report(rt, "instances in heaps of ten", read, start, timed)?;
     println!(rt; "bytes of a value: {}", size_of::<Value>())?;
     println!(rt; "bytes of a cell: {}", size_of::<Cell>())?;
     Ok(())

@@ -1,6 +1,6 @@
 //! What turns of loops do to values, without a machine.
 //!
-//! Each row does as often what a turn of the loop of that name in `serve_bench` does to values: operations on a state, with one
+//! Each row does as often what a turn of the loop of that name in `serve_check` does to values: operations on a state, with one
 //! tick a turn. Membership is a look into the dict, a field is looked for by its name, and a call is one of a plain function. There is
 //! no code, no frame and no stack, so what a turn takes longer there is the machine's own share.
 
