@@ -1,27 +1,14 @@
-//! Whole requests over memory, on made workspaces: whether they are answered the same by any number of workers, and how long they
-//! take.
-//!
-//! Without a word it serves [`FEW`] random workspaces by 1 and by 8 workers, with a deque each and at one queue, and prints for how
-//! many the reports are the same, which never changes; with `same N`, that many. With `time` it prints, for made workspaces, the wall
-//! and the processor time of a request in milliseconds, from the bytes of the input to those of the report, and the report's length;
-//! with `time NAME`, for that one alone. `plain N`, `layers N WIDTH DEGREE`, `chain N`, `cycle N` and `random SEED` print a workspace, as `bzlan`
-//! reads it. The status is 1 where reports differ or the words are others.
-#![tactic(auto)]
+//! Made workspaces: whether they are answered the same by any number of workers, how long they take, and their texts.
 
-mod requests;
-mod timing;
-mod workloads;
-
+use crate::requests::count_same;
+use crate::timing::time_workloads;
 use made_workspaces::{chained_modules, layered_targets, plain_targets, random_workspace};
-use requests::count_same;
 use std::alloc::{AllocError, Global};
-use std::process::ExitCode;
+use std::io;
 use std::rt::Clock;
 use std::sync::Wait;
 use std::thread::Threads;
 use std::time::CpuClock;
-use std::{env, io};
-use timing::time_workloads;
 
 /// How many random workspaces are served where no number is given.
 const FEW: u64 = 300;
@@ -67,14 +54,18 @@ fn check<R: Print + Threads + Wait + Sync>(rt: &R, alloc: Global, count: u64) ->
     Ok(same == count)
 }
 
+/// Serves [`FEW`] random workspaces, and says whether each has the same report whoever analyses it.
+pub fn check_few<R: Print + Threads + Wait + Sync>(rt: &R, alloc: Global) -> io::Result<bool> {
+    check(rt, alloc, FEW)
+}
+
 /// Does what the words after the program's name ask for, and says whether all is well.
-fn run<R: Print + Clock + CpuClock + Threads + Wait + Sync>(
+pub fn run<R: Print + Clock + CpuClock + Threads + Wait + Sync>(
     rt: &R,
     alloc: Global,
     words: &[&str],
 ) -> io::Result<bool> {
     match words {
-        [] => check(rt, alloc, FEW),
         ["same", count] => match count.parse() {
             Ok(count) => check(rt, alloc, count),
             Err(_) => Ok(false),
@@ -89,15 +80,4 @@ fn run<R: Print + Clock + CpuClock + Threads + Wait + Sync>(
             None => Ok(false),
         },
     }
-}
-
-fn main(rt: HostRuntime) -> io::Result<ExitCode> {
-    let alloc = rt.alloc();
-    let words: Vec<String> = env::args(&rt)?.collect(alloc)?;
-    let mut shown: Vec<&str> = Vec::new(alloc);
-    for word in words.iter().skip(1) {
-        shown.push(word.as_str())?;
-    }
-    let is_well = run(&rt, alloc, shown.as_slice())?;
-    Ok(ExitCode::from(if is_well { 0 } else { 1 }))
 }
