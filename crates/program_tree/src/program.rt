@@ -176,6 +176,7 @@ pub struct Step {
     pub statement: Statement,
 }
 
+/// An operator between two expressions.
 pub fn binary(operator: Operator, left: Box<Term>, right: Box<Term>) -> Term
     ensures { view.term result ≡ resolved.operates (operator_seen operator) (view.term left.value)
         (view.term right.value) }
@@ -183,12 +184,14 @@ pub fn binary(operator: Operator, left: Box<Term>, right: Box<Term>) -> Term
     Term::Binary(operator, left, right)
 }
 
+/// An expression with an operator before it.
 pub fn unary(sign: Sign, operand: Box<Term>) -> Term
     ensures { view.term result ≡ resolved.turned (sign_seen sign) (view.term operand.value) }
 {
     Term::Unary(sign, operand)
 }
 
+/// `THEN if TEST else OTHER`, in the order of the text.
 pub fn choice(then: Box<Term>, test: Box<Term>, other: Box<Term>) -> Term
     ensures { view.term result ≡ resolved.choice (view.term then.value) (view.term test.value)
         (view.term other.value) }
@@ -196,18 +199,21 @@ pub fn choice(then: Box<Term>, test: Box<Term>, other: Box<Term>) -> Term
     Term::Choice(then, test, other)
 }
 
+/// A field of an expression.
 pub fn attribute(of: Box<Term>, name: Text) -> Term
     ensures { view.term result ≡ resolved.selects (view.term of.value) name }
 {
     Term::Attribute(of, name)
 }
 
+/// `OF[AT]`.
 pub fn index(of: Box<Term>, at: Box<Term>) -> Term
     ensures { view.term result ≡ resolved.subscript (view.term of.value) (view.term at.value) }
 {
     Term::Index(of, at)
 }
 
+/// A call, with its positional arguments and then those with names.
 pub fn call(callee: Box<Term>, items: Vec<Term>, named: Vec<Argument>) -> Term
     ensures { view.term result ≡ resolved.invokes (view.term callee.value) (view.terms items.items)
         (view.keywords named.items) }
@@ -215,6 +221,7 @@ pub fn call(callee: Box<Term>, items: Vec<Term>, named: Vec<Argument>) -> Term
     Term::Call(callee, items, named)
 }
 
+/// A comprehension of a list, with the slots of its names.
 pub fn list_each(own: OwnSlots, element: Box<Term>, clauses: Vec<Round>) -> Term
     ensures { view.term result ≡ resolved.each own (view.term element.value)
         (view.rounds clauses.items) }
@@ -222,6 +229,7 @@ pub fn list_each(own: OwnSlots, element: Box<Term>, clauses: Vec<Round>) -> Term
     Term::ListEach(own, element, clauses)
 }
 
+/// A comprehension of a dict, with the slots of its names.
 pub fn dict_each(own: OwnSlots, key: Box<Term>, value: Box<Term>, clauses: Vec<Round>) -> Term
     ensures { view.term result ≡ resolved.each_pair own (view.term key.value)
         (view.term value.value) (view.rounds clauses.items) }
@@ -229,48 +237,56 @@ pub fn dict_each(own: OwnSlots, key: Box<Term>, value: Box<Term>, clauses: Vec<R
     Term::DictEach(own, key, value, clauses)
 }
 
+/// A tuple of these items.
 pub fn tuple(items: Vec<Term>) -> Term
     ensures { view.term result ≡ resolved.tuple (view.terms items.items) }
 {
     Term::Tuple(items)
 }
 
+/// A list of these items.
 pub fn list_of(items: Vec<Term>) -> Term
     ensures { view.term result ≡ resolved.listing (view.terms items.items) }
 {
     Term::ListOf(items)
 }
 
+/// A dict of these entries.
 pub fn dict_of(found: Vec<Pair>) -> Term
     ensures { view.term result ≡ resolved.dict (view.pairs found.items) }
 {
     Term::DictOf(found)
 }
 
+/// What a name stands for.
 pub fn name(binding: Binding) -> Term
     ensures { view.term result ≡ resolved.named binding }
 {
     Term::Name(binding)
 }
 
+/// A number.
 pub fn number(value: u64) -> Term
     ensures { view.term result ≡ resolved.numeral value }
 {
     Term::Number(value)
 }
 
+/// A string, with its escapes read.
 pub fn string(text: Text) -> Term
     ensures { view.term result ≡ resolved.quoted text }
 {
     Term::Str(text)
 }
 
+/// An entry of a dict.
 pub fn entry(key: Term, value: Term) -> Pair
     ensures { view.pair result ≡ (view.term key, view.term value) }
 {
     Pair { key, value }
 }
 
+/// An argument with its name.
 pub fn keyword(name: Text, value: Term) -> Argument
     ensures { view.argument result ≡ (name, view.term value) }
 {
