@@ -4,7 +4,6 @@ pub mod FileDepths
 pub mod FileLaws
 pub mod FileRanges
 pub mod FileRows
-pub mod LevelLemmas
 pub mod LineRanges
 pub mod LoadNumbers
 pub mod NamePlaces

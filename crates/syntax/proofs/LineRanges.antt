@@ -5,11 +5,13 @@ use Rattle.std.specs.List.{AllByRecursion, list_all}
 use Rattle.std.proofs.lemmas.List.Folds.{list_any-append}
 use Rattle.grammar.specs.BareLines.{Param, required, optional, Item, Form, loads, defines, if_head, elif_head, else_head, for_head, assigns, assigns_at, increases, increases_at, evaluates, passes, breaks, continues, returns, Lines, no_lines, a_line}
 use Rattle.program_tree.specs.Names.{Name, Scope, or_else, among, apart, distinct, once, width, param_name, form_binds, lines_bind, function_scope, scope_of}
-use Rattle.syntax.specs.Scopes.{none_predeclared, scoped, param_scoped, defaults_last, form_scoped, line_scoped, adds_to_name, top_line_scoped, unless, lines_fault, top_fault}
+use Rattle.scopes.specs.ScopeView.{none_predeclared}
+use Rattle.syntax.specs.Scopes.{scoped, param_scoped, defaults_last, form_scoped, line_scoped, adds_to_name, top_line_scoped, unless, lines_fault, top_fault}
 use Rattle.program_tree.specs.Resolved.{Statement, load, assign, assign_item, add_to, add_to_item, evaluate, pass, break_loop, continue_loop, give_back, branch, loop, define, Steps, no_steps, step, Made, made, defaults, binding_of, global_of, terms_slots, branches_slots, steps_slots, with_number, next_number, numbered}
 use Rattle.program_tree.specs.declared.program.Loaded.{Loaded}
 use Rattle.syntax.specs.IsProgram.{Around, at_top, in_function, in_loop, InFunction, IsTarget, count, AreTerms, IsStatement, AreBranches, AreSteps}
-use Rattle.syntax.proofs.NamePlaces.{both, not_both, among_once, stay_first, all_among, Binds, bound_global, target}
+use Rattle.scopes.proofs.PlaceLemmas.{both, not_both}
+use Rattle.syntax.proofs.NamePlaces.{among_once, stay_first, all_among, Binds, bound_global, target}
 use Rattle.syntax.proofs.TermRanges.{term_ranges}
 use Rattle.syntax.proofs.TokensFit.{split_all}
 use Rattle.syntax.proofs.WellFormed.{ParamWell, LinesWell}

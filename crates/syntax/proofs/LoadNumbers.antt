@@ -18,8 +18,9 @@ use Rattle.syntax.specs.Scopes.{line_scoped, adds_to_name, top_line_scoped, line
 use Rattle.program_tree.specs.Resolved.{Statement, load, assign, assign_item, add_to, add_to_item, evaluate, pass, break_loop, continue_loop, give_back, branch, loop, define, Steps, no_steps, step, made, steps_of, binding_of, global_of, with_number, next_number, numbered}
 use Rattle.program_tree.specs.declared.program.Loaded.{Loaded}
 use Rattle.syntax.specs.IsProgram.{at_top, loaded_numbers, globals_among, own_numbers, all_loaded, all_own, numbers_from}
-use Rattle.syntax.proofs.NamePlaces.{both, not_both, same, has_place, without_front, all_among}
-use Rattle.syntax.proofs.ScopeLemmas.{same_name}
+use Rattle.scopes.proofs.PlaceLemmas.{both, not_both, same, has_place}
+use Rattle.syntax.proofs.NamePlaces.{without_front, all_among}
+use Rattle.scopes.proofs.NameLemmas.{same_name}
 use Rattle.syntax.proofs.OwnPlaces.{not_before, place_is}
 use Rattle.syntax.proofs.TokensFit.{split_all}
 use Rattle.syntax.proofs.WellFormed.{LinesWell}

@@ -10,8 +10,9 @@ use Rattle.std.proofs.lemmas.List.{length-append}
 use Rattle.grammar.specs.BareLines.{Param, Lines}
 use Rattle.program_tree.specs.Names.{Name, Scope, or_else, among, distinct, once, param_name, lines_bind, width, slot_of, stands_for, predeclared, function_scope}
 use Rattle.program_tree.specs.declared.names.Binding.TheVariants.{Slot as slot, Global as global, Builtin as builtin}
-use Rattle.syntax.proofs.NamePlaces.{both, not_both, before_it, same, slot_within, stay_first}
-use Rattle.syntax.proofs.ScopeLemmas.{same_name}
+use Rattle.scopes.proofs.PlaceLemmas.{both, not_both, before_it, same, slot_within}
+use Rattle.syntax.proofs.NamePlaces.{stay_first}
+use Rattle.scopes.proofs.NameLemmas.{same_name}
 
 -- a place in a list is that of one name
 pub one_name : (x y : Name) (l : List Name) (k : ℕ) → position (bytes_eq x) l ≡ Some k → position (bytes_eq y) l ≡ Some k → x ≡ y

@@ -11,12 +11,6 @@ use Rattle.grammar.specs.LineView.{lines_of}
 use Rattle.program_tree.specs.Names.{Scope, scope_of, width}
 use Rattle.program_tree.specs.Resolved.{Head, Made, Steps, head, made, steps_of, with_line}
 
--- a list from a place on
-pub drop_at : {A : Type 0} (xs : List A) (i : ℕ) (x : A) → i < length xs → x ≡ get_or xs i x → drop i xs ≡ x ∷ drop (i + 1) xs
-drop_at xs i x h e =
-    let next : suc i ≡ i + 1 = omega (arith) in
-    drop-cons xs i x h ∙ ap (λ y. y ∷ drop (suc i) xs) (sym e) ∙ ap (λ n. x ∷ drop n xs) next
-
 pub take_whole : {A : Type 0} (xs : List A) → take (length xs) xs ≡ xs
 take_whole [] = refl
 take_whole (x ∷ xs) = ap (λ ys. x ∷ ys) (take_whole xs)

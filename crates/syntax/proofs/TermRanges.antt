@@ -4,12 +4,14 @@ use Rattle.std.proofs.Common.{◌≡◌, ℕ, ◌≤◌, true, List, [], ◌∷�
 use Rattle.std.specs.List.{AllByRecursion}
 use Rattle.grammar.specs.Bare as bare
 use Rattle.program_tree.specs.Names.{Scope, width, clause_names, inside_of}
-use Rattle.syntax.specs.Scopes.{scoped, trees_scoped, entries_scoped, keywords_scoped, rest_scoped, none_predeclared, keyword_names}
+use Rattle.scopes.specs.ScopeView.{none_predeclared}
+use Rattle.syntax.specs.Scopes.{scoped, trees_scoped, entries_scoped, keywords_scoped, rest_scoped, keyword_names}
 use Rattle.program_tree.specs.Names.{distinct}
 use Rattle.program_tree.specs.Resolved.{term, terms, pairs, keywords, rounds, binding_of, own_slots, term_slots, terms_slots, pairs_slots, keywords_slots, rounds_slots}
 use Rattle.program_tree.specs.declared.program.OwnSlots.{OwnSlots}
 use Rattle.syntax.specs.IsProgram.{begins_with_for, IsOwnSlot, IsTerm, AreTerms, ArePairs, AreKeywords, AreRounds}
-use Rattle.syntax.proofs.NamePlaces.{both, in_range, wider, own_names}
+use Rattle.scopes.proofs.PlaceLemmas.{both}
+use Rattle.syntax.proofs.NamePlaces.{in_range, wider, own_names}
 use Rattle.syntax.proofs.WellFormed.{begins, Well, AreWell, EntriesWell, KeywordsWell, RestWell}
 
 -- the front of a list, of which something is so by what is made of each

@@ -2,6 +2,5 @@ pub mod Scopes
 pub mod Files
 pub mod FirstFault
 pub mod ProgramDepth
-pub mod ScopeView
 pub mod IsProgram
 pub mod Resolves

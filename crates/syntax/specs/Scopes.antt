@@ -3,19 +3,16 @@
 -- That a file is refused before it runs where it breaks one, and the line at which it is, are this project's own choice;
 -- the rules are the Starlark specification's ("Name binding and variables", "Function definitions", "Call expressions"),
 -- but that no predeclared name is bound again and that nothing is added to a name of the top level.
-use Rattle.std.specs.Prelude.{ℕ, Bool, true, false, not, ◌&&◌, List, [], ◌∷◌, ◌++◌, map, Option, Some, None, is_some, is_none}
+use Rattle.std.specs.Prelude.{ℕ, Bool, true, false, not, ◌&&◌, List, [], ◌∷◌, ◌++◌, map, Option, Some, None, is_some}
 use Rattle.std.specs.List.{list_all}
 use Rattle.grammar.specs.Bare.{Tree, named, numeral, quoted, tuple, listing, dict, choice, operates, turned, selects, subscript, invokes, each, each_entry, Trees, no_trees, more_trees, Entries, no_entries, more_entries, Keywords, no_keywords, more_keywords, Rest, done, for_each, only_if}
 use Rattle.grammar.specs.BareLines.{Param, required, optional, Form, defines, if_head, elif_head, for_head, assigns, assigns_at, increases, increases_at, evaluates, returns, Lines, no_lines, a_line}
-use Rattle.program_tree.specs.Names.{Name, predeclared, or_else, distinct, apart, param_name, form_binds, clause_names, Scope, stands_for, file_scope, scope_of, inside_of}
+use Rattle.program_tree.specs.Names.{Name, or_else, distinct, apart, param_name, form_binds, clause_names, Scope, stands_for, file_scope, scope_of, inside_of}
+use Rattle.scopes.specs.ScopeView.{none_predeclared}
 
 -- a name that is used stands for something
 abbrev pub is_bound : Scope → Name → Bool
 is_bound s x = is_some (stands_for s x)
-
--- no predeclared name is bound, wherever that is
-abbrev pub none_predeclared : List Name → Bool
-none_predeclared xs = list_all (λ x. is_none (predeclared x)) xs
 
 abbrev pub keyword_names : Keywords → List Name
 keyword_names no_keywords = []

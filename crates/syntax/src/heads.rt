@@ -12,14 +12,14 @@ ghost use Rattle.program_tree.specs.ProgramView.{terms_onto};
 ghost use Rattle.program_tree.specs.Resolved as resolved;
 ghost use Rattle.program_tree.specs.Resolved.{Terms, defaults, global_of, with_default};
 ghost use Rattle.syntax.specs.Resolves.{Gives, GivesHead, GivesTerm, Keeps};
-ghost use Rattle.syntax.specs.Scopes.{defaults_last, form_scoped, line_scoped, none_predeclared, param_scoped, scoped};
+ghost use Rattle.scopes.specs.ScopeView.{none_predeclared};
+ghost use Rattle.syntax.specs.Scopes.{defaults_last, form_scoped, line_scoped, param_scoped, scoped};
 
-use crate::bound::add_params;
 use crate::resolver::{Unresolved, bindings, resolve};
-use crate::scope::{Scope, are_distinct, is_free, none_predeclared, texts_of};
 use grammar::{Expr, Form, Item, MAX_DEPTH, Name, Param};
 use plain::Text;
 use program_tree::{Binding, Loaded, Statement, Term};
+use scopes::{Scope, add_params, are_distinct, is_free, none_predeclared, texts_of};
 use std::alloc::{AllocError, Global};
 
 /// A line with its names resolved, without the lines of its block.

@@ -2,19 +2,15 @@
 //!
 //! Five passes, each over the whole of a text. The first three give the logical lines, and are those of crate `lexer`; the
 //! fourth gives the statements in their blocks, and is that of crate `statements`. The fifth resolves the names of the top level
-//! ([`top`]), of lines ([`steps`], [`heads`]) and of expressions ([`resolver`]), which gives the tree that is handed on
-//! (crate `program_tree`), or finds the first line that breaks a rule of scopes. [`parsing`] joins the five.
+//! ([`top`]), of lines ([`steps`], [`heads`]) and of expressions ([`resolver`]) by what is in scope (crate `scopes`), which gives
+//! the tree that is handed on (crate `program_tree`), or finds the first line that breaks a rule of scopes. [`parsing`] joins the
+//! five.
 #![tactic(auto)]
 
-mod bound;
 pub mod file_laws;
-mod frames;
 mod heads;
-mod levels;
 mod parsing;
 mod resolver;
-mod scope;
-mod spelt;
 mod steps;
 mod top;
 

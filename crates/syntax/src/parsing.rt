@@ -10,12 +10,11 @@ ghost use Rattle.syntax.specs.ProgramDepth.{IsShallow};
 ghost use Rattle.program_tree.specs.ProgramView as view;
 ghost use Rattle.program_tree.specs.Resolved.{program, resolved};
 
-use crate::frames::steps_slots;
-use crate::scope::Scope;
 use crate::steps::{Stopped, number_functions, resolve_file};
 use crate::top::{count_loaded, file_scope};
 use lexer::{FaultKind, FileKind, ParseStop, SyntaxFault, logical_lines};
 use program_tree::{Parsed, Step};
+use scopes::{Scope, steps_slots};
 use statements::read_file;
 use std::alloc::Global;
 

@@ -15,14 +15,13 @@ ghost use Rattle.syntax.specs.Resolves.{Enters, Gives, GivesBoxed, GivesTerm, Re
 ghost use Rattle.syntax.specs.Scopes.{entries_scoped, keyword_names, keywords_scoped, rest_scoped, scoped, trees_scoped};
 ghost use Rattle.grammar.specs.TreeView.{clause_of, entries, entry_of, keyword_of, keywords, operator_seen, rests, sign_seen, tree_of, trees};
 
-use crate::bound::clause_names;
-use crate::scope::{Scope, are_distinct, none_predeclared};
 use grammar::{Clause, Entry, Expr, Keyword, Name, Operator, Sign};
 use program_tree::program::{
     attribute, binary, call, choice, dict_each, dict_of, entry, index, keyword, list_each, list_of,
     name, number, string, tuple, unary,
 };
 use program_tree::{Argument, Binding, OwnSlots, Pair, Round, Term};
+use scopes::{Scope, are_distinct, clause_names, none_predeclared};
 use std::alloc::{AllocError, AllocFailed, Global};
 
 /// Why the names of a part of a file aren't resolved.

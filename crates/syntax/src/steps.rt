@@ -13,16 +13,13 @@ ghost use Rattle.program_tree.specs.Resolved.{Branches, begun, head, next_number
 ghost use Rattle.syntax.specs.Resolves.{FollowsOn, IsLater, IsOwn, Places, PlacesSteps, back, before_lines, behind_seen, head_seen, own_fault};
 ghost use Rattle.syntax.specs.Scopes.{line_scoped, lines_fault, top_fault, unless};
 
-use crate::bound::{add_lines, add_params, block_of};
-use crate::frames::steps_slots;
 use crate::heads::{Head, line_head};
-use crate::levels::Levels;
 use crate::resolver::Unresolved;
-use crate::scope::Scope;
 use crate::top::until_rebound;
 use grammar::{Form, Line};
 use plain::Text;
 use program_tree::{Binding, Branch, Function, Statement, Step, Term};
+use scopes::{Levels, Scope, add_lines, add_params, block_of, steps_slots};
 use std::alloc::{AllocError, AllocFailed, Global};
 
 /// Why the lines of a file aren't resolved.

@@ -9,10 +9,9 @@ ghost use Rattle.program_tree.specs.Names.{Scope as Around, among, file_scope, f
 ghost use Rattle.syntax.specs.Resolves.{binds_anew};
 ghost use Rattle.syntax.specs.Scopes.{adds_to_name, lines_fault, top_fault};
 
-use crate::bound::{add_lines, add_loaded, form_names};
-use crate::scope::{Scope, bind_anew};
 use grammar::{Form, Line, Name};
 use indexmap::IndexSet;
+use scopes::{Scope, add_lines, add_loaded, bind_anew, form_names};
 use std::alloc::{AllocError, Global};
 
 /// The scope of the top level of a file.

@@ -2,7 +2,8 @@ use Rattle.std.proofs.Common.{◌+◌, ◌<◌, ◌∷◌, ◌++◌, ◌∙◌, 
 use Rattle.std.proofs.lemmas.List.{drop-set-lt, take_more_set}
 use Rattle.program_tree.specs.ProgramView.{line_and_statement, steps, steps_onto}
 use Rattle.program_tree.specs.Resolved.{Steps, next_number, numbered, step, with_number}
-use Rattle.syntax.proofs.ProgramLemmas.{drop_at, onto_last}
+use Rattle.scopes.proofs.NameLemmas.{drop_at}
+use Rattle.syntax.proofs.ProgramLemmas.{onto_last}
 use Rattle.syntax.proofs.steps.number_functions.Goals as goal
 
 pub loop-step-preserved : goal.loop-step-preserved

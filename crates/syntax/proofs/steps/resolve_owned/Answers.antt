@@ -1,7 +1,7 @@
 use Rattle.std.proofs.Common.{◌∙◌, ◌∷◌, ◌++◌, ap, subst, sym}
 use Rattle.grammar.specs.LineView.{lines}
 use Rattle.syntax.specs.Resolves.{IsLater, before_lines}
-use Rattle.syntax.proofs.ScopeLemmas.{append_more}
+use Rattle.scopes.proofs.NameLemmas.{append_more}
 use Rattle.syntax.proofs.steps.resolve_owned.Goals as goal
 
 pub loop-line-preserved : goal.loop-line-preserved

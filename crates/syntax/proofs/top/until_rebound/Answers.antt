@@ -8,7 +8,8 @@ use Rattle.program_tree.specs.Names.{Scope, or_else, scope_of}
 use Rattle.program_tree.specs.ProgramView.{onto}
 use Rattle.syntax.specs.Scopes.{line_scoped, lines_fault, top_fault, unless}
 use Rattle.syntax.proofs.ProgramLemmas.{lines_onto, onto_last, take_whole}
-use Rattle.syntax.proofs.ScopeLemmas.{append_none, or_line, top_bound, top_rebound}
+use Rattle.scopes.proofs.NameLemmas.{append_none}
+use Rattle.syntax.proofs.ScopeLemmas.{or_line, top_bound, top_rebound}
 use Rattle.syntax.proofs.top.until_rebound.Goals as goal
 
 pub returns-then-not-branch-clause-found : goal.returns-then-not-branch-clause-found

@@ -5,7 +5,8 @@ use Rattle.program_tree.specs.Resolved as resolved
 use Rattle.syntax.specs.Scopes.{rest_scoped, scoped}
 use Rattle.grammar.specs.TreeView.{clause_of, rests, tree_of}
 use Rattle.std.specs.Prelude.{Some, option_map}
-use Rattle.syntax.proofs.ProgramLemmas.{drop_at, onto_last}
+use Rattle.scopes.proofs.NameLemmas.{drop_at}
+use Rattle.syntax.proofs.ProgramLemmas.{onto_last}
 use Rattle.syntax.proofs.resolver.Resolver.add_rounds.Goals as goal
 
 pub loop-clause-preserved : goal.loop-clause-preserved

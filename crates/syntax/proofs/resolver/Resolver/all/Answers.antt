@@ -4,7 +4,8 @@ use Rattle.program_tree.specs.ProgramView.{terms_onto}
 use Rattle.program_tree.specs.Resolved as resolved
 use Rattle.syntax.specs.Scopes.{scoped, trees_scoped}
 use Rattle.grammar.specs.TreeView.{tree_of, trees}
-use Rattle.syntax.proofs.ProgramLemmas.{drop_at, onto_last}
+use Rattle.scopes.proofs.NameLemmas.{drop_at}
+use Rattle.syntax.proofs.ProgramLemmas.{onto_last}
 use Rattle.syntax.proofs.resolver.Resolver.all.Goals as goal
 
 pub loop-expr-preserved : goal.loop-expr-preserved

@@ -5,7 +5,8 @@ use Rattle.program_tree.specs.Resolved as resolved
 use Rattle.syntax.specs.Scopes.{keywords_scoped, scoped}
 use Rattle.grammar.specs.Bare as bare
 use Rattle.grammar.specs.TreeView.{keywords, tree_of}
-use Rattle.syntax.proofs.ProgramLemmas.{drop_at, onto_last}
+use Rattle.scopes.proofs.NameLemmas.{drop_at}
+use Rattle.syntax.proofs.ProgramLemmas.{onto_last}
 use Rattle.syntax.proofs.resolver.Resolver.arguments.Goals as goal
 
 pub loop-argument-preserved : goal.loop-argument-preserved

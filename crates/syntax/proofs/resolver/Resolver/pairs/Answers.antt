@@ -6,7 +6,8 @@ use Rattle.program_tree.specs.Resolved.{more_pairs}
 use Rattle.syntax.specs.Scopes.{entries_scoped, scoped}
 use Rattle.grammar.specs.Bare.{more_entries}
 use Rattle.grammar.specs.TreeView.{entries, tree_of}
-use Rattle.syntax.proofs.ProgramLemmas.{drop_at, onto_last}
+use Rattle.scopes.proofs.NameLemmas.{drop_at}
+use Rattle.syntax.proofs.ProgramLemmas.{onto_last}
 use Rattle.syntax.proofs.resolver.Resolver.pairs.Goals as goal
 
 pub loop-pair-preserved : goal.loop-pair-preserved

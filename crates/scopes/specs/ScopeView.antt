@@ -1,0 +1,51 @@
+-- What the program's scopes stand for.
+use Rattle.std.specs.Prelude.{◌≡◌, ℕ, Bool, List, [], ◌∷◌, map, Option, bytes_eq, is_none, ⊤}
+use Rattle.std.specs.List.{list_all}
+use Rattle.std.specs.Map.{lookup}
+use Rattle.std.specs.Option.{option_flatten}
+use Rattle.program_tree.specs.Names.{Name, Scope, once, predeclared, slot_of}
+use Rattle.scopes.specs.declared.levels.BoundName.{BoundName}
+
+-- no predeclared name is bound, wherever that is
+abbrev pub none_predeclared : List Name → Bool
+none_predeclared xs = list_all (λ x. is_none (predeclared x)) xs
+
+-- in a comprehension that binds these names, and behind it
+abbrev pub entered : List Name → Scope → Scope
+entered xs s = record { globals = s.globals; levels = once xs ∷ s.levels }
+
+abbrev pub outer : List (List Name) → List (List Name)
+outer [] = []
+outer (l ∷ ls) = ls
+
+abbrev pub left : Scope → Scope
+left s = record { globals = s.globals; levels = outer s.levels }
+
+-- in a function that binds these names
+abbrev pub in_function : List Name → Scope → Scope
+in_function xs s = record { globals = s.globals; levels = once xs ∷ [] }
+
+-- the slot that a map of names has for one
+abbrev pub found : Name → List (Name × Option ℕ) → Option ℕ
+found x es = option_flatten (lookup (bytes_eq x) es)
+
+-- what it has for each name is the name's slot
+abbrev pub HasSlots : List (Name × Option ℕ) → List (List Name) → Type 0
+HasSlots es ls = (x : Name) → found x es ≡ slot_of x ls
+
+abbrev pub names_in : List BoundName → List Name
+names_in bs = map (λ b. b.name) bs
+
+-- each name of a level has beside it the slot that it has around the level
+abbrev pub KnowsAround : List BoundName → List (List Name) → Type 0
+KnowsAround [] ls = ⊤
+KnowsAround (b ∷ bs) ls = (b.around ≡ slot_of b.name ls) × KnowsAround bs ls
+
+-- and so do those of all levels, the innermost first
+abbrev pub AllKnowAround : List (List BoundName) → Type 0
+AllKnowAround [] = ⊤
+AllKnowAround (l ∷ ls) = KnowsAround l (map names_in ls) × AllKnowAround ls
+
+-- a map and the innermost level belong to one another, inside of these levels
+abbrev pub AreLevel : List (Name × Option ℕ) → List BoundName → List (List Name) → Type 0
+AreLevel es bs ls = HasSlots es (names_in bs ∷ ls) × KnowsAround bs ls

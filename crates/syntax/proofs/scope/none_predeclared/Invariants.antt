@@ -1,6 +1,0 @@
-use Rattle.std.proofs.Common.{◌≡◌, drop}
-use Rattle.syntax.specs.Scopes.{none_predeclared}
-use Rattle.syntax.proofs.scope.none_predeclared.Given as goal
-
-abbrev pub invariant-loop-name : goal.invariant-loop-name
-invariant-loop-name l = none_predeclared l.names ≡ none_predeclared (drop l.name-index l.names)
