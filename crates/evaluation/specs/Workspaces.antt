@@ -8,7 +8,7 @@ use Rattle.lexer.specs.declared.file_kind.FileKind.{FileKind}
 use Rattle.lexer.specs.declared.file_kind.FileKind.TheVariants as kind
 use Rattle.grammar.specs.BareLines.{bare_lines}
 use Rattle.grammar.specs.Blocks.{Block}
-use Rattle.syntax.specs.Files.{syntax}
+use Rattle.file_syntax.specs.Files.{syntax}
 use Rattle.program_tree.specs.Resolved.{Statement, load, Steps, no_steps, step, Program, resolved}
 use Rattle.meaning.specs.Functions.{Files}
 use Rattle.values.specs.declared.ticks.Kind.{Kind}

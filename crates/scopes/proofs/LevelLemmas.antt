@@ -14,8 +14,7 @@ use Rattle.indexmap.specs.IndexSet.{insert_key}
 use Rattle.program_tree.specs.Names.{Name, among, or_else, slot_of, width}
 use Rattle.scopes.specs.ScopeView.{AreLevel, HasSlots, KnowsAround, found, names_in}
 use Rattle.scopes.specs.declared.levels.BoundName.{BoundName}
-use Rattle.scopes.proofs.PlaceLemmas.{before_it, counted, has_place, not_both, same, slot_within}
-use Rattle.scopes.proofs.NameLemmas.{same_name}
+use Rattle.file_syntax.proofs.NamePlaces.{before_it, counted, has_place, not_both, same, same_name, slot_within}
 
 neither : (a b : Bool) → (a || b) ≡ false → (a ≡ false) × (b ≡ false)
 neither true b h = absurd cc

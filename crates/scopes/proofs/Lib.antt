@@ -1,3 +1,2 @@
 pub mod LevelLemmas
 pub mod NameLemmas
-pub mod PlaceLemmas

@@ -8,16 +8,13 @@ use Rattle.std.proofs.lemmas.List.Folds.{list_any-append}
 use Rattle.std.proofs.lemmas.Slice.Eq.{bytes_eq-Decides}
 use Rattle.indexmap.specs.IndexSet.{insert_key, insert_all}
 use Rattle.program_tree.specs.Names.{Name, among, apart, distinct, once, without}
+use Rattle.file_syntax.proofs.NamePlaces.{same_name}
 
 -- a list from a place on
 pub drop_at : {A : Type 0} (xs : List A) (i : ℕ) (x : A) → i < length xs → x ≡ get_or xs i x → drop i xs ≡ x ∷ drop (i + 1) xs
 drop_at xs i x h e =
     let next : suc i ≡ i + 1 = omega (arith) in
     drop-cons xs i x h ∙ ap (λ y. y ∷ drop (suc i) xs) (sym e) ∙ ap (λ n. x ∷ drop n xs) next
-
--- names that are equal, by the test
-pub same_name : (x y : Name) → bytes_eq x y ≡ true → x ≡ y
-same_name x y e = (bytes_eq-Decides x y).0 e
 
 eq_sym : (x y : Name) → bytes_eq x y ≡ bytes_eq y x
 eq_sym x y = one_answer (bytes_eq x y) (bytes_eq y x) (bytes_eq-Decides x y) ((λ e. sym ((bytes_eq-Decides y x).0 e)), λ p. (bytes_eq-Decides y x).1 (sym p))

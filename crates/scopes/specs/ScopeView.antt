@@ -1,14 +1,9 @@
 -- What the program's scopes stand for.
-use Rattle.std.specs.Prelude.{◌≡◌, ℕ, Bool, List, [], ◌∷◌, map, Option, bytes_eq, is_none, ⊤}
-use Rattle.std.specs.List.{list_all}
+use Rattle.std.specs.Prelude.{◌≡◌, ℕ, List, [], ◌∷◌, map, Option, bytes_eq, ⊤}
 use Rattle.std.specs.Map.{lookup}
 use Rattle.std.specs.Option.{option_flatten}
-use Rattle.program_tree.specs.Names.{Name, Scope, once, predeclared, slot_of}
+use Rattle.program_tree.specs.Names.{Name, Scope, once, slot_of}
 use Rattle.scopes.specs.declared.levels.BoundName.{BoundName}
-
--- no predeclared name is bound, wherever that is
-abbrev pub none_predeclared : List Name → Bool
-none_predeclared xs = list_all (λ x. is_none (predeclared x)) xs
 
 -- in a comprehension that binds these names, and behind it
 abbrev pub entered : List Name → Scope → Scope

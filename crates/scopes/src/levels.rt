@@ -4,7 +4,7 @@ ghost use Rattle.std.specs.Prelude.{◌≡◌, ◌∷◌, [], List, IfOk, OnOk, 
 ghost use Rattle.std.specs.Map.{set_value};
 ghost use Rattle.indexmap.specs.IndexSet.{insert_key};
 ghost use Rattle.program_tree.specs.Names.{Name as OfName, once, slot_of, width};
-ghost use Rattle.scopes.specs.ScopeView.{AreLevel, HasSlots, KnowsAround, names_in, outer};
+ghost use Rattle.scopes.specs.ScopeView.{AreLevel, HasSlots, names_in, outer};
 
 use grammar::Name;
 use indexmap::IndexMap;

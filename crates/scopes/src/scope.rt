@@ -1,9 +1,9 @@
 //! What is in scope: the names of the top level, of a function and of the comprehensions in it.
 
-ghost use Rattle.std.specs.Prelude.{◌≡◌, ◌&&◌, ◌++◌, ◌∷◌, [], ℕ, List, IfOk, OnOk, is_none, true};
+ghost use Rattle.std.specs.Prelude.{◌≡◌, ◌&&◌, ◌++◌, [], ℕ, List, IfOk, OnOk, is_none, true};
 ghost use Rattle.program_tree.specs.Names.{among, apart, distinct, once, predeclared, stands_for, width};
 ghost use Rattle.program_tree.specs.Resolved.{binding_of, global_of};
-ghost use Rattle.scopes.specs.ScopeView.{none_predeclared};
+ghost use Rattle.file_syntax.specs.Scopes.{none_predeclared};
 ghost use Rattle.scopes.specs.ScopeView.{entered, in_function, left};
 
 use crate::levels::Levels;

@@ -1,15 +1,12 @@
 -- The rules of the top level, line by line.
-use Rattle.std.proofs.Common.{◌≡◌, ℕ, Bool, true, false, not, ◌&&◌, ◌||◌, List, [], ◌∷◌, ◌++◌, Option, Some, None, refl, sym, ap, ◌∙◌, subst, if◌then◌else◌}
+use Rattle.std.proofs.Common.{◌≡◌, ℕ, Bool, true, false, not, ◌&&◌, ◌||◌, List, [], ◌∷◌, ◌++◌, Option, Some, None, refl, sym, ap, ◌∙◌}
 use Rattle.std.specs.Prelude.{bytes_eq}
-use Rattle.std.specs.Bool.{one_answer}
 use Rattle.std.proofs.lemmas.List.Folds.{list_any-append}
-use Rattle.std.proofs.lemmas.Slice.Eq.{bytes_eq-Decides}
-use Rattle.indexmap.specs.IndexSet.{insert_key, insert_all}
-use Rattle.program_tree.specs.Names.{Name, Scope, or_else, among, apart, distinct, once, without}
+use Rattle.program_tree.specs.Names.{Name, Scope, or_else, among, apart, distinct}
 use Rattle.grammar.specs.BareLines.{Form, Lines, no_lines, a_line}
 use Rattle.program_tree.specs.Names.{form_binds, scope_of}
 use Rattle.syntax.specs.Resolves.{binds_anew}
-use Rattle.syntax.specs.Scopes.{adds_to_name, line_scoped, lines_fault, top_fault, top_line_scoped, unless}
+use Rattle.file_syntax.specs.Scopes.{adds_to_name, line_scoped, lines_fault, top_fault, top_line_scoped, unless}
 
 -- the rules of the top level look only at which names were bound before
 apart_same : (b c : List Name) → ((x : Name) → among x b ≡ among x c) → (xs : List Name) → apart xs b ≡ apart xs c

@@ -1,6 +1,1 @@
-pub mod Scopes
-pub mod Files
-pub mod FirstFault
-pub mod ProgramDepth
-pub mod IsProgram
 pub mod Resolves

@@ -26,8 +26,8 @@ use Rattle.program_tree.specs.ProgramView as view
 use Rattle.program_tree.specs.Resolved as resolved
 use Rattle.program_tree.specs.Resolved.{Made, Steps, own_slots, steps_of}
 use Rattle.program_tree.specs.declared.program.OwnSlots.{OwnSlots}
-use Rattle.scopes.specs.ScopeView.{none_predeclared}
-use Rattle.syntax.specs.Scopes.{adds_to_name, line_scoped, lines_fault, rest_scoped, scoped, unless}
+use Rattle.file_syntax.specs.Scopes.{none_predeclared}
+use Rattle.file_syntax.specs.Scopes.{adds_to_name, line_scoped, lines_fault, rest_scoped, scoped, unless}
 use Rattle.scopes.specs.ScopeView.{entered}
 
 -- the expression of the first clause of a comprehension

@@ -12,8 +12,8 @@ ghost use Rattle.program_tree.specs.ProgramView.{terms_onto};
 ghost use Rattle.program_tree.specs.Resolved as resolved;
 ghost use Rattle.program_tree.specs.Resolved.{Terms, defaults, global_of, with_default};
 ghost use Rattle.syntax.specs.Resolves.{Gives, GivesHead, GivesTerm, Keeps};
-ghost use Rattle.scopes.specs.ScopeView.{none_predeclared};
-ghost use Rattle.syntax.specs.Scopes.{defaults_last, form_scoped, line_scoped, param_scoped, scoped};
+ghost use Rattle.file_syntax.specs.Scopes.{none_predeclared};
+ghost use Rattle.file_syntax.specs.Scopes.{defaults_last, form_scoped, line_scoped, param_scoped, scoped};
 
 use crate::resolver::{Unresolved, bindings, resolve};
 use grammar::{Expr, Form, Item, MAX_DEPTH, Name, Param};

@@ -7,7 +7,6 @@
 //! five.
 #![tactic(auto)]
 
-pub mod file_laws;
 mod heads;
 mod parsing;
 mod resolver;

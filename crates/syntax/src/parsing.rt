@@ -3,10 +3,10 @@
 ghost use Rattle.std.specs.Prelude.{◌≡◌, IfOk, Ok, Err};
 ghost use Rattle.grammar.specs.BareLines.{bare_lines};
 ghost use Rattle.grammar.specs.Blocks.{Block};
-ghost use Rattle.syntax.specs.Files.{syntax};
-ghost use Rattle.syntax.specs.IsProgram.{IsProgram};
+ghost use Rattle.file_syntax.specs.Files.{syntax};
+ghost use Rattle.file_syntax.specs.IsProgram.{IsProgram};
 ghost use Rattle.program_tree.specs.ParsedView.{program_of};
-ghost use Rattle.syntax.specs.ProgramDepth.{IsShallow};
+ghost use Rattle.file_syntax.specs.ProgramDepth.{IsShallow};
 ghost use Rattle.program_tree.specs.ProgramView as view;
 ghost use Rattle.program_tree.specs.Resolved.{program, resolved};
 

@@ -12,7 +12,7 @@ ghost use Rattle.program_tree.specs.ProgramView.{rounds_onto};
 ghost use Rattle.program_tree.specs.Resolved as resolved;
 ghost use Rattle.program_tree.specs.Resolved.{binding_of};
 ghost use Rattle.syntax.specs.Resolves.{Enters, Gives, GivesBoxed, GivesTerm, ResolvesInside, boxed_term, first_scoped, first_tree, others_scoped};
-ghost use Rattle.syntax.specs.Scopes.{entries_scoped, keyword_names, keywords_scoped, rest_scoped, scoped, trees_scoped};
+ghost use Rattle.file_syntax.specs.Scopes.{entries_scoped, keyword_names, keywords_scoped, rest_scoped, scoped, trees_scoped};
 ghost use Rattle.grammar.specs.TreeView.{clause_of, entries, entry_of, keyword_of, keywords, operator_seen, rests, sign_seen, tree_of, trees};
 
 use grammar::{Clause, Entry, Expr, Keyword, Name, Operator, Sign};

@@ -11,7 +11,7 @@ ghost use Rattle.program_tree.specs.ProgramView as view;
 ghost use Rattle.program_tree.specs.Resolved as resolved;
 ghost use Rattle.program_tree.specs.Resolved.{Branches, begun, head, next_number, no_steps, steps_of, with_line, with_number};
 ghost use Rattle.syntax.specs.Resolves.{FollowsOn, IsLater, IsOwn, Places, PlacesSteps, back, before_lines, behind_seen, head_seen, own_fault};
-ghost use Rattle.syntax.specs.Scopes.{line_scoped, lines_fault, top_fault, unless};
+ghost use Rattle.file_syntax.specs.Scopes.{line_scoped, lines_fault, top_fault, unless};
 
 use crate::heads::{Head, line_head};
 use crate::resolver::Unresolved;

@@ -7,7 +7,7 @@ ghost use Rattle.grammar.specs.LineView.{form_of, line_of};
 ghost use Rattle.grammar.specs.declared.statements.Line.{out-Line};
 ghost use Rattle.program_tree.specs.Names.{Scope as Around, among, file_scope, form_binds, loads_bind, or_else};
 ghost use Rattle.syntax.specs.Resolves.{binds_anew};
-ghost use Rattle.syntax.specs.Scopes.{adds_to_name, lines_fault, top_fault};
+ghost use Rattle.file_syntax.specs.Scopes.{adds_to_name, lines_fault, top_fault};
 
 use grammar::{Form, Line, Name};
 use indexmap::IndexSet;

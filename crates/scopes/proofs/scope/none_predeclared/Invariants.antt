@@ -1,5 +1,5 @@
 use Rattle.std.proofs.Common.{◌≡◌, drop}
-use Rattle.scopes.specs.ScopeView.{none_predeclared}
+use Rattle.file_syntax.specs.Scopes.{none_predeclared}
 use Rattle.scopes.proofs.scope.none_predeclared.Given as goal
 
 abbrev pub invariant-loop-name : goal.invariant-loop-name

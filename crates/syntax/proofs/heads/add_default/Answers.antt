@@ -3,7 +3,7 @@ use Rattle.grammar.specs.LineView.{param_of}
 use Rattle.program_tree.specs.ProgramView as view
 use Rattle.program_tree.specs.ProgramView.{terms_onto}
 use Rattle.program_tree.specs.Resolved.{more_terms, with_default}
-use Rattle.syntax.specs.Scopes.{param_scoped}
+use Rattle.file_syntax.specs.Scopes.{param_scoped}
 use Rattle.syntax.proofs.ProgramLemmas.{onto_last}
 use Rattle.syntax.proofs.heads.add_default.Goals as goal
 

@@ -4,7 +4,7 @@ use Rattle.grammar.specs.LineView.{param_of}
 use Rattle.program_tree.specs.ProgramView as view
 use Rattle.program_tree.specs.ProgramView.{terms_onto}
 use Rattle.program_tree.specs.Resolved.{defaults}
-use Rattle.syntax.specs.Scopes.{param_scoped}
+use Rattle.file_syntax.specs.Scopes.{param_scoped}
 use Rattle.syntax.proofs.heads.defaults.Given as goal
 
 -- what is left breaks no rule where all breaks none, and stands behind what was resolved

@@ -1,7 +1,7 @@
 use Rattle.std.proofs.Common.{◌≡◌, drop, map, if◌then◌else◌}
 use Rattle.std.specs.List.{list_all}
 use Rattle.grammar.specs.LineView.{param_of}
-use Rattle.syntax.specs.Scopes.{defaults_last, has_default}
+use Rattle.file_syntax.specs.Scopes.{defaults_last, has_default}
 use Rattle.syntax.proofs.heads.defaults_last.Given as goal
 
 abbrev pub invariant-loop-param : goal.invariant-loop-param

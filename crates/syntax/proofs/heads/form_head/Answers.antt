@@ -2,7 +2,7 @@ use Rattle.std.proofs.Common.{◌∙◌, ap, map, refl, sym}
 use Rattle.grammar.specs.LineView.{form_of, item_of}
 use Rattle.program_tree.specs.Resolved as resolved
 use Rattle.program_tree.specs.Resolved.{global_of}
-use Rattle.syntax.specs.Scopes.{form_scoped}
+use Rattle.file_syntax.specs.Scopes.{form_scoped}
 use Rattle.syntax.proofs.heads.form_head.Goals as goal
 
 pub returns-in_ok-made-in-Load : goal.returns-in_ok-made-in-Load

@@ -1,6 +1,6 @@
 use Rattle.std.proofs.Common.{◌≡◌, drop, map}
 use Rattle.grammar.specs.LineView.{item_of}
-use Rattle.scopes.specs.ScopeView.{none_predeclared}
+use Rattle.file_syntax.specs.Scopes.{none_predeclared}
 use Rattle.syntax.proofs.heads.items_are_free.Given as goal
 
 abbrev pub invariant-loop-item : goal.invariant-loop-item

@@ -1,13 +1,13 @@
 use Rattle.std.proofs.Common.{◌≡◌, Ok}
 use Rattle.grammar.specs.Blocks.{Block}
 use Rattle.grammar.specs.BareLines.{bare_lines}
-use Rattle.syntax.specs.Files.{syntax}
-use Rattle.syntax.specs.IsProgram.{IsProgram}
+use Rattle.file_syntax.specs.Files.{syntax}
+use Rattle.file_syntax.specs.IsProgram.{IsProgram}
 use Rattle.program_tree.specs.ParsedView.{program_of}
-use Rattle.syntax.specs.ProgramDepth.{IsShallow}
+use Rattle.file_syntax.specs.ProgramDepth.{IsShallow}
 use Rattle.program_tree.specs.Resolved.{resolved}
-use Rattle.syntax.proofs.FileDepths.{program_shallow}
-use Rattle.syntax.proofs.FileRanges.{program_is}
+use Rattle.file_syntax.proofs.FileDepths.{program_shallow}
+use Rattle.file_syntax.proofs.FileRanges.{program_is}
 use Rattle.syntax.proofs.ProgramLemmas.{if_ok_then}
 use Rattle.syntax.proofs.parsing.parse.Goals as goal
 

@@ -1,5 +1,5 @@
 use Rattle.std.proofs.Common.{◌≡◌, ◌++◌, drop}
-use Rattle.syntax.specs.Scopes.{keyword_names}
+use Rattle.file_syntax.specs.Scopes.{keyword_names}
 use Rattle.grammar.specs.TreeView.{keywords}
 use Rattle.syntax.proofs.resolver.argument_names.Given as goal
 

@@ -2,7 +2,7 @@ use Rattle.std.proofs.Common.{◌≡◌, ◌<◌, List, [], ◌∷◌, length, r
 use Rattle.grammar.specs.declared.tree.Keyword.{Keyword}
 use Rattle.grammar.specs.TreeView.{keywords}
 use Rattle.program_tree.specs.Names.{distinct}
-use Rattle.syntax.specs.Scopes.{keyword_names}
+use Rattle.file_syntax.specs.Scopes.{keyword_names}
 use Rattle.syntax.proofs.resolver.names_differ.Goals as goal
 
 few_differ : (ks : List Keyword) → length ks < 2 → true ≡ distinct (keyword_names (keywords ks))

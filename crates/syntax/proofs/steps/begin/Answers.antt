@@ -1,7 +1,7 @@
 use Rattle.std.proofs.Common.{◌∙◌, ap, reverse}
 use Rattle.program_tree.specs.ProgramView as view
 use Rattle.program_tree.specs.Resolved as resolved
-use Rattle.program_tree.specs.Resolved.{Steps, Made, begun}
+use Rattle.program_tree.specs.Resolved.{Steps, begun}
 use Rattle.syntax.proofs.steps.begin.Goals as goal
 
 pub returns : goal.returns

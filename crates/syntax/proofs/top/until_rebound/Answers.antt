@@ -6,7 +6,7 @@ use Rattle.grammar.specs.BareLines.{Lines, a_line, no_lines}
 use Rattle.grammar.specs.LineView.{form_of, line_of, lines}
 use Rattle.program_tree.specs.Names.{Scope, or_else, scope_of}
 use Rattle.program_tree.specs.ProgramView.{onto}
-use Rattle.syntax.specs.Scopes.{line_scoped, lines_fault, top_fault, unless}
+use Rattle.file_syntax.specs.Scopes.{line_scoped, lines_fault, top_fault, unless}
 use Rattle.syntax.proofs.ProgramLemmas.{lines_onto, onto_last, take_whole}
 use Rattle.scopes.proofs.NameLemmas.{append_none}
 use Rattle.syntax.proofs.ScopeLemmas.{or_line, top_bound, top_rebound}

@@ -3,7 +3,7 @@ use Rattle.grammar.specs.BareLines.{Lines, no_lines}
 use Rattle.grammar.specs.LineView.{line_of, lines}
 use Rattle.program_tree.specs.Names.{Scope, or_else}
 use Rattle.program_tree.specs.ProgramView.{onto}
-use Rattle.syntax.specs.Scopes.{lines_fault, top_fault}
+use Rattle.file_syntax.specs.Scopes.{lines_fault, top_fault}
 use Rattle.syntax.proofs.top.until_rebound.Given as goal
 
 -- the lines before this one break no rule of the top level, so that only the rules of functions are left for them; and

@@ -2,7 +2,7 @@ use Rattle.std.proofs.Common.{arith, ◌&&◌, ◌+◌, ◌∙◌, ap, drop, map
 use Rattle.program_tree.specs.ProgramView as view
 use Rattle.program_tree.specs.ProgramView.{rounds_onto}
 use Rattle.program_tree.specs.Resolved as resolved
-use Rattle.syntax.specs.Scopes.{rest_scoped, scoped}
+use Rattle.file_syntax.specs.Scopes.{rest_scoped, scoped}
 use Rattle.grammar.specs.TreeView.{clause_of, rests, tree_of}
 use Rattle.std.specs.Prelude.{Some, option_map}
 use Rattle.scopes.proofs.NameLemmas.{drop_at}

@@ -2,7 +2,7 @@ use Rattle.std.proofs.Common.{arith, ◌&&◌, ◌+◌, ◌∙◌, ap, drop, map
 use Rattle.program_tree.specs.ProgramView as view
 use Rattle.program_tree.specs.ProgramView.{terms_onto}
 use Rattle.program_tree.specs.Resolved as resolved
-use Rattle.syntax.specs.Scopes.{scoped, trees_scoped}
+use Rattle.file_syntax.specs.Scopes.{scoped, trees_scoped}
 use Rattle.grammar.specs.TreeView.{tree_of, trees}
 use Rattle.scopes.proofs.NameLemmas.{drop_at}
 use Rattle.syntax.proofs.ProgramLemmas.{onto_last}

@@ -2,7 +2,7 @@ use Rattle.std.proofs.Common.{◌≡◌, drop, map}
 use Rattle.program_tree.specs.ProgramView as view
 use Rattle.program_tree.specs.ProgramView.{terms_onto}
 use Rattle.program_tree.specs.Resolved as resolved
-use Rattle.syntax.specs.Scopes.{trees_scoped}
+use Rattle.file_syntax.specs.Scopes.{trees_scoped}
 use Rattle.grammar.specs.TreeView.{trees}
 use Rattle.syntax.proofs.resolver.Resolver.all.Given as goal
 

@@ -2,7 +2,7 @@ use Rattle.std.proofs.Common.{arith, ◌&&◌, ◌+◌, ◌∙◌, ap, drop, map
 use Rattle.program_tree.specs.ProgramView as view
 use Rattle.program_tree.specs.ProgramView.{keywords_onto}
 use Rattle.program_tree.specs.Resolved as resolved
-use Rattle.syntax.specs.Scopes.{keywords_scoped, scoped}
+use Rattle.file_syntax.specs.Scopes.{keywords_scoped, scoped}
 use Rattle.grammar.specs.Bare as bare
 use Rattle.grammar.specs.TreeView.{keywords, tree_of}
 use Rattle.scopes.proofs.NameLemmas.{drop_at}

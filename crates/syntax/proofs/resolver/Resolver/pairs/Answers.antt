@@ -3,7 +3,7 @@ use Rattle.program_tree.specs.ProgramView as view
 use Rattle.program_tree.specs.ProgramView.{pairs_onto}
 use Rattle.program_tree.specs.Resolved as resolved
 use Rattle.program_tree.specs.Resolved.{more_pairs}
-use Rattle.syntax.specs.Scopes.{entries_scoped, scoped}
+use Rattle.file_syntax.specs.Scopes.{entries_scoped, scoped}
 use Rattle.grammar.specs.Bare.{more_entries}
 use Rattle.grammar.specs.TreeView.{entries, tree_of}
 use Rattle.scopes.proofs.NameLemmas.{drop_at}

@@ -2,7 +2,7 @@ use Rattle.std.proofs.Common.{◌≡◌, drop, map}
 use Rattle.program_tree.specs.ProgramView as view
 use Rattle.program_tree.specs.ProgramView.{pairs_onto}
 use Rattle.program_tree.specs.Resolved as resolved
-use Rattle.syntax.specs.Scopes.{entries_scoped}
+use Rattle.file_syntax.specs.Scopes.{entries_scoped}
 use Rattle.grammar.specs.TreeView.{entries}
 use Rattle.syntax.proofs.resolver.Resolver.pairs.Given as goal
 

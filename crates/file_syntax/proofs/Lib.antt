@@ -1,0 +1,14 @@
+pub mod BlocksNested
+pub mod FaultLaws
+pub mod FileDepths
+pub mod FileLaws
+pub mod FileRanges
+pub mod FileRows
+pub mod LineRanges
+pub mod LoadNumbers
+pub mod NamePlaces
+pub mod OwnPlaces
+pub mod ProgramDepths
+pub mod TermRanges
+pub mod TokensFit
+pub mod WellFormed

@@ -1,0 +1,72 @@
+//! Laws of the trees of files, and of their faults.
+
+ghost use Rattle.std.specs.Prelude.{◌≡◌, ◌≤◌, ◌↔◌, ◌∷◌, ◌++◌, ℕ, List, Some, Ok, Err, bytes_eq, length, map, position, true};
+ghost use Rattle.grammar.specs.Blocks.{Block};
+ghost use Rattle.grammar.specs.BareLines.{Lines, Param, bare_lines};
+ghost use Rattle.grammar.specs.BareDepth.{lines_depth};
+ghost use Rattle.file_syntax.specs.Files.{IsFile, syntax};
+ghost use Rattle.file_syntax.specs.FirstFault.{IsFault};
+ghost use Rattle.file_syntax.specs.IsProgram.{IsProgram};
+ghost use Rattle.file_syntax.specs.ProgramDepth.{IsShallow};
+ghost use Rattle.program_tree.specs.Names.{Name, Scope, distinct, function_scope, param_name, slot_of, stands_for};
+ghost use Rattle.program_tree.specs.Resolved.{resolved};
+ghost use Rattle.program_tree.specs.declared.names.Binding.TheVariants.{Slot as slot};
+
+use lexer::{FileKind, SyntaxFault};
+
+/// The five passes give a tree exactly where it is that of the text.
+pub fn trees_are_those_of_the_text()
+    ensures { (text : List ℕ) (kind : FileKind) (tree : Block)
+        → (syntax text kind ≡ Ok tree) ↔ IsFile text kind tree }
+{}
+
+/// A text has at most one tree of a kind.
+pub fn texts_have_one_tree()
+    ensures { (text : List ℕ) (kind : FileKind) (t u : Block) → IsFile text kind t
+        → IsFile text kind u → t ≡ u }
+{}
+
+/// A text has a fault exactly where it has no tree.
+pub fn faults_stand_where_no_tree_is()
+    ensures refused { (text : List ℕ) (kind : FileKind) (f : SyntaxFault) (tree : Block)
+        → syntax text kind ≡ Err f → ¬ IsFile text kind tree }
+    ensures found { (text : List ℕ) (kind : FileKind) → ((tree : Block) → ¬ IsFile text kind tree)
+        → (f : SyntaxFault) × (syntax text kind ≡ Err f) }
+{}
+
+/// A fault that the five passes give is the first fault of the text: that of the first pass that finds one, at the first
+/// line where it does. A text has no other fault.
+pub fn faults_are_the_first()
+    ensures { (text : List ℕ) (kind : FileKind) (f : SyntaxFault)
+        → (syntax text kind ≡ Err f) ↔ IsFault text kind f }
+{}
+
+/// With its names resolved, each file is shallow and a program: whatever reads one can rely on it.
+pub fn files_are_programs()
+    ensures shallow { (text : List ℕ) (kind : FileKind) (tree : Block) → syntax text kind ≡ Ok tree
+        → IsShallow (resolved (bare_lines tree)) }
+    ensures fits { (text : List ℕ) (kind : FileKind) (tree : Block) → syntax text kind ≡ Ok tree
+        → IsProgram (resolved (bare_lines tree)) }
+{}
+
+/// In a file no expression is more than 200 deep.
+pub fn trees_are_shallow()
+    ensures { (text : List ℕ) (kind : FileKind) (tree : Block) → IsFile text kind tree
+        → lines_depth (bare_lines tree) ≤ 200 }
+{}
+
+/// Two names of one scope stand for two places: no slot and no number is that of two names.
+pub fn names_have_places_of_their_own()
+    ensures slots { (s : Scope) (x y : Name) (k : ℕ) → slot_of x s.levels ≡ Some k
+        → slot_of y s.levels ≡ Some k → x ≡ y }
+    ensures globals { (s : Scope) (x y : Name) (k : ℕ) → position (bytes_eq x) s.globals ≡ Some k
+        → position (bytes_eq y) s.globals ≡ Some k → x ≡ y }
+{}
+
+/// In a function whose parameters are distinct, as many slots come before that of a parameter as there are parameters
+/// before it.
+pub fn parameters_have_the_first_slots()
+    ensures { (s : Scope) (ps : List Param) (inner : Lines) (front behind : List Name) (x : Name)
+        → distinct (map param_name ps) ≡ true → map param_name ps ≡ front ++ x ∷ behind
+        → stands_for (function_scope s ps inner) x ≡ Some (slot (length front)) }
+{}

@@ -1,5 +1,0 @@
-use Rattle.syntax.proofs.FaultLaws.{fault_is, fault_as}
-use Rattle.syntax.proofs.file_laws.faults_are_the_first.Goals as goal
-
-pub returns : goal.returns
-returns c text kind f = (fault_is text kind f, fault_as text kind f)

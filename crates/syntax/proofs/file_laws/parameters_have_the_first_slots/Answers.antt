@@ -1,5 +1,0 @@
-use Rattle.syntax.proofs.OwnPlaces.{first_slots}
-use Rattle.syntax.proofs.file_laws.parameters_have_the_first_slots.Goals as goal
-
-pub returns : goal.returns
-returns c = first_slots
