@@ -1,6 +1,7 @@
 -- The lines that are put into blocks, as the program has them.
 use Rattle.std.specs.Prelude.{List, map, reverse}
-use Rattle.grammar.specs.LineView.{form_of, lines}
+use Rattle.grammar.specs.LineView.{form_of, lines_of}
+use Rattle.grammar.specs.BareLines.{Lines}
 use Rattle.grammar.specs.Built as built
 use Rattle.statements.specs.declared.blocks.Body.{Body}
 use Rattle.statements.specs.declared.blocks.Body.TheVariants.{Nothing, Block, Statement}
@@ -16,9 +17,9 @@ abbrev pub read_of : Read → built.Made
 read_of r = record { number = r.number; column = r.column; form = form_of r.form; body = body_of r.body }
 
 -- a block has its last line first
-abbrev pub pending_of : Pending → built.Pending
-pending_of p = record { column = p.column; lines = lines (reverse p.lines.items) }
+abbrev pub pending_of : {L : Type 0} → (L → Lines → Lines) → Pending L → built.Pending
+pending_of seen p = record { column = p.column; lines = lines_of (map seen (reverse p.lines.items)) }
 
 -- the innermost block is the last
-abbrev pub pendings : List Pending → List built.Pending
-pendings ps = map pending_of (reverse ps)
+abbrev pub pendings : {L : Type 0} → (L → Lines → Lines) → List (Pending L) → List built.Pending
+pendings seen ps = map (pending_of seen) (reverse ps)

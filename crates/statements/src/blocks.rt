@@ -1,7 +1,8 @@
 //! The blocks of a file: its lines are put into the blocks of their heads, from the last line to the first.
 
 ghost use Rattle.std.specs.Prelude.{◌≡◌, ◌∷◌, List, [], map, IfOk};
-ghost use Rattle.grammar.specs.LineView.{line_of, lines};
+ghost use Rattle.grammar.specs.BareLines.{Lines};
+ghost use Rattle.grammar.specs.LineView.{line_of, lines, lines_of};
 ghost use Rattle.grammar.specs.Built.{around, attached, built, inner_of, innermost, left_by, put};
 ghost use Rattle.statements.specs.BuiltView.{body_of, pendings, read_of};
 
@@ -28,17 +29,20 @@ pub(crate) struct Read<'t> {
     pub(crate) body: Body<'t>,
 }
 
-/// The lines of a block, the last one first, of which those before them aren't known yet.
+/// The lines of a block, the last one first, of which those before them aren't known yet. It doesn't matter here what a
+/// line is.
 #[derive(Drop)]
-struct Pending<'t> {
+struct Pending<L> {
     column: usize,
-    lines: Vec<Line<'t>>,
+    lines: Vec<L>,
 }
 
 /// The lines of the innermost block, from the first to the last.
-fn take_block<'t>(alloc: Global, blocks: &mut Vec<Pending<'t>>) -> Vec<Line<'t>>
-    ensures lines { lines result.items ≡ innermost (pendings blocks.old.items) }
-    ensures around { pendings blocks.new.items ≡ around (pendings blocks.old.items) }
+fn take_block<L: Drop>(alloc: Global, blocks: &mut Vec<Pending<L>>) -> Vec<L>
+    ensures lines { (seen : L → Lines → Lines) → lines_of (map seen result.items)
+        ≡ innermost (pendings seen blocks.old.items) }
+    ensures around { (seen : L → Lines → Lines) → pendings seen blocks.new.items
+        ≡ around (pendings seen blocks.old.items) }
 {
     match blocks.pop() {
         Some(innermost) => {
@@ -51,8 +55,8 @@ fn take_block<'t>(alloc: Global, blocks: &mut Vec<Pending<'t>>) -> Vec<Line<'t>>
 }
 
 /// A block of which the last line is known.
-fn begun<'t>(alloc: Global, column: usize, line: Line<'t>) -> Result<Pending<'t>, AllocError>
-    ensures { IfOk result (λ p. (p.column ≡ column) × (p.lines.items ≡ line.entry ∷ [])) }
+fn begun<L: Drop>(alloc: Global, column: usize, line: L) -> Result<Pending<L>, AllocError>
+    ensures { IfOk result (λ p. (p.column ≡ column) × (p.lines.items ≡ line ∷ [])) }
 {
     let mut lines = Vec::with_capacity(alloc, 1)?;
     lines.push(line)?;
@@ -60,14 +64,14 @@ fn begun<'t>(alloc: Global, column: usize, line: Line<'t>) -> Result<Pending<'t>
 }
 
 /// Puts a line before those of its column.
-fn put<'t>(
+fn put<L: Drop>(
     alloc: Global,
-    blocks: &mut Vec<Pending<'t>>,
+    blocks: &mut Vec<Pending<L>>,
     column: usize,
-    line: Line<'t>,
+    line: L,
 ) -> Result<(), AllocError>
-    ensures { IfOk result (λ _. pendings blocks.new.items
-        ≡ put column (line_of line.entry) (pendings blocks.old.items)) }
+    ensures { IfOk result (λ _. (seen : L → Lines → Lines) → pendings seen blocks.new.items
+        ≡ put column (seen line) (pendings seen blocks.old.items)) }
 {
     match blocks.pop() {
         Some(mut innermost) => {
@@ -89,12 +93,12 @@ fn block_of<'t>(
     alloc: Global,
     number: usize,
     body: Body<'t>,
-    blocks: &mut Vec<Pending<'t>>,
+    blocks: &mut Vec<Pending<Line<'t>>>,
 ) -> Result<Vec<Line<'t>>, AllocError>
     ensures lines { IfOk result (λ ls. lines ls.items
-        ≡ inner_of number (body_of body.entry) (pendings blocks.old.items)) }
-    ensures left { IfOk result (λ _. pendings blocks.new.items
-        ≡ left_by (body_of body.entry) (pendings blocks.old.items)) }
+        ≡ inner_of number (body_of body.entry) (pendings line_of blocks.old.items)) }
+    ensures left { IfOk result (λ _. pendings line_of blocks.new.items
+        ≡ left_by (body_of body.entry) (pendings line_of blocks.old.items)) }
 {
     match body {
         Body::Nothing => Ok(Vec::new(alloc)),
@@ -114,11 +118,11 @@ fn block_of<'t>(
 /// Puts a line before those behind it, with what belongs to it.
 fn attach<'t>(
     alloc: Global,
-    blocks: &mut Vec<Pending<'t>>,
+    blocks: &mut Vec<Pending<Line<'t>>>,
     read: Read<'t>,
 ) -> Result<(), AllocError>
-    ensures { IfOk result (λ _. pendings blocks.new.items
-        ≡ attached (read_of read.entry) (pendings blocks.old.items)) }
+    ensures { IfOk result (λ _. pendings line_of blocks.new.items
+        ≡ attached (read_of read.entry) (pendings line_of blocks.old.items)) }
 {
     let Read {
         number,

@@ -66,12 +66,12 @@ fn increased<'t>(target: Part<'t>, value: Expr<'t>) -> Result<Form<'t>, Stop>
     }
 }
 
-/// A form, where nothing is left of the line.
-fn alone<'t>(ahead: &Ahead<'_, 't>, form: Form<'t>) -> Result<Form<'t>, Stop>
-    ensures { Makes form_of (given (is_done ahead.now) (form_of form.entry)) result }
+/// What is made of a line, where nothing is left of it.
+fn alone<F: Drop>(ahead: &Ahead<'_, '_>, made: F) -> Result<F, Stop>
+    ensures { (seen : F → bare.Form) → Makes seen (given (is_done ahead.now) (seen made)) result }
 {
     if ahead.is_done() {
-        Ok(form)
+        Ok(made)
     } else {
         Err(Stop::NoForm)
     }

@@ -82,11 +82,11 @@ fn start_of(tokens: &[Token]) -> (usize, usize)
     }
 }
 
-/// A line with its outline, which has no form where the line has none.
+/// The outline of a line with what was read of it, which is nothing where the line has no form.
 #[derive(Drop)]
-struct LineRead<'t> {
+struct LineRead<R> {
     outline: Outline,
-    read: Option<Read<'t>>,
+    read: Option<R>,
 }
 
 /// What is read of a line that begins there.
@@ -95,7 +95,7 @@ fn with_start<'t>(
     column: usize,
     form: Option<(Form<'t>, Body<'t>)>,
     is_text: bool,
-) -> LineRead<'t>
+) -> LineRead<Read<'t>>
     ensures outline { result.outline ≡ record {
       line = number;
       column = column;
@@ -142,7 +142,7 @@ fn read_line<'t>(
     alloc: Global,
     lines: &Lines<'t>,
     tokens: &[Token],
-) -> Result<LineRead<'t>, NoMemory>
+) -> Result<LineRead<Read<'t>>, NoMemory>
     ensures outline { IfOk result (λ r. r.outline
         ≡ outline_read (laid (map (seen lines.now.text) tokens.now))) }
     ensures read { IfOk result (λ r. option_map read_of r.read
@@ -153,22 +153,21 @@ fn read_line<'t>(
     Ok(with_start(number, column, form, is_text(tokens)))
 }
 
-/// What was read of the lines of a text: the outlines of all, and those that have a form.
+/// What was read of the lines of a text: the outlines of all, and what was read of those that have a form.
 #[derive(Drop)]
-struct LinesRead<'t> {
+struct LinesRead<R> {
     outlines: Vec<Outline>,
-    reads: Vec<Read<'t>>,
+    reads: Vec<R>,
 }
 
-impl<'t> LinesRead<'t> {
+impl<R: Drop> LinesRead<R> {
     /// Adds a line.
-    fn add(&mut self, line: LineRead<'t>) -> Result<(), AllocError>
+    fn add(&mut self, line: LineRead<R>) -> Result<(), AllocError>
         ensures outlines { OnOk result (self.new.outlines.items
-            ≡ self.old.outlines.items ++ line.entry.outline ∷ []) }
-        ensures reads { OnOk result ((ms : List Made)
-            → map read_of self.new.reads.items ++ ms
-            ≡ map read_of self.old.reads.items
-            ++ cons_option (option_map read_of line.entry.read) ms) }
+            ≡ self.old.outlines.items ++ line.outline ∷ []) }
+        ensures reads { OnOk result ((seen : R → Made) (ms : List Made)
+            → map seen self.new.reads.items ++ ms
+            ≡ map seen self.old.reads.items ++ cons_option (option_map seen line.read) ms) }
     {
         self.outlines.push(line.outline)?;
         if let Some(read) = line.read {
@@ -179,7 +178,7 @@ impl<'t> LinesRead<'t> {
 }
 
 /// Reads each line of a text.
-fn read_lines<'t>(alloc: Global, lines: &Lines<'t>) -> Result<LinesRead<'t>, NoMemory>
+fn read_lines<'t>(alloc: Global, lines: &Lines<'t>) -> Result<LinesRead<Read<'t>>, NoMemory>
     ensures outlines { IfOk result (λ r. r.outlines.items
         ≡ map outline_read (map laid lines.now.lines)) }
     ensures reads { IfOk result (λ r. map read_of r.reads.items

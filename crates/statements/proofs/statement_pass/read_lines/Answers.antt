@@ -16,5 +16,5 @@ loop-place-preserved c =
           (c.in_ok-add.ensures.outlines ∙ ap (λ o. found.outlines.items ++ o ∷ []) c.in_ok-line.ensures.outline),
       c.loop-place.invariant.1
           ∙ reads_next lines c.loop-place.place line (map read_of found.reads.items) (map read_of new.reads.items) c.line.ensures
-          (λ ms. c.in_ok-add.ensures.reads ms ∙ ap (λ r. map read_of found.reads.items ++ cons_option r ms) c.in_ok-line.ensures.read),
+          (λ ms. c.in_ok-add.ensures.reads read_of ms ∙ ap (λ r. map read_of found.reads.items ++ cons_option r ms) c.in_ok-line.ensures.read),
     )
