@@ -54,12 +54,20 @@ fn take_block<L: Drop>(alloc: Global, blocks: &mut Vec<Pending<L>>) -> Vec<L>
     }
 }
 
+/// A list of one line.
+fn one<L: Drop>(alloc: Global, line: L) -> Result<Vec<L>, AllocError>
+    ensures { IfOk result (λ ls. ls.items ≡ line ∷ []) }
+{
+    let mut lines = Vec::with_capacity(alloc, 1)?;
+    lines.push(line)?;
+    Ok(lines)
+}
+
 /// A block of which the last line is known.
 fn begun<L: Drop>(alloc: Global, column: usize, line: L) -> Result<Pending<L>, AllocError>
     ensures { IfOk result (λ p. (p.column ≡ column) × (p.lines.items ≡ line ∷ [])) }
 {
-    let mut lines = Vec::with_capacity(alloc, 1)?;
-    lines.push(line)?;
+    let lines = one(alloc, line)?;
     Ok(Pending { column, lines })
 }
 
@@ -103,15 +111,14 @@ fn block_of<'t>(
     match body {
         Body::Nothing => Ok(Vec::new(alloc)),
         Body::Block => Ok(take_block(alloc, blocks)),
-        Body::Statement(form) => {
-            let mut lines = Vec::with_capacity(alloc, 1)?;
-            lines.push(Line {
+        Body::Statement(form) => one(
+            alloc,
+            Line {
                 number,
                 form: Box::into_inner(form),
                 block: Vec::new(alloc),
-            })?;
-            Ok(lines)
-        }
+            },
+        ),
     }
 }
 

@@ -137,22 +137,6 @@ fn with_start<'t>(
     }
 }
 
-/// Reads the line of these tokens.
-fn read_line<'t>(
-    alloc: Global,
-    lines: &Lines<'t>,
-    tokens: &[Token],
-) -> Result<LineRead<Read<'t>>, NoMemory>
-    ensures outline { IfOk result (λ r. r.outline
-        ≡ outline_read (laid (map (seen lines.now.text) tokens.now))) }
-    ensures read { IfOk result (λ r. option_map read_of r.read
-        ≡ line_read (laid (map (seen lines.now.text) tokens.now))) }
-{
-    let (number, column) = start_of(tokens);
-    let form = read_form(alloc, lines, tokens)?;
-    Ok(with_start(number, column, form, is_text(tokens)))
-}
-
 /// What was read of the lines of a text: the outlines of all, and what was read of those that have a form.
 #[derive(Drop)]
 struct LinesRead<R> {
@@ -177,6 +161,25 @@ impl<R: Drop> LinesRead<R> {
     }
 }
 
+/// Reads the line of these tokens, and adds it.
+fn read_line<'t>(
+    alloc: Global,
+    lines: &Lines<'t>,
+    tokens: &[Token],
+    found: &mut LinesRead<Read<'t>>,
+) -> Result<(), NoMemory>
+    ensures outlines { OnOk result (found.new.outlines.items ≡ found.old.outlines.items
+        ++ outline_read (laid (map (seen lines.now.text) tokens.now)) ∷ []) }
+    ensures reads { OnOk result ((ms : List Made) → map read_of found.new.reads.items ++ ms
+        ≡ map read_of found.old.reads.items
+        ++ cons_option (line_read (laid (map (seen lines.now.text) tokens.now))) ms) }
+{
+    let (number, column) = start_of(tokens);
+    let form = read_form(alloc, lines, tokens)?;
+    found.add(with_start(number, column, form, is_text(tokens)))?;
+    Ok(())
+}
+
 /// Reads each line of a text.
 fn read_lines<'t>(alloc: Global, lines: &Lines<'t>) -> Result<LinesRead<Read<'t>>, NoMemory>
     ensures outlines { IfOk result (λ r. r.outlines.items
@@ -189,8 +192,7 @@ fn read_lines<'t>(alloc: Global, lines: &Lines<'t>) -> Result<LinesRead<Read<'t>
         reads: Vec::new(alloc),
     };
     for place in 0..lines.len() {
-        let line = read_line(alloc, lines, lines.line(place))?;
-        found.add(line)?;
+        read_line(alloc, lines, lines.line(place), &mut found)?;
     }
     Ok(found)
 }
