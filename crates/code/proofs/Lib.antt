@@ -1,3 +1,4 @@
 pub mod Backwards
+pub mod Forwards
 pub mod Parts
 pub mod Clauses
