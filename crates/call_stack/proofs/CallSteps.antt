@@ -1,6 +1,6 @@
 -- Calls, as the machine of `meaning` does them.
 use Rattle.std.proofs.Common.{◌≡◌, ◌∙◌, List, ◌∷◌, ap, sym, subst, length, nat_lt, true, false, Ok}
-use Rattle.std.specs.Prelude.{Some, Option, Result, MatchResult}
+use Rattle.std.specs.Prelude.{Some, Option, Result, Err, IfOk, MatchResult}
 use Rattle.std.specs.Global.{Box}
 use Rattle.std.specs.List.{list_any}
 use Rattle.values.specs.declared.ticks.Kind.{Kind}
@@ -49,3 +49,8 @@ module _ {S V K : Type 0} (ops : Operations S V K) (codes : Codes) (here : Here)
       (doing (acted here l (ops.tick s)) on_entry) (faults here (ops.refusal deep)))) h
       ∙ (ap (λ b. choose b (doing (acted here l (ops.tick s)) on_entry) (faults here (ops.refusal deep))) k
       ∙ ap (λ r. doing (acted here l r) on_entry) e)
+
+-- what holds, holds where a call succeeds
+pub whatever_it_is : {A E P : Type 0} (r : Result A E) → P → IfOk r (λ _. P)
+whatever_it_is (Ok a) p = p
+whatever_it_is (Err e) p = tt

@@ -1,11 +1,11 @@
 -- What parameters get, one after the other.
 use Rattle.std.proofs.Common.{◌≡◌, ◌∙◌, ℕ, zero, suc, ◌+◌, ◌-◌, ◌<◌, ◌≤◌, List, [], ◌∷◌, ◌++◌, ap, refl, sym, length, drop, get_or, append_assoc, append-nil, drop-cons, arith}
-use Rattle.std.specs.Prelude.{Bool, true, false, ◌||◌, Option, Some, None, MatchOption, option_map, slice_get, bytes_eq, if◌then◌else◌, replicate, map, cond}
+use Rattle.std.specs.Prelude.{Bool, true, false, ◌||◌, Option, Some, None, MatchOption, slice_get, bytes_eq, if◌then◌else◌, replicate, map, cond}
 use Rattle.std.specs.Map.{lookup}
 use Rattle.program_tree.specs.Names.{Name}
 use Rattle.meaning.specs.Outcome.{Slots}
 use Rattle.meaning.specs.Entry.{before_all, defaults_of, filled, is_named}
-use Rattle.call_stack.specs.Filled.{default_at, got, unless}
+use Rattle.call_stack.specs.Filled.{behind, default_at, got, unless}
 
 module _ {V : Type 0} where
   abbrev pub first : List V → Option V
@@ -32,10 +32,6 @@ module _ {V : Type 0} where
       filled (p ∷ ps) vs named (d ∷ ds) ≡ before_all (got p (first vs) named d) (filled ps (others vs) named ds)
   filled_one p ps [] named d ds = refl
   filled_one p ps (v ∷ vs) named d ds = named_found p named v (filled ps vs named ds)
-
-  -- these slots stand before others
-  abbrev pub behind : Slots V → Option (Slots V) → Option (Slots V)
-  behind l = option_map (λ r. l ++ r)
 
   before_behind : (l : Slots V) (v : V) (rest : Option (Slots V)) → behind l (before_all (Some v) rest) ≡ behind (l ++ Some v ∷ []) rest
   before_behind l v None = refl

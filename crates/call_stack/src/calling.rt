@@ -1,21 +1,24 @@
 //! Calls.
 
-ghost use Rattle.std.specs.Prelude.{◌≡◌, List, Some, option_map};
+ghost use Rattle.std.specs.Prelude.{◌≡◌, ◌≤◌, [], List, Some, drop, length, option_map, IfOk};
 ghost use Rattle.values.specs.declared.value.Value as held;
-ghost use Rattle.meaning.specs.Entry.{called};
+ghost use Rattle.meaning.specs.Entry.{called, entry};
 ghost use Rattle.meaning.specs.Instructions.{Codes, code_at};
 ghost use Rattle.meaning.specs.Machine as machine;
 ghost use Rattle.frames.specs.Answers.{id_seen, callee_seen};
 ghost use Rattle.call_stack.specs.ActiveView.{ids_seen};
 ghost use Rattle.call_stack.specs.CallView.{Begins, Enters, arguments_seen, frame_seen, here_at};
+ghost use Rattle.call_stack.specs.Filled.{behind, by_position, fitting, rest_filled, top_of};
 ghost use Rattle.call_stack.specs.LinkedView.{codes_of};
 
 use crate::active::Active;
-use crate::filling::slots_at_entry;
+use crate::filling::{fill_defaults, fill_from_top, pad, slots_at_entry};
 use crate::linked::Linked;
-use frames::{Callee, Frame, FunctionId, Operate, Refusal, Stack, Stop, refused, stop_at};
+use code::FunctionCode;
+use frames::{Callee, Frame, FunctionId, Operate, Refusal, Slots, Stack, Stop, refused, stop_at};
 use operands::Operand;
 use plain::Text;
+use std::alloc::AllocError;
 
 /// The arguments of a call: those by position, the first at the top, and those by name with their names, the first at the
 /// top.
@@ -129,14 +132,134 @@ pub fn call_function<'a, W: Operate<'a>>(
     enter(world, place, function, frame, active, state)
 }
 
+/// The parameters that have no slots yet get their defaults, as they have no arguments; whether each of them has one.
+#[inline(always)]
+fn fill_rest<'a, W: Operate<'a>>(
+    world: &W,
+    function: FunctionId,
+    params: &[Text],
+    slots: &mut Slots<'a>,
+    state: &W::State,
+) -> Result<bool, AllocError>
+    ensures { IfOk result (λ fits. fitting fits slots.new ≡ behind slots.old
+        (rest_filled params.now (length slots.old) ((W.operations world.now).defaults
+        (id_seen function) state.now))) }
+{
+    if slots.len() < params.len() {
+        fill_defaults(slots, params, world.defaults(state, function))
+    } else {
+        Ok(true)
+    }
+}
+
+/// The slots at the entry of a function that is called with so many values of the top of a stack, which are there, in the
+/// memory of these slots; whether each other parameter has a default.
+#[inline(always)]
+fn slots_by_position<'a, W: Operate<'a>>(
+    world: &W,
+    function: FunctionId,
+    code: &FunctionCode,
+    count: usize,
+    values: &mut Stack<Operand<'a>>,
+    slots: &mut Slots<'a>,
+    state: &W::State,
+) -> Result<bool, AllocError>
+    requires there { count ≤ length values.old }
+    requires few { count ≤ length code.now.params }
+    ensures fills { IfOk result (λ fits. fitting fits slots.new ≡ entry code.now.params
+        code.now.slots ((W.operations world.now).defaults (id_seen function) state.now)
+        (by_position (top_of count [] values.old))) }
+    ensures left { IfOk result (λ _. values.new ≡ drop count values.old) }
+{
+    let params = code.params();
+    slots.let_go();
+    slots.reserve(code.slots())?;
+    fill_from_top(slots, count, values)?;
+    let fits = fill_rest(world, function, params, slots, state)?;
+    if !fits {
+        return Ok(false);
+    }
+    pad(slots, code.slots().saturating_sub(params.len()))?;
+    Ok(true)
+}
+
+/// A function written in Starlark that has parameters for so many values of the top of a stack is called with them: the tests
+/// of the call, its tick, and a new frame.
+#[inline(always)]
+pub(crate) fn call_by_position<'a, W: Operate<'a>>(
+    world: &W,
+    place: Place,
+    function: FunctionId,
+    code: &FunctionCode,
+    count: usize,
+    values: &mut Stack<Operand<'a>>,
+    active: &mut Active<'a, W::Walk>,
+    state: &mut W::State,
+) -> Result<Box<Frame<'a, W::Walk>>, Stop>
+    requires there { count ≤ length values.old }
+    requires few { count ≤ length code.now.params }
+    ensures begins { (codes : Codes) → Begins W.rest (λ below. machine.starts (W.operations
+        world.now) codes
+        (here_at place (ids_seen active.old)) (id_seen function)
+        (by_position (top_of count [] values.old)) below state.old (Some code.now)) result
+        (ids_seen active.new) state.new }
+    ensures left { IfOk result (λ _. values.new ≡ drop count values.old) }
+{
+    let mut frame = active.spare(world.alloc())?;
+    let kept = &mut *frame;
+    let fits = slots_by_position(world, function, code, count, values, &mut kept.slots, state)?;
+    if !fits {
+        return Err(refused(world, Refusal::Arity, place.file, place.line));
+    }
+    enter(world, place, function, frame, active, state)
+}
+
 /// Which function written in Starlark is called, if one is.
 #[inline(always)]
-fn function_of<'a, W: Operate<'a>>(world: &W, callee: &Callee) -> Option<FunctionId>
+pub(crate) fn function_of<'a, W: Operate<'a>>(world: &W, callee: &Callee) -> Option<FunctionId>
     ensures { option_map id_seen result ≡ called (W.operations world.now) (callee_seen callee.now) }
 {
     match callee {
         Callee::Plain(value) => world.function(value.item()),
         Callee::Method(_, _) => None,
+    }
+}
+
+/// A call of what is known to be this function written in Starlark, or to be none.
+#[inline(always)]
+pub(crate) fn call_known<'a, W: Operate<'a>>(
+    world: &W,
+    linked: &'a Linked,
+    place: Place,
+    callee: &Callee<'a>,
+    known: Option<FunctionId>,
+    arguments: Arguments<'a>,
+    active: &mut Active<'a, W::Walk>,
+    state: &mut W::State,
+) -> Result<Called<'a, W::Walk>, Stop>
+    requires { option_map id_seen known ≡ called (W.operations world.now) (callee_seen callee.now) }
+    ensures { Enters W.rest (λ below. machine.start (W.operations world.now) (codes_of linked.now)
+        (here_at place (ids_seen active.old)) (callee_seen callee.now) (arguments_seen
+        arguments.entry) below state.old) result
+        (ids_seen active.new) state.new }
+{
+    if let Some(function) = known {
+        return match call_function(world, linked, place, function, arguments, active, state) {
+            Ok(frame) => Ok(Called::Frame(frame)),
+            Err(stop) => Err(stop),
+        };
+    }
+    let Arguments {
+        items,
+        names,
+        named,
+    } = arguments;
+    let mut items = items;
+    let answer = world.call(state, callee, &mut items, names, named);
+    active.keep_arguments(items);
+    match answer {
+        Ok(value) => Ok(Called::Value(value)),
+        Err(broken) => Err(stop_at(broken, place.file, place.line)),
     }
 }
 
@@ -156,22 +279,8 @@ pub fn call<'a, W: Operate<'a>>(
         arguments.entry) below state.old) result
         (ids_seen active.new) state.new }
 {
-    if let Some(function) = function_of(world, callee) {
-        return match call_function(world, linked, place, function, arguments, active, state) {
-            Ok(frame) => Ok(Called::Frame(frame)),
-            Err(stop) => Err(stop),
-        };
-    }
-    let Arguments {
-        items,
-        names,
-        named,
-    } = arguments;
-    let mut items = items;
-    let answer = world.call(state, callee, &mut items, names, named);
-    active.keep_arguments(items);
-    match answer {
-        Ok(value) => Ok(Called::Value(value)),
-        Err(broken) => Err(stop_at(broken, place.file, place.line)),
-    }
+    let known = function_of(world, callee);
+    call_known(
+        world, linked, place, callee, known, arguments, active, state,
+    )
 }

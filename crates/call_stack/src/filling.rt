@@ -1,13 +1,13 @@
 //! What the parameters of a function get.
 
-ghost use Rattle.std.specs.Prelude.{◌≡◌, ◌++◌, [], None, position, replicate, slice_get, option_copied, option_map, bytes_eq, IfOk};
+ghost use Rattle.std.specs.Prelude.{◌≡◌, ◌≤◌, ◌++◌, [], None, Some, length, drop, map, position, replicate, slice_get, option_copied, option_map, bytes_eq, IfOk};
 ghost use Rattle.std.specs.List.{list_any, list_all};
 ghost use Rattle.std.specs.Map.{lookup};
 ghost use Rattle.meaning.specs.Entry.{all_known, defaults_of, entry, filled, paired};
 ghost use Rattle.frames.specs.Answers.{given};
 ghost use Rattle.operands.specs.Lying.{stored_value};
 ghost use Rattle.frames.specs.Kept.{defaults_seen};
-ghost use Rattle.call_stack.specs.Filled.{default_at, fitting, got};
+ghost use Rattle.call_stack.specs.Filled.{behind, default_at, fitting, got, rest_filled, top_of};
 
 use frames::{Defaults, Slots, Stack};
 use operands::{Operand, Stored};
@@ -136,13 +136,67 @@ fn fill<'a>(
 }
 
 /// So many slots more, in which nothing is set.
-fn pad(slots: &mut Slots<'_>, count: usize) -> Result<(), AllocError>
+pub(crate) fn pad(slots: &mut Slots<'_>, count: usize) -> Result<(), AllocError>
     ensures { IfOk result (λ _. slots.new ≡ slots.old ++ replicate count None) }
 {
     for _ in 0..count {
         slots.push(None)?;
     }
     Ok(())
+}
+
+/// So many values off the top of a stack, in which they are, into slots that have none yet: the topmost one is in the last
+/// of them.
+pub(crate) fn fill_from_top<'a>(
+    slots: &mut Slots<'a>,
+    count: usize,
+    values: &mut Stack<Operand<'a>>,
+) -> Result<(), AllocError>
+    requires none { slots.old ≡ [] }
+    requires there { count ≤ length values.old }
+    ensures filled { IfOk result (λ _. slots.new ≡ map Some (top_of count [] values.old)) }
+    ensures left { IfOk result (λ _. values.new ≡ drop count values.old) }
+{
+    pad(slots, count)?;
+    let mut left = count;
+    while left > 0 {
+        left -= 1;
+        slots.put(left, values.pop())?;
+    }
+    Ok(())
+}
+
+/// What a parameter gets by default, where so many parameters have no default.
+fn given_by_default<'a>(
+    defaults: Defaults<'a, '_>,
+    without: usize,
+    index: usize,
+) -> Result<Option<Operand<'a>>, AllocError>
+    ensures { IfOk result (λ o. o ≡ default_at without index (defaults_seen defaults.entry)) }
+{
+    match default_of(defaults, without, index) {
+        Some(value) => Ok(Some(value.operand()?)),
+        None => Ok(None),
+    }
+}
+
+/// The parameters that have no slots yet get their defaults, as they have no arguments; whether each of them has one.
+pub(crate) fn fill_defaults<'a>(
+    slots: &mut Slots<'a>,
+    params: &[Text],
+    defaults: Defaults<'a, '_>,
+) -> Result<bool, AllocError>
+    ensures { IfOk result (λ fits. fitting fits slots.new ≡ behind slots.old
+        (rest_filled params.now (length slots.old) (defaults_seen defaults.entry))) }
+{
+    let without = params.len().saturating_sub(defaults.len());
+    for index in slots.len()..params.len() {
+        match given_by_default(defaults, without, index)? {
+            Some(value) => slots.push(Some(value))?,
+            None => return Ok(false),
+        }
+    }
+    Ok(true)
 }
 
 /// As many slots, in which nothing is set.

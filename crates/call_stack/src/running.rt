@@ -1,21 +1,23 @@
 //! What runs, and what calls and the ends of functions do to it.
 
-ghost use Rattle.std.specs.Prelude.{◌≡◌, ◌<◌, ◌^◌, [], ◌∷◌, List, length, map, IfOk};
+ghost use Rattle.std.specs.Prelude.{◌≡◌, ◌<◌, ◌≤◌, ◌^◌, [], ◌∷◌, List, Some, drop, suc, length, map, option_map, IfOk, IfSome};
 ghost use Rattle.values.specs.declared.value.Value as held;
-ghost use Rattle.meaning.specs.Entry.{paired};
+ghost use Rattle.meaning.specs.Entry.{called, paired};
 ghost use Rattle.meaning.specs.Instructions as instr;
+ghost use Rattle.meaning.specs.Instructions.{code_at};
 ghost use Rattle.meaning.specs.Machine as machine;
 ghost use Rattle.frames.specs.Answers.{Says, callee_seen, id_seen};
 ghost use Rattle.frames.specs.Seen.{here_of, walk_seen, walks_seen};
 ghost use Rattle.call_stack.specs.ActiveView.{ids_seen};
 ghost use Rattle.call_stack.specs.CallView.{arguments_seen, entered, frame_seen};
+ghost use Rattle.call_stack.specs.Filled.{by_position, top_of};
 ghost use Rattle.call_stack.specs.LinkedView.{codes_of};
 ghost use Rattle.call_stack.specs.RunView.{Calling, Does, Moves, asked};
 
 use crate::active::Active;
-use crate::calling::{Arguments, Called, Place, call};
+use crate::calling::{Arguments, Called, Place, call_by_position, call_known, function_of};
 use crate::linked::Linked;
-use code::Defined;
+use code::{Defined, FunctionCode};
 use frames::{Callee, Frame, FunctionId, Operate, Stack, Step, Stop, Walk, stop_at, take};
 use operands::Operand;
 use plain::Text;
@@ -31,6 +33,13 @@ pub struct Running<'a, T> {
     pub active: Active<'a, T>,
 }
 
+/// A function written in Starlark, with its code.
+#[derive(Clone, Copy)]
+struct Written<'a> {
+    function: FunctionId,
+    code: &'a FunctionCode,
+}
+
 /// What an instruction calls, and with which arguments.
 #[derive(Drop)]
 pub(crate) struct Asked<'a> {
@@ -38,7 +47,7 @@ pub(crate) struct Asked<'a> {
     pub(crate) arguments: Arguments<'a>,
 }
 
-/// What an instruction calls is taken, with its arguments: the values of the names are at the top, those by position below
+/// The arguments of what an instruction calls are taken: the values of the names are at the top, those by position below
 /// them.
 #[tactic(auto, using(frames::proofs::Popping::pops_popped))]
 #[inline(always)]
@@ -46,16 +55,17 @@ fn take_call<'a, W: Operate<'a>>(
     world: &W,
     count: usize,
     names: &'a [Text],
+    callee: Callee<'a>,
     values: &mut Stack<Operand<'a>>,
-    callees: &mut Stack<Callee<'a>>,
     active: &mut Active<'a, W::Walk>,
 ) -> Result<Option<Asked<'a>>, AllocError>
     ensures same { active.new ≡ active.old }
-    ensures asks { (go : Calling W.State) → IfOk result (λ o. machine.pops (length names.now) []
-        values.old
-        (λ ws os. machine.pops count [] os (λ vs os. machine.on_top (map callee_seen callees.old)
-        (λ g gs. go g (record { items = vs; named = paired names.now ws }) os gs)))
-        ≡ asked o values.new callees.new go) }
+    ensures asks { (go : Calling W.State) (callees : List Callee) → IfOk result (λ o. machine.pops
+        (length names.now) [] values.old
+        (λ ws os. machine.pops count [] os (λ vs os. go (callee_seen callee.entry)
+        (record { items = vs; named = paired names.now ws }) os (map callee_seen callees)))
+        ≡ asked o values.new callees go) }
+    ensures called { IfOk result (λ o. IfSome o (λ a. a.callee ≡ callee.entry)) }
 {
     let mut named = Stack::new(world.alloc());
     if !take(names.len(), values, &mut named)? {
@@ -65,17 +75,14 @@ fn take_call<'a, W: Operate<'a>>(
     if !take(count, values, &mut items)? {
         return Ok(None);
     }
-    match callees.pop() {
-        Some(callee) => Ok(Some(Asked {
-            callee,
-            arguments: Arguments {
-                items,
-                names,
-                named,
-            },
-        })),
-        None => Ok(None),
-    }
+    Ok(Some(Asked {
+        callee,
+        arguments: Arguments {
+            items,
+            names,
+            named,
+        },
+    }))
 }
 
 /// The run goes on with what a call came to.
@@ -163,9 +170,12 @@ pub(crate) fn call_asked<'a, W: Operate<'a>>(
     linked: &'a Linked,
     line: usize,
     asked: Asked<'a>,
+    known: Option<FunctionId>,
     r: &mut Running<'a, W::Walk>,
     state: &mut W::State,
 ) -> Result<Step, Stop>
+    requires { option_map id_seen known
+        ≡ called (W.operations world.now) (callee_seen asked.callee) }
     ensures { Moves W.rest (machine.start (W.operations world.now) (codes_of linked.now)
         (here_of r.old.top.value line (ids_seen r.old.active)) (callee_seen asked.entry.callee)
         (arguments_seen asked.entry.arguments)
@@ -177,16 +187,121 @@ pub(crate) fn call_asked<'a, W: Operate<'a>>(
         file: r.top.function.file,
         line,
     };
-    match call(
+    match call_known(
         world,
         linked,
         place,
         &callee,
+        known,
         arguments,
         &mut r.active,
         state,
     ) {
         Ok(called) => go_on(world, called, r),
+        Err(stop) => Err(stop),
+    }
+}
+
+/// A call of something with so many values by position, and those of these names behind them.
+#[inline(always)]
+fn call_taken<'a, W: Operate<'a>>(
+    world: &W,
+    linked: &'a Linked,
+    line: usize,
+    count: usize,
+    names: &'a [Text],
+    callee: Callee<'a>,
+    known: Option<FunctionId>,
+    r: &mut Running<'a, W::Walk>,
+    state: &mut W::State,
+) -> Result<Step, Stop>
+    requires place { r.old.top.value.place < 2 ^ 63 }
+    requires known { option_map id_seen known
+        ≡ called (W.operations world.now) (callee_seen callee) }
+    ensures { Moves W.rest (machine.pops (length names.now) [] r.old.top.value.values (λ ws os.
+        machine.pops count [] os (λ vs os. machine.start (W.operations world.now)
+        (codes_of linked.now) (here_of r.old.top.value line (ids_seen r.old.active))
+        (callee_seen callee.entry) (record { items = vs; named = paired names.now ws })
+        (record (frame_seen W.rest r.old.top) { pc = suc r.old.top.value.place; values = os }
+        ∷ map (frame_seen W.rest) r.old.below) state.old))) result r.new state.new }
+{
+    let top = &mut *r.top;
+    let asked = take_call(world, count, names, callee, &mut top.values, &mut r.active)?;
+    let Some(asked) = asked else {
+        return Ok(Step::Stuck);
+    };
+    top.place += 1;
+    call_asked(world, linked, line, asked, known, r, state)
+}
+
+/// The code of this function, if there is one, where it is called by position with so many values, which are there, and has
+/// parameters for them.
+#[inline(always)]
+fn code_for<'a>(
+    linked: &'a Linked,
+    known: Option<FunctionId>,
+    count: usize,
+    names: &[Text],
+    there: usize,
+) -> Option<Written<'a>>
+    ensures function { IfSome result (λ w. known ≡ Some w.function) }
+    ensures code { IfSome result (λ w. code_at (codes_of linked.now) (id_seen w.function)
+        ≡ Some w.code.now) }
+    ensures bare { IfSome result (λ w. length names.now ≡ 0) }
+    ensures enough { IfSome result (λ w. count ≤ there) }
+    ensures few { IfSome result (λ w. count ≤ length w.code.now.params) }
+{
+    let function = known?;
+    let code = linked.function(function)?;
+    if names.len() == 0 && count <= there && count <= code.params().len() {
+        Some(Written { function, code })
+    } else {
+        None
+    }
+}
+
+/// A function written in Starlark is called with so many values of the top, for which it has parameters.
+#[inline(always)]
+fn go_into<'a, W: Operate<'a>>(
+    world: &W,
+    line: usize,
+    count: usize,
+    function: FunctionId,
+    code: &FunctionCode,
+    r: &mut Running<'a, W::Walk>,
+    state: &mut W::State,
+) -> Result<Step, Stop>
+    requires place { r.old.top.value.place < 2 ^ 63 }
+    requires there { count ≤ length r.old.top.value.values }
+    requires few { count ≤ length code.now.params }
+    ensures { (codes : instr.Codes) → Moves W.rest (machine.starts (W.operations world.now) codes
+        (here_of r.old.top.value line (ids_seen r.old.active)) (id_seen function)
+        (by_position (top_of count [] r.old.top.value.values))
+        (record (frame_seen W.rest r.old.top) {
+          pc = suc r.old.top.value.place;
+          values = drop count r.old.top.value.values;
+        } ∷ map (frame_seen W.rest) r.old.below)
+        state.old (Some code.now)) result r.new state.new }
+{
+    let top = &mut *r.top;
+    let place = Place {
+        file: top.function.file,
+        line,
+    };
+    match call_by_position(
+        world,
+        place,
+        function,
+        code,
+        count,
+        &mut top.values,
+        &mut r.active,
+        state,
+    ) {
+        Ok(frame) => {
+            top.place += 1;
+            go_on(world, Called::Frame(frame), r)
+        }
         Err(stop) => Err(stop),
     }
 }
@@ -208,19 +323,14 @@ pub fn call_with<'a, W: Operate<'a>>(
         result r.new state.new }
 {
     let top = &mut *r.top;
-    let asked = take_call(
-        world,
-        count,
-        names,
-        &mut top.values,
-        &mut top.callees,
-        &mut r.active,
-    )?;
-    let Some(asked) = asked else {
+    let Some(callee) = top.callees.pop() else {
         return Ok(Step::Stuck);
     };
-    top.place += 1;
-    call_asked(world, linked, line, asked, r, state)
+    let known = function_of(world, &callee);
+    match code_for(linked, known, count, names, top.values.len()) {
+        Some(written) => go_into(world, line, count, written.function, written.code, r, state),
+        None => call_taken(world, linked, line, count, names, callee, known, r, state),
+    }
 }
 
 /// A function gives the top back, when its walks have ended.

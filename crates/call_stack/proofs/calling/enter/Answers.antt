@@ -1,7 +1,7 @@
-use Rattle.std.proofs.Common.{◌≡◌, ◌∙◌, ◌∷◌, sym, ap, ap₂, length, nat_lt, true, false, arith, lt-ltb}
+use Rattle.std.proofs.Common.{◌≡◌, ◌∙◌, sym, ap, ap₂, length, nat_lt, true, false, arith, lt-ltb}
 use Rattle.std.specs.List.{list_any}
 use Rattle.meaning.specs.Entry.{same_function}
-use Rattle.meaning.specs.Machine.{continuing, frame_of}
+use Rattle.meaning.specs.Machine.{continuing}
 use Rattle.frames.specs.Answers.{id_seen}
 use Rattle.call_stack.specs.ActiveView.{ids_seen}
 use Rattle.call_stack.specs.CallView.{here_at}

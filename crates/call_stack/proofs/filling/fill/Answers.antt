@@ -1,8 +1,8 @@
 use Rattle.std.proofs.Common.{◌∙◌, ◌+◌, ◌-◌, drop, length, sym, ap}
 use Rattle.meaning.specs.Entry.{defaults_of, filled, paired}
-use Rattle.call_stack.specs.Filled.{got}
+use Rattle.call_stack.specs.Filled.{behind, got}
 use Rattle.frames.specs.Kept.{defaults_seen}
-use Rattle.call_stack.proofs.Parameters.{behind, fill_turn, fill_fails}
+use Rattle.call_stack.proofs.Parameters.{fill_turn, fill_fails}
 use Rattle.call_stack.proofs.filling.fill.Goals as goal
 
 pub returns-in-None : goal.returns-in-None

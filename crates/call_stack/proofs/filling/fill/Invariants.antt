@@ -1,6 +1,6 @@
 use Rattle.std.proofs.Common.{◌≡◌, drop}
 use Rattle.meaning.specs.Entry.{defaults_of, filled, paired}
-use Rattle.call_stack.proofs.Parameters.{behind}
+use Rattle.call_stack.specs.Filled.{behind}
 use Rattle.frames.specs.Kept.{defaults_seen}
 use Rattle.call_stack.proofs.filling.fill.Given as goal
 

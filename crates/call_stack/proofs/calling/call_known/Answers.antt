@@ -7,13 +7,13 @@ use Rattle.call_stack.specs.ActiveView.{ids_seen}
 use Rattle.call_stack.specs.CallView.{arguments_seen, here_at}
 use Rattle.call_stack.specs.LinkedView.{codes_of}
 use Rattle.call_stack.proofs.CallSteps.{starts_called}
-use Rattle.call_stack.proofs.calling.call.Goals as goal
+use Rattle.call_stack.proofs.calling.call_known.Goals as goal
 
 pub returns-in-Err : goal.returns-in-Err
 returns-in-Err g c below =
     let ops = g.W.Operate.operations c.args.world.now in
     let e : called ops (callee_seen c.args.callee.now) ≡ Some (id_seen c.in-Some.function) =
-    sym c.function_of.ensures ∙ ap (option_map id_seen) c.in-Some.is in
+    sym c.requires ∙ ap (option_map id_seen) c.in-Some.is in
     subst (λ z. Stops z c.in-Err.stop)
     (sym (starts_called ops (codes_of c.args.linked.now) (here_at c.args.place (ids_seen c.args.active.now)) (callee_seen c.args.callee.now)
     (id_seen c.in-Some.function) (arguments_seen c.args.arguments) below c.args.state.now e))
