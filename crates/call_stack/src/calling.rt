@@ -132,7 +132,7 @@ pub fn call_function<'a, W: Operate<'a>>(
     enter(world, place, function, frame, active, state)
 }
 
-/// The parameters that have no slots yet get their defaults, as they have no arguments; whether each of them has one.
+/// The same as [`fill_defaults`], with the defaults of a function: the world isn't asked for them where no parameter is left.
 #[inline(always)]
 fn fill_rest<'a, W: Operate<'a>>(
     world: &W,

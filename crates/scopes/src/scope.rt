@@ -45,7 +45,7 @@ pub fn none_predeclared(names: &[Name<'_>]) -> bool
     true
 }
 
-/// Binds names beside those that were bound before, and tells whether none was and none comes twice.
+/// Binds names beside those that are bound, up to the first that is bound already, and tells whether there is none such.
 ///
 /// # Errors
 ///
