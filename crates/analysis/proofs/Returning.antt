@@ -11,10 +11,10 @@ use Rattle.std.specs.BTreeMap.{is_at}
 use Rattle.std.specs.BTreeSet.{BTreeSet, Updates, contains}
 use Rattle.std.specs.List.{list_any}
 use Rattle.std.specs.Ordering.{nat_cmp}
-use Rattle.values.specs.Leaves.{same_maker, same_provider}
+use Rattle.leaves.specs.Leaves.{same_maker, same_provider}
 use Rattle.values.specs.View.{FrozenTree}
-use Rattle.values.specs.declared.leaf.MadeId.{MadeId}
-use Rattle.values.specs.declared.leaf.Provider.{Provider}
+use Rattle.leaves.specs.declared.leaf.MadeId.{MadeId}
+use Rattle.leaves.specs.declared.leaf.Provider.{Provider}
 use Rattle.targets.specs.Checks.{provider_of, is_of, offers}
 use Rattle.targets.specs.Steps.{is_new_instance, are_instances}
 use Rattle.targets.proofs.Facts.{cases_of, both, neither}

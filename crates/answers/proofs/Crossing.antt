@@ -1,7 +1,7 @@
 -- What workers share and hand on may cross threads.
 use denote.Param.Send.{IsSync, sendable}
 use Rattle.std.proofs.Crossing as std
-use Rattle.values.proofs.leaf.Provider.TheSendSync as provider
+use Rattle.leaves.proofs.leaf.Provider.TheSendSync as provider
 use Rattle.modules.proofs.sorting.FileFault.TheSendSync as failing
 use Rattle.plain.proofs.text.Text.TheSendSync as text
 use Rattle.loader.proofs.Crossing.{loaded_sync}

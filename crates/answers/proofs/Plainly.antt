@@ -2,7 +2,7 @@
 use Rattle.std.proofs.Common.{◌≡◌, ℕ, true, List, All, subst}
 use Rattle.depsets.specs.Flat.{Among}
 use Rattle.lexer.specs.declared.fault.FaultKind.{FaultKind}
-use Rattle.values.specs.declared.ticks.Kind.{Kind}
+use Rattle.ticks.specs.declared.ticks.Kind.{Kind}
 use Rattle.coherence.specs.Together.{AllCoherent}
 use Rattle.workspace.specs.Labels.{is_label, label_text}
 use Rattle.workspace.specs.Workspaces.{IsWorkspace, Pair, paths_of}

@@ -3,7 +3,7 @@ use Rattle.std.proofs.Common.{◌≡◌, ◌∙◌, ◌↔◌, ℕ, List, map, A
 use Rattle.std.specs.Prelude.{string_bytes}
 use Rattle.depsets.specs.Listed.{walked}
 use Rattle.lexer.specs.declared.fault.FaultKind.{FaultKind}
-use Rattle.values.specs.declared.ticks.Kind.{Kind}
+use Rattle.ticks.specs.declared.ticks.Kind.{Kind}
 use Rattle.modules.specs.declared.sorting.FileFault.{FileFault}
 use Rattle.reporting.specs.declared.made.Report.{Report}
 use Rattle.reporting.specs.Reported.{report_bytes}

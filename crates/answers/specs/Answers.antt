@@ -2,7 +2,7 @@
 use Rattle.std.specs.Prelude.{◌≡◌, ◌↔◌, ℕ, Bool, List, map, Contains, All}
 use Rattle.depsets.specs.Listed.{flat}
 use Rattle.lexer.specs.declared.fault.FaultKind.{FaultKind}
-use Rattle.values.specs.declared.ticks.Kind.{Kind}
+use Rattle.ticks.specs.declared.ticks.Kind.{Kind}
 use Rattle.actions.specs.Ascending.{AreAscending}
 use Rattle.workspace.specs.Labels.{LabelParts, label_text}
 use Rattle.workspace.specs.Workspaces.{Pair}

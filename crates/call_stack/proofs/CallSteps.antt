@@ -3,7 +3,7 @@ use Rattle.std.proofs.Common.{◌≡◌, ◌∙◌, List, ◌∷◌, ap, sym, su
 use Rattle.std.specs.Prelude.{Some, Option, Result, Err, IfOk, MatchResult}
 use Rattle.std.specs.Global.{Box}
 use Rattle.std.specs.List.{list_any}
-use Rattle.values.specs.declared.ticks.Kind.{Kind}
+use Rattle.ticks.specs.declared.ticks.Kind.{Kind}
 use Rattle.values.specs.declared.value.Value.{Value}
 use Rattle.meaning.specs.Operations.{FunctionId, Arguments, Callee, Operations, recursion, deep}
 use Rattle.meaning.specs.Outcome.{Here, Slots, acted}

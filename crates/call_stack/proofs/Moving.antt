@@ -1,7 +1,7 @@
 -- Steps, as the machine of `meaning` does them.
 use Rattle.std.proofs.Common.{◌≡◌, ◌∙◌, List, ◌∷◌, ap, sym, subst}
 use Rattle.std.specs.Prelude.{Option, Result, MatchResult, map}
-use Rattle.values.specs.declared.ticks.Kind.{Kind}
+use Rattle.ticks.specs.declared.ticks.Kind.{Kind}
 use Rattle.values.specs.declared.value.Value.{Value}
 use Rattle.meaning.specs.Operations.{FunctionId, Operations}
 use Rattle.meaning.specs.Machine.{Frame, Next, all_ended, on_top, returning}

@@ -2,8 +2,8 @@
 use Rattle.std.proofs.Common.{◌≡◌, ℕ, zero, suc, ◌+◌, ◌<◌, ◌≤◌, Bool, true, false, not, ◌&&◌, if◌then◌else◌, List, [], ◌∷◌, length, drop, map, slice_get, Option, Some, None, Result, Ok, Err, is_some, refl, sym, ap, ◌∙◌, arith}
 use Rattle.depsets.proofs.Turns.{drop_at}
 use Rattle.values.specs.declared.value.Value.{Value}
-use Rattle.values.specs.declared.ticks.Kind.{Kind}
-use Rattle.values.specs.declared.ticks.Kind.TheVariants.{Arity}
+use Rattle.ticks.specs.declared.ticks.Kind.{Kind}
+use Rattle.ticks.specs.declared.ticks.Kind.TheVariants.{Arity}
 use Rattle.operations.specs.Arguments.{Given, Parameter, Bound, given_for, filled, put_first, named_or_missing, all_known, bound}
 use Rattle.calls.specs.Parameters.{placed_or_named, got_at, got_from, may_get, may_get_all}
 

@@ -1,12 +1,12 @@
 -- What `str` gives of a whole number.
 use Rattle.std.proofs.Common.{◌≡◌, ℕ, ℤ, ◌-◌, List, Some, Result, Ok, Err, refl, ap, ◌∙◌}
 use Rattle.std.specs.Fmt.{signed_decimal}
-use Rattle.values.specs.Ticking.{Count, then_on, after_tick, with_count, entered}
+use Rattle.ticks.specs.Ticking.{Count, then_on, after_tick, with_count, entered}
 use Rattle.values.specs.Shape.{Shape, key, shape}
 use Rattle.values.specs.declared.value.Value.{Value}
 use Rattle.values.specs.declared.cells.Cell.{Cell}
-use Rattle.values.specs.declared.ticks.Kind.{Kind}
-use Rattle.values.specs.declared.ticks.TheConstants.{VISITED_LEVELS}
+use Rattle.ticks.specs.declared.ticks.Kind.{Kind}
+use Rattle.ticks.specs.declared.ticks.TheConstants.{VISITED_LEVELS}
 use Rattle.keys.specs.declared.key.Key.{Key}
 use Rattle.keys.specs.declared.key.Key.TheVariants as index
 use Rattle.printing.specs.Repr.{printed, print_at, fits, itself, string_in, repr_of}

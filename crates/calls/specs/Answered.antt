@@ -1,7 +1,7 @@
 -- How a call answers an operation that only some have.
 use Rattle.std.specs.Prelude.{◌≡◌, Option, Some, None, Result}
 use Rattle.values.specs.declared.value.Value.{Value}
-use Rattle.values.specs.declared.ticks.Broken.{Broken}
+use Rattle.ticks.specs.declared.ticks.Broken.{Broken}
 use Rattle.operations.specs.declared.state.State.{State}
 use Rattle.operations.specs.States.{Op, Does}
 

@@ -1,8 +1,8 @@
 -- What `str` gives of a whole number.
 use Rattle.std.specs.Prelude.{ℕ, ℤ, List}
 use Rattle.std.specs.Fmt.{signed_decimal}
-use Rattle.values.specs.Ticking.{Count, Ticking, after_tick, with_count, entered}
-use Rattle.values.specs.declared.ticks.TheConstants.{VISITED_LEVELS}
+use Rattle.ticks.specs.Ticking.{Count, Ticking, after_tick, with_count, entered}
+use Rattle.ticks.specs.declared.ticks.TheConstants.{VISITED_LEVELS}
 use Rattle.printing.specs.Repr.{fits}
 
 -- its digits, after its visit

@@ -3,7 +3,7 @@
 use Rattle.std.specs.Prelude.{◌≡◌, ℕ, ◌+◌, Bool, true, false, not, ◌&&◌, List, [], ◌∷◌, slice_get, Option, Some, None, is_some, Err}
 use Rattle.values.specs.declared.value.Value.{Value}
 use Rattle.operations.specs.Arguments.{Given, Parameter as Taken, Bound, given_for}
-use Rattle.values.specs.declared.ticks.Kind.TheVariants.{Arity}
+use Rattle.ticks.specs.declared.ticks.Kind.TheVariants.{Arity}
 use Rattle.operations.specs.declared.state.State.{State}
 use Rattle.operations.specs.States.{Op}
 use Rattle.operations.specs.Methods.{with_one}

@@ -1,6 +1,6 @@
 //! What parameters get of arguments.
 ghost use Rattle.std.specs.Prelude.{◌≡◌, ◌∷◌, [], Ok, Err, Some, None, MatchResult, MatchOption, option_copied, slice_get};
-ghost use Rattle.values.specs.Ticking.{FaultOr};
+ghost use Rattle.ticks.specs.Ticking.{FaultOr};
 ghost use Rattle.operations.specs.States.{then_give};
 ghost use Rattle.operations.specs.Arguments.{given, wanted, optional, named_only, bound, one, all_known, given_for, positions, unless_named};
 ghost use Rattle.operations.specs.BuiltIns.{argument};

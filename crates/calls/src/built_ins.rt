@@ -1,6 +1,6 @@
 //! `len`, `str`, `list` and `fail`.
 ghost use Rattle.std.specs.Prelude.{◌≡◌, ◌+◌, pos, Ok, Err, Some, None, MatchResult, IfOk};
-ghost use Rattle.values.specs.Ticking.{FaultOr, Says};
+ghost use Rattle.ticks.specs.Ticking.{FaultOr, Says};
 ghost use Rattle.values.specs.Seeing.{seen, item_value};
 ghost use Rattle.printing.specs.Repr.{repr_of};
 ghost use Rattle.operations.specs.States.{Does, Stays, Gives};
@@ -10,6 +10,7 @@ ghost use Rattle.operations.specs.BuiltIns.{len, size_in, key_size, str, list, l
 ghost use Rattle.calls.specs.NumberTexts.{number_told};
 
 use crate::dicts::key_items;
+use heap::Heap;
 use itoa::Buffer;
 use operands::Operand;
 use operations::{Made, State};
@@ -17,7 +18,7 @@ use plain::Text;
 use printing::{LARGEST_TEXT, repr};
 use state::{copied, number_of, place, text_of};
 use std::alloc::Global;
-use values::{Broken, Heap, Item, Key, Kind, Seen, Ticks, VISITED_LEVELS, Value};
+use values::{Broken, Item, Key, Kind, Seen, Ticks, VISITED_LEVELS, Value};
 
 /// `len(value)`: the bytes of a string, the items of a list or a tuple, the entries of a dict.
 ///

@@ -1,6 +1,6 @@
 //! The methods of dicts.
 ghost use Rattle.std.specs.Prelude.{◌≡◌, ◌++◌, ◌∷◌, [], Ok, Err, Some, None, MatchResult, IfOk, OnOk, map};
-ghost use Rattle.values.specs.Ticking.{FaultOr};
+ghost use Rattle.ticks.specs.Ticking.{FaultOr};
 ghost use Rattle.values.specs.Visits.{keys_of};
 ghost use Rattle.values.specs.Shape.{shape};
 ghost use Rattle.values.specs.Seeing.{seen, item_value, table_entries};
@@ -9,11 +9,12 @@ ghost use Rattle.operations.specs.Making.{entries_in, none};
 ghost use Rattle.operations.specs.Items.{found, got, or_else};
 ghost use Rattle.operations.specs.Methods.{get, keys, values};
 
+use heap::Heap;
 use operands::Operand;
 use operations::State;
 use state::{key_of, new_list};
 use std::alloc::{AllocError, Global};
-use values::{Broken, Heap, Item, Items, Key, Kind, Leaf, Seen, Table, Value};
+use values::{Broken, Item, Items, Key, Kind, Leaf, Seen, Table, Value};
 
 /// `dict.get(key, default)`: the value of the key, or the default, which is None where it is missing. The value of a key of
 /// a dict that is lent is lent, and so is a default that is.

@@ -1,6 +1,6 @@
 //! The built-in functions that every place has, and providers where they are called.
 ghost use Rattle.std.specs.Prelude.{◌≡◌, ◌∷◌, [], Ok, Err, Some, None, MatchResult, codes, map, option_copied};
-ghost use Rattle.values.specs.Ticking.{FaultOr};
+ghost use Rattle.ticks.specs.Ticking.{FaultOr};
 ghost use Rattle.operations.specs.States.{Op, Does, Stays};
 ghost use Rattle.operations.specs.Arguments.{given};
 ghost use Rattle.operations.specs.BuiltIns.{argument, with_argument, len, str, list, fail};

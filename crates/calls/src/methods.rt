@@ -1,6 +1,6 @@
 //! The methods of lists, dicts, strings and depsets.
 ghost use Rattle.std.specs.Prelude.{◌≡◌, ◌∷◌, [], Ok, Err, Some, None, MatchResult, MatchOption, List, option_copied};
-ghost use Rattle.values.specs.Ticking.{FaultOr};
+ghost use Rattle.ticks.specs.Ticking.{FaultOr};
 ghost use Rattle.values.specs.Shape.{shape};
 ghost use Rattle.values.specs.Seeing.{item_value};
 ghost use Rattle.operations.specs.States.{Does, Stays};

@@ -1,19 +1,20 @@
 //! `range`.
 ghost use Rattle.std.specs.Prelude.{◌≡◌, ◌++◌, ◌∷◌, [], Ok, Err, Some, None, MatchResult, IfOk, OnOk, map};
 ghost use Rattle.numbers.specs.Ranges.{range_of};
-ghost use Rattle.values.specs.Ticking.{FaultOr};
+ghost use Rattle.ticks.specs.Ticking.{FaultOr};
 ghost use Rattle.operations.specs.States.{Does, Stays, Gives, then_give};
 ghost use Rattle.operations.specs.Making.{number};
 ghost use Rattle.operations.specs.Arguments.{given, positions};
 ghost use Rattle.operations.specs.BuiltIns.{range, range_in, range_between, numbers};
 
 use crate::arguments::positions;
+use heap::Heap;
 use numbers::RangeNumbers;
 use operands::Operand;
 use operations::{Arguments, Made, State};
 use state::{number_of, place};
 use std::alloc::{AllocError, Global};
-use values::{Broken, Heap, Items, Key, Kind, Value};
+use values::{Broken, Items, Key, Kind, Value};
 
 /// `range(end)` and `range(first, end)`: a new list of the numbers from the first, or 0, on below the end.
 ///

@@ -1,11 +1,11 @@
 -- The depsets of frozen globals and defaults were in the heap, or in what the names and the functions had.
 use Rattle.std.proofs.Common.{◌≡◌, ℕ, List, [], ◌∷◌, ◌++◌, Option, Some, None, Result, Ok, Err, refl, subst}
 use Rattle.std.specs.List.{flat_map}
-use Rattle.values.specs.Ticking.{Count, Ticking, then_on}
+use Rattle.ticks.specs.Ticking.{Count, Ticking, then_on}
 use Rattle.values.specs.View.{FrozenTree}
 use Rattle.values.specs.Visits.{all_of}
 use Rattle.values.specs.declared.cells.Cell.{Cell}
-use Rattle.values.specs.declared.ticks.Kind.{Kind}
+use Rattle.ticks.specs.declared.ticks.Kind.{Kind}
 use Rattle.values.specs.declared.value.Value.{Value}
 use Rattle.visits.specs.Freeze.{freeze_at, frozen_slot}
 use Rattle.one_tree.specs.Found.{Set, in_tree, in_value, in_values, in_fields, in_heap}

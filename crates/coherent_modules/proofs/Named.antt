@@ -5,9 +5,9 @@ use Rattle.values.specs.Shape.{value_of}
 use Rattle.values.specs.Tree.{Trees, Pairs, Slots, key, leaf, branch, list, tuple, dict, instance, none, more, stop, pair, end, missing, given}
 use Rattle.values.specs.View.{FrozenTree, FrozenBranch}
 use Rattle.keys.specs.declared.key.Key.{Key}
-use Rattle.values.specs.declared.leaf.Leaf.{Leaf}
-use Rattle.values.specs.declared.leaf.Leaf.TheVariants as plain
-use Rattle.values.specs.declared.leaf.Provider.{Provider}
+use Rattle.leaves.specs.declared.leaf.Leaf.{Leaf}
+use Rattle.leaves.specs.declared.leaf.Leaf.TheVariants as plain
+use Rattle.leaves.specs.declared.leaf.Provider.{Provider}
 use Rattle.one_tree.specs.Found.{in_leaf, in_tree, in_branch, in_trees, in_pairs, in_slots, in_value, in_values}
 use Rattle.evaluation.specs.Naming.{Naming, leaf_named, named, branch_named, trees_named, pairs_named, slots_named, slot_named}
 use Rattle.coherent_modules.specs.Found.{in_global}

@@ -5,10 +5,10 @@ use Rattle.meaning.specs.Functions.{Files, functions}
 use Rattle.meaning.specs.Outcome.{Final}
 use Rattle.meaning.specs.Calls.{top_meaning}
 use Rattle.values.specs.Shape.{value_of}
-use Rattle.values.specs.Ticking.{Count, Ticking, then_on}
+use Rattle.ticks.specs.Ticking.{Count, Ticking, then_on}
 use Rattle.values.specs.View.{FrozenTree}
-use Rattle.values.specs.declared.ticks.Kind.{Kind}
-use Rattle.values.specs.declared.ticks.TheConstants.{VISITED_LEVELS}
+use Rattle.ticks.specs.declared.ticks.Kind.{Kind}
+use Rattle.ticks.specs.declared.ticks.TheConstants.{VISITED_LEVELS}
 use Rattle.values.specs.declared.value.Value.{Value}
 use Rattle.operations.specs.declared.state.State.{State}
 use Rattle.language.specs.declared.whole.Whole.{Whole}

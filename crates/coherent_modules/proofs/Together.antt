@@ -2,7 +2,7 @@
 use Rattle.std.proofs.Common.{◌≡◌, ◌⊎◌, inl, inr, ℕ, ◌≤◌, true, List, [], Result, Ok, Err}
 use Rattle.depsets.specs.Flat.{Among}
 use Rattle.lexer.specs.declared.fault.FaultKind.{FaultKind}
-use Rattle.values.specs.declared.ticks.Kind.{Kind}
+use Rattle.ticks.specs.declared.ticks.Kind.{Kind}
 use Rattle.workspace.specs.Workspaces.{Pair, paths_of}
 use Rattle.coherence.specs.Coherent.{Depsets, AreCoherent, AreFresh}
 use Rattle.loading.specs.Loads.{Path}

@@ -8,11 +8,11 @@ use Rattle.values.specs.Tree.{trees, pairs}
 use Rattle.values.specs.View.{FrozenTree}
 use Rattle.keys.specs.declared.key.Key.{Key}
 use Rattle.values.specs.declared.cells.TheConstants.{LARGEST}
-use Rattle.values.specs.declared.leaf.Leaf.{Leaf}
-use Rattle.values.specs.declared.leaf.Leaf.TheVariants as plain
-use Rattle.values.specs.declared.leaf.Object.{Object}
-use Rattle.values.specs.declared.leaf.Object.TheVariants as object
-use Rattle.values.specs.declared.ticks.Kind.TheVariants.{Name, Large}
+use Rattle.leaves.specs.declared.leaf.Leaf.{Leaf}
+use Rattle.leaves.specs.declared.leaf.Leaf.TheVariants as plain
+use Rattle.leaves.specs.declared.leaf.Object.{Object}
+use Rattle.leaves.specs.declared.leaf.Object.TheVariants as object
+use Rattle.ticks.specs.declared.ticks.Kind.TheVariants.{Name, Large}
 use Rattle.operations.specs.Making.{text}
 use Rattle.one_tree.specs.Found.{Set, in_tree, in_trees, in_pairs}
 use Rattle.one_tree.specs.Sets.{AreIn}

@@ -4,11 +4,11 @@ use Rattle.depsets.specs.Flat.{Among}
 use Rattle.meaning.specs.Functions.{Files}
 use Rattle.meaning.specs.Outcome.{Final}
 use Rattle.meaning.specs.Calls.{function_meaning}
-use Rattle.values.specs.Ticking.{Ticking}
+use Rattle.ticks.specs.Ticking.{Ticking}
 use Rattle.values.specs.View.{FrozenTree}
-use Rattle.values.specs.declared.leaf.FunctionRef.{FunctionRef}
-use Rattle.values.specs.declared.ticks.Kind.{Kind}
-use Rattle.values.specs.declared.ticks.TheConstants.{VISITED_LEVELS}
+use Rattle.leaves.specs.declared.leaf.FunctionRef.{FunctionRef}
+use Rattle.ticks.specs.declared.ticks.Kind.{Kind}
+use Rattle.ticks.specs.declared.ticks.TheConstants.{VISITED_LEVELS}
 use Rattle.values.specs.declared.value.Value.{Value}
 use Rattle.visits.specs.Freeze.{freeze_at}
 use Rattle.coherence.specs.Coherent.{AreCoherent, AreFresh}

@@ -1,9 +1,9 @@
 -- The place of an implementation keeps what holds.
 use Rattle.std.proofs.Common.{ℕ, List, Option, Some, None, Ok, Err}
-use Rattle.values.specs.declared.leaf.Leaf.{Leaf}
-use Rattle.values.specs.declared.leaf.Leaf.TheVariants as plain
-use Rattle.values.specs.declared.leaf.Object.{Object}
-use Rattle.values.specs.declared.leaf.Object.TheVariants as object
+use Rattle.leaves.specs.declared.leaf.Leaf.{Leaf}
+use Rattle.leaves.specs.declared.leaf.Leaf.TheVariants as plain
+use Rattle.leaves.specs.declared.leaf.Object.{Object}
+use Rattle.leaves.specs.declared.leaf.Object.TheVariants as object
 use Rattle.operations.specs.Arguments.{Given}
 use Rattle.one_tree.specs.Found.{Set, in_value, in_values}
 use Rattle.one_tree.specs.Sets.{AreIn}

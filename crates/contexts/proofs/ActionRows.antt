@@ -4,8 +4,8 @@ use Rattle.depsets.specs.declared.element.Element.TheVariants as element
 use Rattle.depsets.specs.declared.element.FileRef.{FileRef}
 use Rattle.values.specs.declared.cells.Cell.{Cell}
 use Rattle.values.specs.declared.cells.Cell.TheVariants as cell
-use Rattle.values.specs.declared.leaf.Leaf.TheVariants as plain
-use Rattle.values.specs.declared.ticks.Kind.TheVariants as fault
+use Rattle.leaves.specs.declared.leaf.Leaf.TheVariants as plain
+use Rattle.ticks.specs.declared.ticks.Kind.TheVariants as fault
 use Rattle.values.specs.declared.value.Value.{Value}
 use Rattle.values.specs.declared.value.Value.TheVariants as value
 use Rattle.actions.specs.declared.action.Action.{Action}

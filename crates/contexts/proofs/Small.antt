@@ -10,12 +10,12 @@ use Rattle.depsets.specs.declared.element.FileRef.{FileRef}
 use Rattle.values.specs.Tree.{key, branch, instance, slots}
 use Rattle.values.specs.View.{FrozenTree}
 use Rattle.keys.specs.declared.key.Key.TheVariants as index
-use Rattle.values.specs.declared.leaf.AttributeKind.{AttributeKind}
-use Rattle.values.specs.declared.leaf.AttributeKind.TheVariants as kind
-use Rattle.values.specs.declared.leaf.ExportName.TheVariants as export
-use Rattle.values.specs.declared.leaf.FunctionRef.{FunctionRef}
-use Rattle.values.specs.declared.leaf.Provider.{Provider}
-use Rattle.values.specs.declared.leaf.ProviderRef.TheVariants as provider
+use Rattle.leaves.specs.declared.leaf.AttributeKind.{AttributeKind}
+use Rattle.leaves.specs.declared.leaf.AttributeKind.TheVariants as kind
+use Rattle.leaves.specs.declared.leaf.ExportName.TheVariants as export
+use Rattle.leaves.specs.declared.leaf.FunctionRef.{FunctionRef}
+use Rattle.leaves.specs.declared.leaf.Provider.{Provider}
+use Rattle.leaves.specs.declared.leaf.ProviderRef.TheVariants as provider
 use Rattle.workspace.specs.Labels.{LabelParts}
 use Rattle.targets.specs.Checks.{Dependency}
 use Rattle.targets.specs.TextDicts.{entry_of}

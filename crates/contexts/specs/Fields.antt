@@ -11,12 +11,12 @@ use Rattle.values.specs.Tree.{key, leaf, list, trees}
 use Rattle.values.specs.View.{FrozenTree}
 use Rattle.values.specs.declared.cells.TheConstants.{LARGEST}
 use Rattle.keys.specs.declared.key.Key.TheVariants as index
-use Rattle.values.specs.declared.leaf.Leaf.{Leaf}
-use Rattle.values.specs.declared.leaf.Leaf.TheVariants as plain
-use Rattle.values.specs.declared.leaf.Object.{Object}
-use Rattle.values.specs.declared.leaf.Object.TheVariants as object
-use Rattle.values.specs.declared.ticks.Kind.{Kind}
-use Rattle.values.specs.declared.ticks.Kind.TheVariants as fault
+use Rattle.leaves.specs.declared.leaf.Leaf.{Leaf}
+use Rattle.leaves.specs.declared.leaf.Leaf.TheVariants as plain
+use Rattle.leaves.specs.declared.leaf.Object.{Object}
+use Rattle.leaves.specs.declared.leaf.Object.TheVariants as object
+use Rattle.ticks.specs.declared.ticks.Kind.{Kind}
+use Rattle.ticks.specs.declared.ticks.Kind.TheVariants as fault
 use Rattle.values.specs.declared.value.Value.{Value}
 use Rattle.values.specs.declared.value.Value.TheVariants as value
 use Rattle.operations.specs.Items.{or_fault}

@@ -6,11 +6,11 @@ use Rattle.depsets.specs.Rose.{Rose}
 use Rattle.values.specs.Shape.{Shape, atom, shape, tree_shape, value_of}
 use Rattle.values.specs.View.{FrozenTree}
 use Rattle.values.specs.declared.cells.Cell.{Cell}
-use Rattle.values.specs.declared.leaf.Leaf.{Leaf}
-use Rattle.values.specs.declared.leaf.Leaf.TheVariants as plain
-use Rattle.values.specs.declared.leaf.Provider.{Provider}
-use Rattle.values.specs.declared.ticks.Kind.{Kind}
-use Rattle.values.specs.declared.ticks.Kind.TheVariants as fault
+use Rattle.leaves.specs.declared.leaf.Leaf.{Leaf}
+use Rattle.leaves.specs.declared.leaf.Leaf.TheVariants as plain
+use Rattle.leaves.specs.declared.leaf.Provider.{Provider}
+use Rattle.ticks.specs.declared.ticks.Kind.{Kind}
+use Rattle.ticks.specs.declared.ticks.Kind.TheVariants as fault
 use Rattle.values.specs.declared.value.Value.{Value}
 use Rattle.values.specs.declared.value.Value.TheVariants as value
 use Rattle.operations.specs.Fields.{shape_field}

@@ -4,16 +4,16 @@ use Rattle.values.specs.declared.cells.Cell.{Cell}
 use Rattle.values.specs.declared.cells.Cell.TheVariants as cell
 use Rattle.keys.specs.declared.key.Key.{Key}
 use Rattle.keys.specs.declared.key.Key.TheVariants as index
-use Rattle.values.specs.declared.leaf.AttributeKind.{AttributeKind}
-use Rattle.values.specs.declared.leaf.AttributeKind.TheVariants as kind
-use Rattle.values.specs.declared.leaf.BuiltIn.TheVariants as built_in
-use Rattle.values.specs.declared.leaf.ExportName.TheVariants as export
-use Rattle.values.specs.declared.leaf.FunctionRef.{FunctionRef}
-use Rattle.values.specs.declared.leaf.Leaf.TheVariants as plain
-use Rattle.values.specs.declared.leaf.Provider.{Provider}
-use Rattle.values.specs.declared.leaf.ProviderRef.TheVariants as provider
-use Rattle.values.specs.declared.ticks.Kind.{Kind}
-use Rattle.values.specs.declared.ticks.Kind.TheVariants as fault
+use Rattle.leaves.specs.declared.leaf.AttributeKind.{AttributeKind}
+use Rattle.leaves.specs.declared.leaf.AttributeKind.TheVariants as kind
+use Rattle.leaves.specs.declared.leaf.BuiltIn.TheVariants as built_in
+use Rattle.leaves.specs.declared.leaf.ExportName.TheVariants as export
+use Rattle.leaves.specs.declared.leaf.FunctionRef.{FunctionRef}
+use Rattle.leaves.specs.declared.leaf.Leaf.TheVariants as plain
+use Rattle.leaves.specs.declared.leaf.Provider.{Provider}
+use Rattle.leaves.specs.declared.leaf.ProviderRef.TheVariants as provider
+use Rattle.ticks.specs.declared.ticks.Kind.{Kind}
+use Rattle.ticks.specs.declared.ticks.Kind.TheVariants as fault
 use Rattle.values.specs.declared.value.Value.{Value}
 use Rattle.values.specs.declared.value.Value.TheVariants as value
 use Rattle.operations.specs.Arguments.{Given}

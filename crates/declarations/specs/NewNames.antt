@@ -5,7 +5,7 @@ use Rattle.lexer.specs.Names.{spells_name}
 use Rattle.values.specs.Shape.{Shape, key, atom, shape}
 use Rattle.values.specs.declared.cells.Cell.{Cell}
 use Rattle.keys.specs.declared.key.Key.TheVariants as index
-use Rattle.values.specs.declared.leaf.Leaf.TheVariants as plain
+use Rattle.leaves.specs.declared.leaf.Leaf.TheVariants as plain
 use Rattle.values.specs.declared.value.Value.{Value}
 use Rattle.operations.specs.Reading.{string_in}
 

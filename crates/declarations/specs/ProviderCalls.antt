@@ -5,12 +5,12 @@ use Rattle.std.specs.List.{list_any}
 use Rattle.values.specs.Shape.{Shape, key, items, entries, shape}
 use Rattle.values.specs.declared.cells.Cell.{Cell}
 use Rattle.keys.specs.declared.key.Key.{Key}
-use Rattle.values.specs.declared.leaf.ExportName.TheVariants as export
-use Rattle.values.specs.declared.leaf.Leaf.TheVariants as plain
-use Rattle.values.specs.declared.leaf.Provider.{Provider}
-use Rattle.values.specs.declared.leaf.ProviderRef.TheVariants as provider
-use Rattle.values.specs.declared.ticks.Kind.{Kind}
-use Rattle.values.specs.declared.ticks.Kind.TheVariants.{Wrong, Arity}
+use Rattle.leaves.specs.declared.leaf.ExportName.TheVariants as export
+use Rattle.leaves.specs.declared.leaf.Leaf.TheVariants as plain
+use Rattle.leaves.specs.declared.leaf.Provider.{Provider}
+use Rattle.leaves.specs.declared.leaf.ProviderRef.TheVariants as provider
+use Rattle.ticks.specs.declared.ticks.Kind.{Kind}
+use Rattle.ticks.specs.declared.ticks.Kind.TheVariants.{Wrong, Arity}
 use Rattle.values.specs.declared.value.Value.{Value}
 use Rattle.values.specs.declared.value.Value.TheVariants as value
 use Rattle.operations.specs.Arguments.{Given, Parameter, Bound, optional, bound}

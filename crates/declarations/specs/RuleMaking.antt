@@ -2,13 +2,13 @@
 use Rattle.std.specs.Prelude.{ℕ, Bool, true, List, [], ◌∷◌, ◌++◌, length, slice_get, Option, Some, None, option_and_then, Result, Ok, Err, codes, bytes_eq, if◌then◌else◌}
 use Rattle.values.specs.Shape.{Shape, key, atom, entries, shape}
 use Rattle.keys.specs.declared.key.Key.{Key}
-use Rattle.values.specs.declared.leaf.AttributeRef.{AttributeRef}
-use Rattle.values.specs.declared.leaf.ExportName.TheVariants as export
-use Rattle.values.specs.declared.leaf.FunctionRef.{FunctionRef}
-use Rattle.values.specs.declared.leaf.Leaf.TheVariants as plain
-use Rattle.values.specs.declared.leaf.RuleRef.{RuleRef}
-use Rattle.values.specs.declared.ticks.Kind.{Kind}
-use Rattle.values.specs.declared.ticks.Kind.TheVariants.{Wrong, Arity}
+use Rattle.leaves.specs.declared.leaf.AttributeRef.{AttributeRef}
+use Rattle.leaves.specs.declared.leaf.ExportName.TheVariants as export
+use Rattle.leaves.specs.declared.leaf.FunctionRef.{FunctionRef}
+use Rattle.leaves.specs.declared.leaf.Leaf.TheVariants as plain
+use Rattle.leaves.specs.declared.leaf.RuleRef.{RuleRef}
+use Rattle.ticks.specs.declared.ticks.Kind.{Kind}
+use Rattle.ticks.specs.declared.ticks.Kind.TheVariants.{Wrong, Arity}
 use Rattle.values.specs.declared.value.Value.{Value}
 use Rattle.values.specs.declared.value.Value.TheVariants as value
 use Rattle.operations.specs.Arguments.{Given, Parameter, Bound, wanted, optional, named_only, bound}

@@ -1,6 +1,6 @@
 //! The calls of `attr.string` and its kin.
 ghost use Rattle.std.specs.Prelude.{◌≡◌, Ok, Err, Some, MatchResult, IfOk, codes, option_copied, map};
-ghost use Rattle.values.specs.Ticking.{Changes, FaultOr};
+ghost use Rattle.ticks.specs.Ticking.{Changes, FaultOr};
 ghost use Rattle.operations.specs.Arguments.{given, bound};
 ghost use Rattle.calls.specs.Parameters.{taken, got_from};
 ghost use Rattle.declarations.specs.AttributeCalls.{attribute_parameters, named, attribute_in, attribute_value};
@@ -11,13 +11,14 @@ use crate::names::may_be_doc;
 use crate::restrictions::{allow_files_in, mandatory_in, providers_in, values_in};
 use calls::{Parameter, check_arguments};
 use declarations::Declarations;
+use heap::Heap;
 use making::given_for;
 use operands::Operand;
 use operations::{Arguments, State};
 use plain::Shared;
 use std::alloc::{AllocError, Global};
 use targets::Attribute;
-use values::{AttributeKind, AttributeRef, Broken, Heap, Kind, Leaf, Value};
+use values::{AttributeKind, AttributeRef, Broken, Kind, Leaf, Value};
 
 /// A call of the method of `attr` that declares attributes of a kind.
 ///

@@ -7,11 +7,12 @@ ghost use Rattle.targets.specs.RuleCalls.{each_of};
 ghost use Rattle.declarations.specs.AttributeCalls.{default_in, default_typed, whole_label_in};
 
 use crate::lists::{whole_label, whole_labels};
+use heap::Heap;
 use operands::Operand;
 use plain::Shared;
 use std::alloc::{AllocError, Global};
 use targets::{AttributeValue, TextDict, TextList};
-use values::{AttributeKind, Group, Heap, Key, Leaf, Seen};
+use values::{AttributeKind, Group, Key, Leaf, Seen};
 
 /// What `default` says, which may be missing; None where it is of another type.
 pub(crate) fn default_in(

@@ -7,11 +7,12 @@ ghost use Rattle.declarations.specs.NewNames.{name_in};
 ghost use Rattle.declarations.specs.ProviderCalls.{are_distinct, if_distinct, documented_name, fields_in};
 
 use crate::lists::{name_in, names};
+use heap::Heap;
 use indexmap::IndexSet;
 use plain::Text;
 use state::text_of;
 use std::alloc::{AllocError, Global};
-use values::{Group, Heap, Item, Key, Names, Seen, Table};
+use values::{Group, Item, Key, Names, Seen, Table};
 
 /// The fields that a value says: a sequence of distinct names, or a dict from names to strings; None for another value.
 pub(crate) fn fields_in(

@@ -9,11 +9,12 @@ ghost use Rattle.declarations.specs.AttributeCalls.{key_of_kind, provider_in, al
 ghost use Rattle.declarations.specs.NewNames.{name_in};
 
 use crate::names::name_of;
+use heap::Heap;
 use plain::{Shared, Text};
 use state::{sequence_of, text_of};
 use std::alloc::{AllocError, Global};
 use targets::Sequence;
-use values::{AttributeKind, Group, Heap, Key, Leaf, Names, Provider, Seen};
+use values::{AttributeKind, Group, Key, Leaf, Names, Provider, Seen};
 use workspace::{Label, LabelRefused};
 
 /// Strings.

@@ -4,10 +4,11 @@ ghost use Rattle.lexer.specs.Names.{spells_name};
 ghost use Rattle.values.specs.Seeing.{seen};
 ghost use Rattle.declarations.specs.NewNames.{name_in, is_doc, may_be_doc};
 
+use heap::Heap;
 use operands::Operand;
 use plain::Text;
 use state::text_of;
-use values::{Heap, Key, Leaf, Seen};
+use values::{Key, Leaf, Seen};
 
 /// The name that a value is, if it is one.
 pub(crate) fn name_of<'a>(value: &Seen<'a>) -> Option<&'a Text>

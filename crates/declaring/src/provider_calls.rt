@@ -1,7 +1,7 @@
 //! The call of `provider`.
 ghost use Rattle.std.specs.Prelude.{◌≡◌, true, Ok, Err, Some, IfOk, MatchResult, map, option_copied};
 ghost use Rattle.values.specs.Shape.{shape};
-ghost use Rattle.values.specs.Ticking.{Changes, FaultOr};
+ghost use Rattle.ticks.specs.Ticking.{Changes, FaultOr};
 ghost use Rattle.operations.specs.Arguments.{given};
 ghost use Rattle.calls.specs.Parameters.{taken};
 ghost use Rattle.declarations.specs.NewNames.{may_be_doc};

@@ -8,12 +8,13 @@ ghost use Rattle.declarations.specs.AttributeCalls.{truth_in, mandatory_in, valu
 ghost use Rattle.declarations.specs.AttributeCalls.{providers_in, files_shown, allow_files_in};
 
 use crate::lists::{keys, lists_of_providers, providers, strings};
+use heap::Heap;
 use operands::Operand;
 use plain::Shared;
 use state::sequence_of;
 use std::alloc::{AllocError, Global};
 use targets::{AllowFiles, Sequence};
-use values::{AttributeKind, Group, Heap, Key, Provider, Seen};
+use values::{AttributeKind, Group, Key, Provider, Seen};
 
 /// What `mandatory` says: a bool.
 pub(crate) fn mandatory_in(heap: &Heap, value: Option<&Operand<'_>>) -> Option<bool>

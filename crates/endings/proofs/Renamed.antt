@@ -3,7 +3,7 @@ use Rattle.std.proofs.Common.{◌≡◌, ℕ, zero, suc, ◌+◌, ◌≤◌, Boo
 use Rattle.std.specs.Prelude.{unwrap_or, is_some, if◌then◌else◌}
 use Rattle.values.specs.Tree.{Trees, Pairs, Slots, dict, instance, trees, pairs, slots, weight, weights, pair_weights, slot_weights}
 use Rattle.values.specs.View.{FrozenTree, FrozenBranch}
-use Rattle.values.specs.declared.leaf.Provider.{Provider}
+use Rattle.leaves.specs.declared.leaf.Provider.{Provider}
 use Rattle.keys.specs.declared.key.Key.{Key}
 use Rattle.printing.proofs.TreeTextLemmas.{slot_weight_at}
 use Rattle.evaluation.specs.Evaluated.{first_of}

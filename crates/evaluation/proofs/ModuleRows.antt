@@ -13,12 +13,12 @@ use Rattle.values.specs.Tree.{Trees, key, leaf, branch, none, more}
 use Rattle.values.specs.Tree as tree
 use Rattle.values.specs.Shape.{value_of}
 use Rattle.values.specs.View.{FrozenTree}
-use Rattle.values.specs.declared.leaf.Leaf.TheVariants as plain
-use Rattle.values.specs.declared.leaf.ExportName.TheVariants as export
-use Rattle.values.specs.declared.leaf.ProviderRef.TheVariants as provider
+use Rattle.leaves.specs.declared.leaf.Leaf.TheVariants as plain
+use Rattle.leaves.specs.declared.leaf.ExportName.TheVariants as export
+use Rattle.leaves.specs.declared.leaf.ProviderRef.TheVariants as provider
 use Rattle.keys.specs.declared.key.Key.TheVariants as index
-use Rattle.values.specs.declared.ticks.Kind.{Kind}
-use Rattle.values.specs.declared.ticks.Kind.TheVariants as kind
+use Rattle.ticks.specs.declared.ticks.Kind.{Kind}
+use Rattle.ticks.specs.declared.ticks.Kind.TheVariants as kind
 use Rattle.visits.specs.Freeze.{freeze_at}
 use Rattle.loading.specs.declared.faults.Ending.{Ending}
 use Rattle.loading.specs.declared.faults.Ending.TheVariants.{Faulted, Unnamed}

@@ -9,10 +9,10 @@ use Rattle.meaning.specs.Expressions.{eval}
 use Rattle.meaning.specs.Statements.{exec}
 use Rattle.meaning.specs.Calls.{invoke}
 use Rattle.values.specs.Tree.{leaf}
-use Rattle.values.specs.declared.leaf.FunctionRef.{FunctionRef}
-use Rattle.values.specs.declared.leaf.Leaf.TheVariants as plain
-use Rattle.values.specs.declared.ticks.Kind.{Kind}
-use Rattle.values.specs.declared.ticks.Kind.TheVariants as kind
+use Rattle.leaves.specs.declared.leaf.FunctionRef.{FunctionRef}
+use Rattle.leaves.specs.declared.leaf.Leaf.TheVariants as plain
+use Rattle.ticks.specs.declared.ticks.Kind.{Kind}
+use Rattle.ticks.specs.declared.ticks.Kind.TheVariants as kind
 use Rattle.visits.specs.Freeze.{freeze_at}
 use Rattle.workspace.specs.Labels.{LabelParts}
 use Rattle.targets.specs.Steps.{Implemented, Fault}

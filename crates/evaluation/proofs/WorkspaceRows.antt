@@ -13,8 +13,8 @@ use Rattle.workspace.specs.Paths.{are_segments}
 use Rattle.values.specs.Tree.{key, leaf, branch, none, more}
 use Rattle.values.specs.Tree as tree
 use Rattle.values.specs.declared.value.Value.TheVariants as value
-use Rattle.values.specs.declared.ticks.Kind.{Kind}
-use Rattle.values.specs.declared.ticks.Kind.TheVariants as kind
+use Rattle.ticks.specs.declared.ticks.Kind.{Kind}
+use Rattle.ticks.specs.declared.ticks.Kind.TheVariants as kind
 use Rattle.visits.specs.Freeze.{freeze_at}
 use Rattle.loading.specs.Loads.{Path, LoadFault}
 use Rattle.loading.specs.Modules.{Sources, module_of, build_of}

@@ -1,7 +1,7 @@
 -- A code of frozen values of globals.
 use Rattle.std.specs.Prelude.{List, Option}
 use Rattle.std.specs.Coded.{Coded, coded_list, coded_option}
-use Rattle.values.specs.LeafCodes.{leaf_code, key_code, provider_code}
+use Rattle.leaves.specs.LeafCodes.{leaf_code, key_code, provider_code}
 use Rattle.values.specs.Tree.{coded_tree}
 use Rattle.values.specs.View.{FrozenTree}
 

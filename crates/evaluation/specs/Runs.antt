@@ -11,16 +11,16 @@ use Rattle.meaning.specs.Functions.{Files, functions, def_line}
 use Rattle.meaning.specs.Calls.{function_meaning, top_meaning}
 use Rattle.values.specs.Shape.{value_of}
 use Rattle.values.specs.View.{FrozenTree}
-use Rattle.values.specs.Ticking.{Count, Ticking, then_on}
+use Rattle.ticks.specs.Ticking.{Count, Ticking, then_on}
 use Rattle.values.specs.Visits.{all_of}
-use Rattle.values.specs.declared.leaf.FunctionRef.{FunctionRef}
-use Rattle.values.specs.declared.leaf.Leaf.TheVariants as plain
-use Rattle.values.specs.declared.leaf.Object.TheVariants as object
+use Rattle.leaves.specs.declared.leaf.FunctionRef.{FunctionRef}
+use Rattle.leaves.specs.declared.leaf.Leaf.TheVariants as plain
+use Rattle.leaves.specs.declared.leaf.Object.TheVariants as object
 use Rattle.values.specs.declared.cells.Cell.{Cell}
 use Rattle.values.specs.declared.value.Value.{Value}
 use Rattle.values.specs.declared.value.Value.TheVariants as value
-use Rattle.values.specs.declared.ticks.Kind.{Kind}
-use Rattle.values.specs.declared.ticks.TheConstants.{VISITED_LEVELS}
+use Rattle.ticks.specs.declared.ticks.Kind.{Kind}
+use Rattle.ticks.specs.declared.ticks.TheConstants.{VISITED_LEVELS}
 use Rattle.visits.specs.Freeze.{freeze_at, frozen_slot}
 use Rattle.operations.specs.declared.state.State.{State}
 use Rattle.language.specs.Place.{Place}

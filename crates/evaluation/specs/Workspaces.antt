@@ -11,7 +11,7 @@ use Rattle.grammar.specs.Blocks.{Block}
 use Rattle.file_syntax.specs.Files.{syntax}
 use Rattle.program_tree.specs.Resolved.{Statement, load, Steps, no_steps, step, Program, resolved}
 use Rattle.meaning.specs.Functions.{Files}
-use Rattle.values.specs.declared.ticks.Kind.{Kind}
+use Rattle.ticks.specs.declared.ticks.Kind.{Kind}
 use Rattle.loading.specs.Loads.{Path, Load, Read}
 use Rattle.loading.specs.Modules.{Sources}
 use Rattle.workspace.specs.FileKinds.{is_build_file, is_module}

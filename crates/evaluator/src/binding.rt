@@ -1,6 +1,6 @@
 //! Names of top levels, what loads ask for, and what a `def` makes.
 ghost use Rattle.std.specs.Prelude.{◌≡◌, Ok, Err, Some, None, MatchResult, IfOk, option_copied, nat_eq};
-ghost use Rattle.values.specs.Ticking.{FaultOr};
+ghost use Rattle.ticks.specs.Ticking.{FaultOr};
 ghost use Rattle.values.specs.Seeing.{option_value};
 ghost use Rattle.operations.specs.States.{Gives};
 ghost use Rattle.operations.specs.Items.{or_fault};

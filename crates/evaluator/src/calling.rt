@@ -1,8 +1,8 @@
 //! Calls of what isn't written in Starlark.
 ghost use Rattle.std.specs.Prelude.{◌≡◌, Ok, Err, Some, None, MatchResult};
-ghost use Rattle.values.specs.Ticking.{FaultOr};
+ghost use Rattle.ticks.specs.Ticking.{FaultOr};
 ghost use Rattle.values.specs.Seeing.{item_value};
-ghost use Rattle.values.specs.declared.leaf.Leaf.{Leaf as Plain};
+ghost use Rattle.leaves.specs.declared.leaf.Leaf.{Leaf as Plain};
 ghost use Rattle.operations.specs.Arguments.{given};
 ghost use Rattle.language.specs.Language.{call_of, value_call, leaf_call, leaf_of, or_place, given_of};
 ghost use Rattle.language.specs.Language.{method_or_place, place_method, of_place};

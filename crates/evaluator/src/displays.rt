@@ -1,6 +1,6 @@
 //! New lists, tuples and dicts, and what displays and comprehensions put into them.
 ghost use Rattle.std.specs.Prelude.{◌≡◌, Ok, Err, MatchResult};
-ghost use Rattle.values.specs.Ticking.{FaultOr};
+ghost use Rattle.ticks.specs.Ticking.{FaultOr};
 ghost use Rattle.values.specs.Seeing.{item_value};
 ghost use Rattle.operations.specs.Making.{new_list, new_tuple, new_dict, collect, enter, keep};
 ghost use Rattle.operations.specs.Changes.{set_item};

@@ -6,9 +6,10 @@ ghost use Rattle.values.specs.Visits.{keys_of};
 ghost use Rattle.values.specs.Walks.{walked_items, walked_values};
 ghost use Rattle.evaluator.specs.Walked.{Gives, left_seen, frozen_seen, held_items_seen, held_keys_seen, items_seen, keys_seen, table_keys};
 
+use heap::Heap;
 use operands::Operand;
 use std::alloc::AllocError;
-use values::{Branch, Group, Heap, HeldEntries, HeldItems, Item, Key, Seen, Table, Value, Walked};
+use values::{Branch, Group, HeldEntries, HeldItems, Item, Key, Seen, Table, Value, Walked};
 
 /// The items that a walk has left. Of a value of this evaluation it holds a share, and copies nothing.
 #[derive(Drop)]

@@ -1,7 +1,7 @@
 //! Operators.
 ghost use Rattle.std.specs.Prelude.{◌≡◌, Ok, Err, Some, None, MatchResult};
 ghost use Rattle.grammar.specs.TreeView.{operator_seen, sign_seen};
-ghost use Rattle.values.specs.Ticking.{FaultOr};
+ghost use Rattle.ticks.specs.Ticking.{FaultOr};
 ghost use Rattle.values.specs.Seeing.{item_value};
 ghost use Rattle.operations.specs.Operators.{add_in_place};
 ghost use Rattle.language.specs.Place.{of_state};

@@ -1,6 +1,6 @@
 //! Ticks, walks, and sequences that are unpacked.
 ghost use Rattle.std.specs.Prelude.{◌≡◌, Ok, Err, MatchResult, IfOk};
-ghost use Rattle.values.specs.Ticking.{FaultOr};
+ghost use Rattle.ticks.specs.Ticking.{FaultOr};
 ghost use Rattle.values.specs.Seeing.{item_value};
 ghost use Rattle.operations.specs.States.{tick};
 ghost use Rattle.values.specs.Shape.{shape};
@@ -12,10 +12,11 @@ ghost use Rattle.evaluator.specs.Walked.{left_seen};
 use crate::left::Left;
 use crate::stacks::{unpack_lent, unpack_own};
 use frames::Stack;
+use heap::Heap;
 use language::Whole;
 use operands::{Operand, as_value};
 use std::alloc::AllocError;
-use values::{Broken, Heap, Item, Kind};
+use values::{Broken, Item, Kind};
 
 /// One tick.
 #[inline(always)]

@@ -1,11 +1,11 @@
 -- The methods of `attr`, which every file finds bound (Bazel documentation, "attr"). Which of its calls are allowed is said of each
 -- place.
 use Rattle.std.specs.Prelude.{ℕ, Bool, List, Option, Some, None, is_some, codes, bytes_eq, if◌then◌else◌}
-use Rattle.values.specs.declared.leaf.AttributeKind.{AttributeKind}
-use Rattle.values.specs.declared.leaf.AttributeKind.TheVariants as kind
-use Rattle.values.specs.declared.leaf.Leaf.{Leaf}
-use Rattle.values.specs.declared.leaf.Leaf.TheVariants as plain
-use Rattle.values.specs.declared.leaf.Object.TheVariants as object
+use Rattle.leaves.specs.declared.leaf.AttributeKind.{AttributeKind}
+use Rattle.leaves.specs.declared.leaf.AttributeKind.TheVariants as kind
+use Rattle.leaves.specs.declared.leaf.Leaf.{Leaf}
+use Rattle.leaves.specs.declared.leaf.Leaf.TheVariants as plain
+use Rattle.leaves.specs.declared.leaf.Object.TheVariants as object
 
 -- the kind of attribute that a method of `attr` declares
 abbrev pub kind_named : List ℕ → Option AttributeKind

@@ -1,7 +1,7 @@
 //! What a `BUILD` file has while it runs.
 ghost use Rattle.std.specs.Prelude.{◌≡◌, Ok, Err, Some, None, Option, MatchResult, option_copied};
-ghost use Rattle.values.specs.Ticking.{FaultOr};
-ghost use Rattle.values.specs.declared.leaf.MadeId.{MadeId as Id};
+ghost use Rattle.ticks.specs.Ticking.{FaultOr};
+ghost use Rattle.leaves.specs.declared.leaf.MadeId.{MadeId as Id};
 ghost use Rattle.operations.specs.Arguments.{Given, given};
 ghost use Rattle.language.specs.declared.whole.Whole.{Whole as Held};
 ghost use Rattle.targets.specs.declared.attributes.Rule.{Rule as Made};

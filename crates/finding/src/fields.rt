@@ -1,6 +1,6 @@
 //! Fields.
 ghost use Rattle.std.specs.Prelude.{◌≡◌, Ok, Err, Some, None, MatchResult, IfOk};
-ghost use Rattle.values.specs.Ticking.{FaultOr};
+ghost use Rattle.ticks.specs.Ticking.{FaultOr};
 ghost use Rattle.values.specs.Seeing.{seen, slot_values};
 ghost use Rattle.values.specs.Shape.{shape};
 ghost use Rattle.operations.specs.States.{Does, Stays, Gives};

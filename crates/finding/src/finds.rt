@@ -1,6 +1,6 @@
 //! What is called where a name of a value is called.
 ghost use Rattle.std.specs.Prelude.{◌≡◌, Ok, Err, Some, None, MatchResult};
-ghost use Rattle.values.specs.Ticking.{FaultOr};
+ghost use Rattle.ticks.specs.Ticking.{FaultOr};
 ghost use Rattle.operations.specs.Fields.{find};
 ghost use Rattle.finding.specs.Founds.{finding};
 

@@ -4,7 +4,7 @@ ghost use Rattle.std.specs.Prelude.{◌≡◌, List, [], ◌∷◌, IfOk, MatchO
 ghost use Rattle.grammar.specs.TreeView.{operator_seen, sign_seen};
 ghost use Rattle.meaning.specs.Operations.{Operations};
 ghost use Rattle.values.specs.declared.value.Value as held;
-ghost use Rattle.values.specs.declared.ticks.Kind as kinds;
+ghost use Rattle.ticks.specs.declared.ticks.Kind as kinds;
 ghost use Rattle.values.specs.Seeing.{item_value};
 ghost use Rattle.frames.specs.Answers.{Says, SaysAs, Unpacks, refusal_seen, id_seen, callee_seen, given};
 ghost use Rattle.frames.specs.Kept.{defaults_seen};

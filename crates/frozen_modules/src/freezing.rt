@@ -1,13 +1,14 @@
 //! Freezing what a module leaves.
 ghost use Rattle.std.specs.Prelude.{◌≡◌, ◌++◌, ◌∷◌, [], ◌<◌, Ok, Some, OnOk, MatchResult, length, slice_get};
-ghost use Rattle.values.specs.Ticking.{Says, FaultOr};
+ghost use Rattle.ticks.specs.Ticking.{Says, FaultOr};
 ghost use Rattle.values.specs.Visits.{all_of};
 ghost use Rattle.visits.specs.Freeze.{freeze_at, frozen_slot};
 
+use heap::Heap;
 use operations::Defaults;
 use std::alloc::{AllocError, Global};
 use targets::Sequence;
-use values::{Broken, Frozen, Heap, Item, Ticks, VISITED_LEVELS, Value};
+use values::{Broken, Frozen, Item, Ticks, VISITED_LEVELS, Value};
 use visits::freeze;
 
 /// The frozen value of a global, if it is bound.

@@ -1,13 +1,14 @@
 //! All that a module leaves.
 ghost use Rattle.std.specs.Prelude.{◌≡◌, Ok, MatchResult};
-ghost use Rattle.values.specs.Ticking.{FaultOr};
+ghost use Rattle.ticks.specs.Ticking.{FaultOr};
 ghost use Rattle.evaluation.specs.Runs.{all_frozen};
 
 use crate::freezing::{freeze_defaults, freeze_globals};
+use heap::Heap;
 use operations::Defaults;
 use std::alloc::Global;
 use targets::Sequence;
-use values::{Broken, Frozen, Heap, Ticks, Value};
+use values::{Broken, Frozen, Ticks, Value};
 
 /// The frozen values of a module's globals, and of the defaults of its functions.
 #[derive(Drop)]

@@ -1,10 +1,10 @@
 -- Of the built-in functions `depset` alone makes a depset.
 use Rattle.std.proofs.Common.{ℕ, ℤ, pos, List, [], ◌∷◌, Option, Some, None, Result, Ok, Err}
 use Rattle.values.specs.Shape.{Shape, key, atom, items, entries, fields, nothing, shape}
-use Rattle.values.specs.Ticking.{Count}
+use Rattle.ticks.specs.Ticking.{Count}
 use Rattle.values.specs.Visits.{keys_of}
 use Rattle.values.specs.declared.cells.Cell.{Cell}
-use Rattle.values.specs.declared.ticks.Kind.{Kind}
+use Rattle.ticks.specs.declared.ticks.Kind.{Kind}
 use Rattle.values.specs.declared.value.Value.{Value}
 use Rattle.printing.specs.Repr.{repr_of}
 use Rattle.numbers.specs.Ranges.{range_of}

@@ -1,7 +1,7 @@
 -- Calls of what isn't written in Starlark, but for what only one place has.
 use Rattle.std.proofs.Common.{◌≡◌, ℕ, List, Some, codes, subst}
-use Rattle.values.specs.declared.leaf.BuiltIn.{BuiltIn}
-use Rattle.values.specs.declared.leaf.BuiltIn.TheVariants as built_in
+use Rattle.leaves.specs.declared.leaf.BuiltIn.{BuiltIn}
+use Rattle.leaves.specs.declared.leaf.BuiltIn.TheVariants as built_in
 use Rattle.values.specs.declared.value.Value.{Value}
 use Rattle.operations.specs.Arguments.{Given}
 use Rattle.operations.specs.BuiltIns.{len, str, list, fail}

@@ -1,14 +1,14 @@
 -- What changes of lists and dicts, and walks, keep.
 use Rattle.std.proofs.Common.{◌≡◌, ◌+◌, ℕ, zero, suc, Bool, true, false, List, [], ◌∷◌, ◌++◌, Option, Some, None, Result, Ok, Err, subst}
-use Rattle.values.specs.Cells.{list_changed, dict_changed, joined, indexed, keyed, walk_begun, walk_over, put_at, after, walk_begun_at, ended_at, walk_ended}
-use Rattle.values.specs.Laws.{append, extend, set_index, set_key, heap_after}
+use Rattle.heap.specs.Cells.{list_changed, dict_changed, joined, indexed, keyed, walk_begun, walk_over, put_at, after, walk_begun_at, ended_at, walk_ended}
+use Rattle.heap.specs.Laws.{append, extend, set_index, set_key, heap_after}
 use Rattle.values.specs.Shape.{Shape, key, atom, items, entries, fields, nothing, shape}
 use Rattle.values.specs.View.{is_walkable}
 use Rattle.values.specs.Visits.{keys_of}
 use Rattle.values.specs.declared.cells.Cell.{Cell}
 use Rattle.values.specs.declared.cells.Cell.TheVariants as cell
-use Rattle.values.specs.declared.ticks.Kind.{Kind}
-use Rattle.values.specs.declared.ticks.Kind.TheVariants.{Wrong}
+use Rattle.ticks.specs.declared.ticks.Kind.{Kind}
+use Rattle.ticks.specs.declared.ticks.Kind.TheVariants.{Wrong}
 use Rattle.values.specs.declared.value.Value.{Value}
 use Rattle.values.specs.declared.value.Value.TheVariants as value
 use Rattle.operations.specs.Changes as change

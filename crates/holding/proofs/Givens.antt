@@ -1,7 +1,7 @@
 -- What a call of what isn't written in Starlark reads of its arguments has no depsets but theirs.
 use Rattle.std.proofs.Common.{ℕ, if◌then◌else◌, is_some, List, [], ◌∷◌, Option, Some, None, Result, Ok, Err}
-use Rattle.values.specs.declared.ticks.Kind.{Kind}
-use Rattle.values.specs.declared.ticks.Kind.TheVariants.{Arity}
+use Rattle.ticks.specs.declared.ticks.Kind.{Kind}
+use Rattle.ticks.specs.declared.ticks.Kind.TheVariants.{Arity}
 use Rattle.values.specs.declared.value.Value.{Value}
 use Rattle.operations.specs.Arguments.{Given, Parameter, Bound, place_named, given_for, put_first, named_or_missing, filled, all_known, bound, one, unless_named, positions}
 use Rattle.one_tree.specs.Found.{Set, in_value, in_values, in_fields}

@@ -3,10 +3,10 @@ use Rattle.std.proofs.Common.{ℕ, List, [], ◌∷◌, Option, Some, None, Resu
 use Rattle.values.specs.Shape.{shape}
 use Rattle.depsets.specs.declared.depset.Order.TheVariants as order
 use Rattle.values.specs.declared.cells.Cell.TheVariants as cell
-use Rattle.values.specs.declared.leaf.MadeId.{MadeId}
-use Rattle.values.specs.declared.leaf.Provider.{Provider}
-use Rattle.values.specs.declared.ticks.Kind.{Kind}
-use Rattle.values.specs.declared.ticks.Kind.TheVariants as kind
+use Rattle.leaves.specs.declared.leaf.MadeId.{MadeId}
+use Rattle.leaves.specs.declared.leaf.Provider.{Provider}
+use Rattle.ticks.specs.declared.ticks.Kind.{Kind}
+use Rattle.ticks.specs.declared.ticks.Kind.TheVariants as kind
 use Rattle.values.specs.declared.value.Value.{Value}
 use Rattle.operations.specs.Arguments.{Given, Bound, given_for, bound}
 use Rattle.operations.specs.Calls.{made_by, instance_call}

@@ -3,11 +3,11 @@ use Rattle.std.proofs.Common.{ℕ, List, [], ◌∷◌, ◌++◌, Option, Some, 
 use Rattle.std.specs.Map.{lookup}
 use Rattle.strings.specs.Joining.{join_of}
 use Rattle.strings.specs.Splitting.{split_of}
-use Rattle.values.specs.Leaves.{same_key}
+use Rattle.leaves.specs.Leaves.{same_key}
 use Rattle.values.specs.Shape.{shape}
 use Rattle.values.specs.Visits.{keys_of}
 use Rattle.keys.specs.declared.key.Key.{Key}
-use Rattle.values.specs.declared.ticks.Kind.{Kind}
+use Rattle.ticks.specs.declared.ticks.Kind.{Kind}
 use Rattle.values.specs.declared.value.Value.{Value}
 use Rattle.values.specs.declared.value.Value.TheVariants as value
 use Rattle.operations.specs.Arguments.{Given, positions}

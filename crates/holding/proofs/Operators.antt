@@ -5,14 +5,14 @@ use Rattle.numbers.specs.Order.{passes}
 use Rattle.numbers.specs.declared.arithmetic.NumberError.{NumberError}
 use Rattle.numbers.specs.declared.order.Comparison.{Comparison}
 use Rattle.depsets.specs.Elements.{same_truth}
-use Rattle.values.specs.Laws.{extend, heap_after}
+use Rattle.heap.specs.Laws.{extend, heap_after}
 use Rattle.values.specs.Shape.{Shape, key, items, shape}
-use Rattle.values.specs.Ticking.{Count, ticked}
+use Rattle.ticks.specs.Ticking.{Count, ticked}
 use Rattle.keys.specs.declared.key.Key.{Key}
 use Rattle.keys.specs.declared.key.Key.TheVariants as index
-use Rattle.values.specs.declared.ticks.TheConstants.{VISITED_LEVELS}
-use Rattle.values.specs.declared.ticks.Kind.{Kind}
-use Rattle.values.specs.declared.ticks.Kind.TheVariants.{Wrong}
+use Rattle.ticks.specs.declared.ticks.TheConstants.{VISITED_LEVELS}
+use Rattle.ticks.specs.declared.ticks.Kind.{Kind}
+use Rattle.ticks.specs.declared.ticks.Kind.TheVariants.{Wrong}
 use Rattle.values.specs.declared.value.Value.{Value}
 use Rattle.printing.specs.Repr.{fits}
 use Rattle.visits.specs.Equal.{equal_at}

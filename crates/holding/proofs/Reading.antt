@@ -4,15 +4,15 @@ use Rattle.std.specs.Prelude.{bytes_eq, codes}
 use Rattle.std.specs.List.{flat_map}
 use Rattle.std.specs.Map.{lookup}
 use Rattle.depsets.specs.declared.element.FileRef.{FileRef}
-use Rattle.values.specs.Cells.{place_of}
-use Rattle.values.specs.Leaves.{same_key}
+use Rattle.heap.specs.Cells.{place_of}
+use Rattle.leaves.specs.Leaves.{same_key}
 use Rattle.values.specs.Shape.{Shape, key, atom, items, entries, fields, nothing, shape}
 use Rattle.keys.specs.declared.key.Key.{Key}
 use Rattle.keys.specs.declared.key.Key.TheVariants as index
-use Rattle.values.specs.declared.leaf.Leaf.{Leaf}
-use Rattle.values.specs.declared.leaf.Leaf.TheVariants as plain
-use Rattle.values.specs.declared.leaf.MadeId.{MadeId}
-use Rattle.values.specs.declared.ticks.Kind.TheVariants as kind
+use Rattle.leaves.specs.declared.leaf.Leaf.{Leaf}
+use Rattle.leaves.specs.declared.leaf.Leaf.TheVariants as plain
+use Rattle.leaves.specs.declared.leaf.MadeId.{MadeId}
+use Rattle.ticks.specs.declared.ticks.Kind.TheVariants as kind
 use Rattle.values.specs.declared.value.Value.{Value}
 use Rattle.operations.specs.Arguments.{place_named}
 use Rattle.operations.specs.Fields.{before_colon, after_colon, label_field, last_part, file_field, leaf_field, shape_field, field, shape_method, Found, plainly, with_method, found_in as found_of, find}

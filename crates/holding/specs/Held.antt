@@ -6,7 +6,7 @@ use Rattle.std.specs.List.{flat_map}
 use Rattle.depsets.specs.Flat.{Among}
 use Rattle.depsets.specs.Rose.{label}
 use Rattle.values.specs.declared.value.Value.{Value}
-use Rattle.values.specs.declared.ticks.Kind.{Kind}
+use Rattle.ticks.specs.declared.ticks.Kind.{Kind}
 use Rattle.operations.specs.declared.state.State.{State}
 use Rattle.one_tree.specs.Found.{Set, in_value, in_values, in_fields, in_heap}
 use Rattle.one_tree.specs.Sets.{IsOneTree, IsNumbered, AreIn}

@@ -1,12 +1,12 @@
 -- Worked calls, fields and items in an implementation, by computation.
 use Rattle.std.specs.Prelude.{◌≡◌, ℕ, true, false, List, [], ◌∷◌, Some, Ok, Err, refl, codes}
 use Rattle.depsets.specs.declared.element.FileRef.{FileRef}
-use Rattle.values.specs.declared.leaf.BuiltIn.TheVariants as built_in
-use Rattle.values.specs.declared.leaf.ExportName.TheVariants as export
-use Rattle.values.specs.declared.leaf.FunctionRef.{FunctionRef}
-use Rattle.values.specs.declared.leaf.Leaf.TheVariants as plain
-use Rattle.values.specs.declared.leaf.Object.TheVariants as object
-use Rattle.values.specs.declared.ticks.Kind.TheVariants as fault
+use Rattle.leaves.specs.declared.leaf.BuiltIn.TheVariants as built_in
+use Rattle.leaves.specs.declared.leaf.ExportName.TheVariants as export
+use Rattle.leaves.specs.declared.leaf.FunctionRef.{FunctionRef}
+use Rattle.leaves.specs.declared.leaf.Leaf.TheVariants as plain
+use Rattle.leaves.specs.declared.leaf.Object.TheVariants as object
+use Rattle.ticks.specs.declared.ticks.Kind.TheVariants as fault
 use Rattle.values.specs.declared.value.Value.{Value}
 use Rattle.values.specs.declared.value.Value.TheVariants as value
 use Rattle.actions.specs.declared.action.Action.{Action}

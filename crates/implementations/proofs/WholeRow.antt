@@ -9,8 +9,8 @@ use Rattle.meaning.specs.Statements.{exec}
 use Rattle.meaning.specs.Calls.{invoke}
 use Rattle.depsets.specs.declared.element.FileRef.{FileRef}
 use Rattle.values.specs.Tree.{leaf}
-use Rattle.values.specs.declared.leaf.FunctionRef.{FunctionRef}
-use Rattle.values.specs.declared.leaf.Leaf.TheVariants as plain
+use Rattle.leaves.specs.declared.leaf.FunctionRef.{FunctionRef}
+use Rattle.leaves.specs.declared.leaf.Leaf.TheVariants as plain
 use Rattle.actions.specs.declared.action.Action.{Action}
 use Rattle.actions.specs.declared.action.Inputs.TheVariants as inputs
 use Rattle.visits.specs.Freeze.{freeze_at}

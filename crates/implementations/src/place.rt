@@ -1,6 +1,6 @@
 //! The place of an implementation.
 ghost use Rattle.std.specs.Prelude.{◌≡◌, Ok, Err, Some, None, MatchResult};
-ghost use Rattle.values.specs.Ticking.{FaultOr};
+ghost use Rattle.ticks.specs.Ticking.{FaultOr};
 ghost use Rattle.operations.specs.Arguments.{given};
 ghost use Rattle.places.specs.Answers.{Says, Reads};
 ghost use Rattle.contexts.specs.Actions.{method_named};

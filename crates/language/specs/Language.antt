@@ -6,15 +6,15 @@ use Rattle.program_tree.specs.declared.names.Predeclared.{Predeclared}
 use Rattle.program_tree.specs.declared.names.Predeclared.TheVariants as name
 use Rattle.meaning.specs.Operations as meant
 use Rattle.values.specs.Shape.{shape}
-use Rattle.values.specs.declared.leaf.Leaf.{Leaf}
-use Rattle.values.specs.declared.leaf.Leaf.TheVariants as plain
-use Rattle.values.specs.declared.leaf.BuiltIn.TheVariants as built_in
-use Rattle.values.specs.declared.leaf.Object.TheVariants as object
-use Rattle.values.specs.declared.leaf.MadeId.{MadeId}
+use Rattle.leaves.specs.declared.leaf.Leaf.{Leaf}
+use Rattle.leaves.specs.declared.leaf.Leaf.TheVariants as plain
+use Rattle.leaves.specs.declared.leaf.BuiltIn.TheVariants as built_in
+use Rattle.leaves.specs.declared.leaf.Object.TheVariants as object
+use Rattle.leaves.specs.declared.leaf.MadeId.{MadeId}
 use Rattle.values.specs.declared.value.Value.{Value}
 use Rattle.values.specs.declared.value.Value.TheVariants as value
-use Rattle.values.specs.declared.ticks.Kind.{Kind}
-use Rattle.values.specs.declared.ticks.Kind.TheVariants as kind
+use Rattle.ticks.specs.declared.ticks.Kind.{Kind}
+use Rattle.ticks.specs.declared.ticks.Kind.TheVariants as kind
 use Rattle.operations.specs.declared.arithmetic.Arithmetic.TheVariants as arithmetic
 use Rattle.operations.specs.declared.method.Method.{Method}
 use Rattle.operations.specs.States.{Op, then_do, tick}

@@ -1,9 +1,9 @@
 -- What only one place has (a module, a `BUILD` file, an implementation): its own work beside the state of an evaluation, its
 -- calls, and what its targets and objects show.
 use Rattle.std.specs.Prelude.{ℕ, Bool, List, Result, Ok, Err}
-use Rattle.values.specs.declared.leaf.Leaf.{Leaf}
+use Rattle.leaves.specs.declared.leaf.Leaf.{Leaf}
 use Rattle.values.specs.declared.value.Value.{Value}
-use Rattle.values.specs.declared.ticks.Kind.{Kind}
+use Rattle.ticks.specs.declared.ticks.Kind.{Kind}
 use Rattle.operations.specs.declared.state.State.{State}
 use Rattle.operations.specs.States.{Op}
 use Rattle.operations.specs.Arguments.{Given}

@@ -1,7 +1,7 @@
 //! The operators of two values, where the right side is no target.
 ghost use Rattle.std.specs.Prelude.{◌≡◌, Ok, Err, MatchResult};
 ghost use Rattle.grammar.specs.TreeView.{operator_seen};
-ghost use Rattle.values.specs.Ticking.{FaultOr};
+ghost use Rattle.ticks.specs.Ticking.{FaultOr};
 ghost use Rattle.values.specs.Seeing.{item_value};
 ghost use Rattle.operations.specs.States.{Does, Stays};
 ghost use Rattle.operations.specs.Equality.{equals};

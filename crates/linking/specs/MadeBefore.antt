@@ -1,6 +1,6 @@
 -- What the modules before an evaluation declared, by number.
 use Rattle.std.specs.Prelude.{ℕ, List, Option, option_and_then, slice_get}
-use Rattle.values.specs.declared.leaf.MadeId.{MadeId}
+use Rattle.leaves.specs.declared.leaf.MadeId.{MadeId}
 use Rattle.targets.specs.declared.attributes.Attribute.{Attribute}
 use Rattle.targets.specs.declared.attributes.Rule.{Rule}
 use Rattle.loading.specs.Loads.{Path}

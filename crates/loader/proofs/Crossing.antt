@@ -1,10 +1,11 @@
 -- Files that were loaded may be shared by threads.
 use denote.Param.Send.{IsSend, IsSync, sendable}
 use Rattle.std.proofs.Crossing as std
-use Rattle.values.proofs.Crossing.{leaf_send, leaf_sync, frozen_sync}
+use Rattle.leaves.proofs.Crossing.{leaf_send, leaf_sync}
+use Rattle.values.proofs.Crossing.{frozen_sync}
 use Rattle.plain.proofs.text.Text.TheSendSync as text
 use Rattle.keys.proofs.key.Key.TheSendSync as key
-use Rattle.values.proofs.leaf.Provider.TheSendSync as provider
+use Rattle.leaves.proofs.leaf.Provider.TheSendSync as provider
 use Rattle.values.proofs.frozen.Branch.TheLaws.TheKnot as frozen
 use Rattle.values.specs.contracts.frozen.Branch as Branch
 use Rattle.values.specs.contracts.value.Value as Value

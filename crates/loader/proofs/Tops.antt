@@ -6,7 +6,7 @@ use Rattle.std.proofs.lemmas.Option.{slice_get_past}
 use Rattle.meaning.specs.Outcome.{Final}
 use Rattle.meaning.specs.Functions.{Files, functions}
 use Rattle.meaning.specs.Calls.{top_meaning}
-use Rattle.values.specs.declared.ticks.Kind.{Kind}
+use Rattle.ticks.specs.declared.ticks.Kind.{Kind}
 use Rattle.values.specs.declared.value.Value.{Value}
 use Rattle.language.specs.Language.{language}
 use Rattle.language.specs.Place.{Place}

@@ -2,7 +2,7 @@
 
 ghost use Rattle.std.specs.Prelude.{◌≡◌, [], IfOk};
 ghost use Rattle.values.specs.declared.value.Value as held;
-ghost use Rattle.values.specs.declared.ticks.Kind as kinds;
+ghost use Rattle.ticks.specs.declared.ticks.Kind as kinds;
 ghost use Rattle.meaning.specs.Correct.{call_start, function_start, top_start};
 ghost use Rattle.meaning.specs.Functions.{Files};
 ghost use Rattle.meaning.specs.StatementCode.{code_of};

@@ -3,7 +3,7 @@ use Rattle.std.specs.Prelude.{◌≡◌, ℕ, zero, suc, ◌-◌, ◌^◌, List,
 use Rattle.depsets.specs.Rose.{Rose}
 use Rattle.depsets.specs.Own.{Own}
 use Rattle.depsets.specs.declared.depset.Order.TheVariants as order
-use Rattle.values.specs.declared.ticks.Kind.TheVariants as kind
+use Rattle.ticks.specs.declared.ticks.Kind.TheVariants as kind
 use Rattle.operations.specs.declared.state.State.{State}
 use Rattle.operations.specs.Depsets.{next_depset, new_depset}
 use Rattle.operations.proofs.Rows.{with_cells}

@@ -1,11 +1,11 @@
 -- One turn of gathering, whatever is gathered.
 use Rattle.std.proofs.Common.{◌≡◌, ℕ, ◌+◌, List, drop, slice_get, Some, Ok, Err, Result, ap, ◌∙◌}
 use Rattle.depsets.proofs.Turns.{drop_at}
-use Rattle.values.specs.Ticking.{FaultOr}
+use Rattle.ticks.specs.Ticking.{FaultOr}
 use Rattle.values.specs.declared.value.Value.{Value}
-use Rattle.values.specs.declared.ticks.Kind.{Kind}
-use Rattle.values.specs.declared.ticks.Broken.{Broken}
-use Rattle.values.specs.declared.ticks.Broken.TheVariants as broken
+use Rattle.ticks.specs.declared.ticks.Kind.{Kind}
+use Rattle.ticks.specs.declared.ticks.Broken.{Broken}
+use Rattle.ticks.specs.declared.ticks.Broken.TheVariants as broken
 use Rattle.operations.specs.States.{then_give}
 use Rattle.operations.specs.Depsets.{gathered}
 

@@ -1,6 +1,6 @@
 //! The call of `depset`: its parts, and the depset with the next serial of the owner.
 ghost use Rattle.std.specs.Prelude.{◌≡◌, Ok, Err, Some, None, MatchResult, option_copied};
-ghost use Rattle.values.specs.Ticking.{FaultOr};
+ghost use Rattle.ticks.specs.Ticking.{FaultOr};
 ghost use Rattle.values.specs.Seeing.{seen};
 ghost use Rattle.values.specs.Shape.{shape};
 ghost use Rattle.operations.specs.Reading.{depset_in, of_type};
@@ -9,10 +9,11 @@ ghost use Rattle.printing.specs.Repr.{string_in};
 ghost use Rattle.operations.specs.Depsets.{new_depset, order_named, order_text, order_in, parts_in, element_in, parts_of, made_of, depset_of};
 
 use crate::parts::{children, elements};
+use heap::Heap;
 use operands::Operand;
 use operations::State;
 use std::alloc::Global;
-use values::{Broken, Depset, DepsetError, Element, Heap, Id, Key, Kind, Leaf, Order, Seen, Value};
+use values::{Broken, Depset, DepsetError, Element, Id, Key, Kind, Leaf, Order, Seen, Value};
 
 /// A depset of these parts, with the next serial of the owner.
 ///

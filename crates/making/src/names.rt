@@ -1,6 +1,6 @@
 //! Names of the top level, and functions.
 ghost use Rattle.std.specs.Prelude.{◌≡◌, Ok, Err, Some, None, MatchResult, option_copied, option_map, slice_get, nat_eq, length};
-ghost use Rattle.values.specs.Ticking.{FaultOr};
+ghost use Rattle.ticks.specs.Ticking.{FaultOr};
 ghost use Rattle.operands.specs.Lying.{stored_value};
 ghost use Rattle.operations.specs.States.{Does, Stays};
 ghost use Rattle.operations.specs.Names.{name_value, set_global, set_loaded, define, in_slot, or_loaded};

@@ -1,12 +1,13 @@
 //! Elements and depsets, out of the items of a sequence.
 ghost use Rattle.std.specs.Prelude.{◌≡◌, ◌++◌, ◌∷◌, [], Ok, Err, Some, None, IfOk, MatchResult};
-ghost use Rattle.values.specs.Ticking.{FaultOr};
+ghost use Rattle.ticks.specs.Ticking.{FaultOr};
 ghost use Rattle.values.specs.Seeing.{seen, group_items};
 ghost use Rattle.operations.specs.Depsets.{element_in, all_in, put_last};
 ghost use Rattle.operations.specs.Reading.{depset_in};
 
+use heap::Heap;
 use std::alloc::{AllocError, Global};
-use values::{Broken, Depset, Element, Group, Heap, Key, Kind, Leaf, Seen};
+use values::{Broken, Depset, Element, Group, Key, Kind, Leaf, Seen};
 
 /// The elements that items are, or `type`.
 pub(crate) fn elements(alloc: Global, items: Group<'_>, heap: &Heap) -> Result<Vec<Element>, Broken>

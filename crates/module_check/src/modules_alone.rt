@@ -4,6 +4,7 @@ use anyhow::{Result, bail};
 use code::compile;
 use evaluator::World;
 use frames::Stop;
+use heap::Heap;
 use language::Whole;
 use language_calls::DefaultInfo;
 use machine::{Linked, Start, execute};
@@ -14,7 +15,7 @@ use plain::Text;
 use printing::{put_quoted, text};
 use std::alloc::{AllocError, Global};
 use syntax::{FileKind, ParseStop, Parsed, parse};
-use values::{Broken, Fields, Heap, Item, Items, Kind, Ticks};
+use values::{Broken, Fields, Item, Items, Kind, Ticks};
 use visits::freeze;
 
 /// How many ticks a module may use.

@@ -3,14 +3,14 @@ use Rattle.std.proofs.Common.{◌≡◌, ℕ, Bool, true, false, nat_eq, if◌th
 use Rattle.std.proofs.lemmas.Option.{same_Some, slice_get-map}
 use Rattle.values.specs.Tree.{key, leaf, branch}
 use Rattle.values.specs.View.{FrozenTree}
-use Rattle.values.specs.Ticking.{Ticking}
-use Rattle.values.specs.declared.leaf.Leaf.{Leaf}
-use Rattle.values.specs.declared.leaf.Leaf.TheVariants as plain
-use Rattle.values.specs.declared.leaf.MadeId.{MadeId}
-use Rattle.values.specs.declared.leaf.Provider.{Provider}
-use Rattle.values.specs.declared.leaf.ProviderRef.TheVariants as provider
-use Rattle.values.specs.declared.leaf.RuleRef.{RuleRef}
-use Rattle.values.specs.declared.ticks.Kind.{Kind}
+use Rattle.ticks.specs.Ticking.{Ticking}
+use Rattle.leaves.specs.declared.leaf.Leaf.{Leaf}
+use Rattle.leaves.specs.declared.leaf.Leaf.TheVariants as plain
+use Rattle.leaves.specs.declared.leaf.MadeId.{MadeId}
+use Rattle.leaves.specs.declared.leaf.Provider.{Provider}
+use Rattle.leaves.specs.declared.leaf.ProviderRef.TheVariants as provider
+use Rattle.leaves.specs.declared.leaf.RuleRef.{RuleRef}
+use Rattle.ticks.specs.declared.ticks.Kind.{Kind}
 use Rattle.values.specs.declared.value.Value.{Value}
 use Rattle.operations.specs.declared.state.State.{State}
 use Rattle.loading.specs.Loads.{Path, Name}

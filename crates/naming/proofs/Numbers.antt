@@ -4,11 +4,11 @@ use Rattle.std.specs.List.{list_all}
 use Rattle.std.proofs.lemmas.Option.{same_Some}
 use Rattle.values.specs.Tree.{key, leaf, branch}
 use Rattle.values.specs.View.{FrozenTree}
-use Rattle.values.specs.declared.leaf.Leaf.{Leaf}
-use Rattle.values.specs.declared.leaf.Leaf.TheVariants as plain
-use Rattle.values.specs.declared.leaf.MadeId.{MadeId}
-use Rattle.values.specs.declared.leaf.Provider.{Provider}
-use Rattle.values.specs.declared.leaf.RuleRef.{RuleRef}
+use Rattle.leaves.specs.declared.leaf.Leaf.{Leaf}
+use Rattle.leaves.specs.declared.leaf.Leaf.TheVariants as plain
+use Rattle.leaves.specs.declared.leaf.MadeId.{MadeId}
+use Rattle.leaves.specs.declared.leaf.Provider.{Provider}
+use Rattle.leaves.specs.declared.leaf.RuleRef.{RuleRef}
 use Rattle.loading.specs.Loads.{Path, Name}
 use Rattle.evaluation.specs.declared.made.Made.{Made}
 use Rattle.evaluation.specs.Naming.{Naming, unnamed, given_once, provider_given, rule_given, leaf_given, global_given, names_given}

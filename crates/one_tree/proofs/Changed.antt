@@ -1,16 +1,16 @@
 -- Changes of a heap bring no depset that wasn't there or in what is put.
 use Rattle.std.proofs.Common.{◌≡◌, ℕ, zero, suc, Bool, true, false, ◌&&◌, not, nat_lt, if◌then◌else◌, ⊎_elim, List, [], ◌∷◌, ◌++◌, Option, Some, None, Result, Ok, Err, length, slice_set, refl, subst}
 use Rattle.indexmap.specs.IndexMap.{insert_entry}
-use Rattle.values.specs.Cells.{after, put_at, in_list, in_dict, set_at, place_of, pushed_items, joined_items, indexed_items, keyed_entries, pushed, joined, indexed, keyed, list_changed, dict_changed}
+use Rattle.heap.specs.Cells.{after, put_at, in_list, in_dict, set_at, place_of, pushed_items, joined_items, indexed_items, keyed_entries, pushed, joined, indexed, keyed, list_changed, dict_changed}
 use Rattle.values.specs.Keyed.{has_key}
-use Rattle.values.specs.Laws.{append, extend, set_index, set_key}
-use Rattle.values.specs.Leaves.{same_key}
+use Rattle.heap.specs.Laws.{append, extend, set_index, set_key}
+use Rattle.leaves.specs.Leaves.{same_key}
 use Rattle.values.specs.declared.cells.Cell.{Cell}
 use Rattle.values.specs.declared.cells.Cell.TheVariants as cell
 use Rattle.values.specs.declared.cells.TheConstants.{LARGEST}
 use Rattle.keys.specs.declared.key.Key.{Key}
-use Rattle.values.specs.declared.ticks.Kind.{Kind}
-use Rattle.values.specs.declared.ticks.Kind.TheVariants.{Iterating, Large}
+use Rattle.ticks.specs.declared.ticks.Kind.{Kind}
+use Rattle.ticks.specs.declared.ticks.Kind.TheVariants.{Iterating, Large}
 use Rattle.values.specs.declared.value.Value.{Value}
 use Rattle.values.specs.declared.value.Value.TheVariants as value
 use Rattle.one_tree.specs.Found.{Set, in_value, in_values, in_entries, in_cell, in_heap}

@@ -1,20 +1,20 @@
 -- Freezing brings no depset that wasn't there.
 use Rattle.std.proofs.Common.{◌≡◌, ℕ, zero, suc, Bool, true, false, if◌then◌else◌, List, [], ◌∷◌, ◌++◌, Option, Some, None, Result, Ok, Err, map, slice_get, refl, subst, sym}
 use Rattle.values.specs.Shape.{Shape, key, atom, items, entries, fields, nothing, shape, cell_shape, branch_shape, value_of, entry_of, slot_of}
-use Rattle.values.specs.Ticking.{Count, Ticking, after_tick, then_on, with_count, entered}
+use Rattle.ticks.specs.Ticking.{Count, Ticking, after_tick, then_on, with_count, entered}
 use Rattle.values.specs.Tree.{Trees, Pairs, Slots, key as key_tree, leaf, branch, list, tuple, dict, instance, trees, pairs, slots, tree_list, pair_list, slot_list, none as no_trees, more as more_trees, stop, pair, end, missing, given}
 use Rattle.values.specs.View.{FrozenTree, FrozenBranch}
 use Rattle.values.specs.Visits.{all_of, keys_of}
 use Rattle.values.specs.declared.cells.Cell.{Cell}
 use Rattle.values.specs.declared.cells.Cell.TheVariants as cell
 use Rattle.keys.specs.declared.key.Key.{Key}
-use Rattle.values.specs.declared.leaf.Leaf.{Leaf}
-use Rattle.values.specs.declared.leaf.Provider.{Provider}
-use Rattle.values.specs.declared.ticks.Kind.{Kind}
-use Rattle.values.specs.declared.ticks.Kind.TheVariants.{Wrong, Deep}
+use Rattle.leaves.specs.declared.leaf.Leaf.{Leaf}
+use Rattle.leaves.specs.declared.leaf.Provider.{Provider}
+use Rattle.ticks.specs.declared.ticks.Kind.{Kind}
+use Rattle.ticks.specs.declared.ticks.Kind.TheVariants.{Wrong, Deep}
 use Rattle.values.specs.declared.value.Value.{Value}
 use Rattle.values.specs.declared.value.Value.TheVariants as value
-use Rattle.values.specs.Extents.{can_freeze}
+use Rattle.leaves.specs.Leaves.{can_freeze}
 use Rattle.visits.specs.Freeze.{frozen_entry, frozen_slot, sequence, built, freeze_at}
 use Rattle.one_tree.specs.Found.{Set, in_leaf, in_tree, in_branch, in_trees, in_pairs, in_slots, in_value, in_values, in_entries, in_fields, in_cell, in_heap, together}
 use Rattle.one_tree.specs.Laws.{FreezingBringsNone}

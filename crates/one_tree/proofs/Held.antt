@@ -2,7 +2,7 @@
 use Rattle.std.proofs.Common.{◌≡◌, ℕ, ◌⊎◌, inl, inr, ⊎_elim, List, ◌∷◌, ◌++◌, refl, ap, ◌∙◌}
 use Rattle.depsets.specs.Flat.{Among, nodes_of}
 use Rattle.depsets.specs.Rose.{roses, label}
-use Rattle.values.specs.declared.leaf.Leaf.TheVariants as plain
+use Rattle.leaves.specs.declared.leaf.Leaf.TheVariants as plain
 use Rattle.values.specs.declared.value.Value.TheVariants as value
 use Rattle.one_tree.specs.Evaluations.{HoldsAtFirst, HoldsOfNew, HoldsOfTheSame, OutcomeIsMade}
 use Rattle.one_tree.specs.Found.{Set, in_values, in_outcome, together}

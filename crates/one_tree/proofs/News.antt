@@ -11,9 +11,9 @@ use Rattle.values.specs.Tree.{Trees, Pairs, Slots, key as key_tree, leaf, branch
 use Rattle.values.specs.View.{FrozenTree, FrozenBranch}
 use Rattle.values.specs.declared.cells.Cell.{Cell}
 use Rattle.keys.specs.declared.key.Key.{Key}
-use Rattle.values.specs.declared.leaf.Leaf.{Leaf}
-use Rattle.values.specs.declared.leaf.Leaf.TheVariants as plain
-use Rattle.values.specs.declared.leaf.Provider.{Provider}
+use Rattle.leaves.specs.declared.leaf.Leaf.{Leaf}
+use Rattle.leaves.specs.declared.leaf.Leaf.TheVariants as plain
+use Rattle.leaves.specs.declared.leaf.Provider.{Provider}
 use Rattle.values.specs.declared.value.Value.{Value}
 use Rattle.values.specs.declared.value.Value.TheVariants as value
 use Rattle.one_tree.specs.Found.{Set, in_leaf, in_tree, in_branch, in_trees, in_pairs, in_slots, in_values, in_heap, together}

@@ -6,7 +6,7 @@ use Rattle.depsets.specs.declared.element.Element.TheVariants as element
 use Rattle.values.specs.Tree.{leaf, branch, list, more, none}
 use Rattle.values.specs.declared.cells.Cell.TheVariants as cell
 use Rattle.keys.specs.declared.key.Key.TheVariants as key
-use Rattle.values.specs.declared.leaf.Leaf.TheVariants as plain
+use Rattle.leaves.specs.declared.leaf.Leaf.TheVariants as plain
 use Rattle.values.specs.declared.value.Value.TheVariants as value
 use Rattle.one_tree.specs.Found.{Set, in_tree, in_heap, together}
 use Rattle.one_tree.specs.Sets.{next}

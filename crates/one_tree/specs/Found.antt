@@ -10,9 +10,9 @@ use Rattle.values.specs.View.{FrozenTree, FrozenBranch}
 use Rattle.values.specs.declared.cells.Cell.{Cell}
 use Rattle.values.specs.declared.cells.Cell.TheVariants as cell
 use Rattle.keys.specs.declared.key.Key.{Key}
-use Rattle.values.specs.declared.leaf.Leaf.{Leaf}
-use Rattle.values.specs.declared.leaf.Leaf.TheVariants as plain
-use Rattle.values.specs.declared.leaf.Provider.{Provider}
+use Rattle.leaves.specs.declared.leaf.Leaf.{Leaf}
+use Rattle.leaves.specs.declared.leaf.Leaf.TheVariants as plain
+use Rattle.leaves.specs.declared.leaf.Provider.{Provider}
 use Rattle.values.specs.declared.value.Value.{Value}
 use Rattle.values.specs.declared.value.Value.TheVariants as value
 

@@ -5,11 +5,11 @@ use Rattle.depsets.specs.Listed.{IsCoherent}
 use Rattle.depsets.specs.declared.depset.Order.{Order}
 use Rattle.depsets.specs.declared.element.Element.{Element}
 use Rattle.printing.specs.Texts.{IsCoherentTree}
-use Rattle.values.specs.Ticking.{Count}
-use Rattle.values.specs.Laws.{Change, append, extend, set_index, set_key, heap_after}
+use Rattle.ticks.specs.Ticking.{Count}
+use Rattle.heap.specs.Laws.{Change, append, extend, set_index, set_key, heap_after}
 use Rattle.values.specs.View.{FrozenTree}
 use Rattle.values.specs.declared.cells.Cell.{Cell}
-use Rattle.values.specs.declared.leaf.Leaf.TheVariants as plain
+use Rattle.leaves.specs.declared.leaf.Leaf.TheVariants as plain
 use Rattle.values.specs.declared.value.Value.{Value}
 use Rattle.values.specs.declared.value.Value.TheVariants as value
 use Rattle.visits.specs.Freeze.{freeze_at}

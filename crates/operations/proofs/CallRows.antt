@@ -2,15 +2,15 @@
 use Rattle.std.specs.Prelude.{◌≡◌, ℕ, ◌-◌, ◌^◌, pos, List, [], ◌∷◌, Option, Some, None, Ok, Err, refl, codes, true, false}
 use Rattle.depsets.specs.declared.depset.Order.TheVariants as order
 use Rattle.depsets.specs.declared.element.Element.TheVariants as element
-use Rattle.values.specs.declared.leaf.Leaf.TheVariants as plain
-use Rattle.values.specs.declared.leaf.Provider.{Provider}
-use Rattle.values.specs.declared.leaf.ProviderRef.TheVariants as provider
-use Rattle.values.specs.declared.leaf.ExportName.TheVariants as export
+use Rattle.leaves.specs.declared.leaf.Leaf.TheVariants as plain
+use Rattle.leaves.specs.declared.leaf.Provider.{Provider}
+use Rattle.leaves.specs.declared.leaf.ProviderRef.TheVariants as provider
+use Rattle.leaves.specs.declared.leaf.ExportName.TheVariants as export
 use Rattle.values.specs.declared.value.Value.{Value}
 use Rattle.values.specs.declared.value.Value.TheVariants as value
 use Rattle.values.specs.declared.cells.Cell.{Cell}
 use Rattle.values.specs.declared.cells.Cell.TheVariants as cell
-use Rattle.values.specs.declared.ticks.Kind.TheVariants as kind
+use Rattle.ticks.specs.declared.ticks.Kind.TheVariants as kind
 use Rattle.operations.specs.declared.state.State.{State}
 use Rattle.operations.specs.Making.{none, truth, number, text}
 use Rattle.operations.specs.Arguments.{Given, Parameter, wanted, optional, named_only, bound}

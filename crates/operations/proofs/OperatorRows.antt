@@ -4,7 +4,7 @@ use Rattle.values.specs.Tree.{list, tuple, none as no_trees}
 use Rattle.values.specs.declared.value.Value.{Value}
 use Rattle.values.specs.declared.value.Value.TheVariants as value
 use Rattle.values.specs.declared.cells.Cell.TheVariants as cell
-use Rattle.values.specs.declared.ticks.Kind.TheVariants as kind
+use Rattle.ticks.specs.declared.ticks.Kind.TheVariants as kind
 use Rattle.numbers.specs.declared.order.Comparison.TheVariants as op
 use Rattle.operations.specs.declared.arithmetic.Arithmetic.TheVariants as arithmetic
 use Rattle.operations.specs.Making.{truth, number, text}

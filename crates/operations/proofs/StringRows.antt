@@ -1,14 +1,14 @@
 -- Worked calls on strings, membership, and methods with their arguments, by computation.
 use Rattle.std.specs.Prelude.{◌≡◌, ℕ, pos, negsuc, List, [], ◌∷◌, Ok, Err, refl, codes, true, false}
 use Rattle.values.specs.Tree.{list, none as no_trees}
-use Rattle.values.specs.declared.leaf.Leaf.TheVariants as plain
-use Rattle.values.specs.declared.leaf.BuiltIn.TheVariants as built_in
+use Rattle.leaves.specs.declared.leaf.Leaf.TheVariants as plain
+use Rattle.leaves.specs.declared.leaf.BuiltIn.TheVariants as built_in
 use Rattle.keys.specs.declared.key.Key.TheVariants as index
 use Rattle.values.specs.declared.value.Value.{Value}
 use Rattle.values.specs.declared.value.Value.TheVariants as value
 use Rattle.values.specs.declared.cells.Cell.{Cell}
 use Rattle.values.specs.declared.cells.Cell.TheVariants as cell
-use Rattle.values.specs.declared.ticks.Kind.TheVariants as kind
+use Rattle.ticks.specs.declared.ticks.Kind.TheVariants as kind
 use Rattle.visits.specs.Equal.{equal_at}
 use Rattle.operations.specs.declared.method.Method.TheVariants as method
 use Rattle.operations.specs.Making.{none, truth, number, text}

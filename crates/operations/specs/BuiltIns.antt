@@ -3,7 +3,7 @@
 -- project's own.)
 use Rattle.std.specs.Prelude.{ℕ, ℤ, pos, List, [], ◌∷◌, length, map, Option, Some, None, Result, Ok, Err, codes}
 use Rattle.numbers.specs.Ranges.{range_of}
-use Rattle.values.specs.Ticking.{Count}
+use Rattle.ticks.specs.Ticking.{Count}
 use Rattle.values.specs.Shape.{Shape, key, atom, items, entries, fields, nothing, shape}
 use Rattle.values.specs.Visits.{keys_of}
 use Rattle.keys.specs.declared.key.Key.{Key}
@@ -11,8 +11,8 @@ use Rattle.keys.specs.declared.key.Key.TheVariants as index
 use Rattle.values.specs.declared.value.Value.{Value}
 use Rattle.values.specs.declared.value.Value.TheVariants as value
 use Rattle.values.specs.declared.cells.Cell.{Cell}
-use Rattle.values.specs.declared.ticks.Kind.{Kind}
-use Rattle.values.specs.declared.ticks.Kind.TheVariants as kind
+use Rattle.ticks.specs.declared.ticks.Kind.{Kind}
+use Rattle.ticks.specs.declared.ticks.Kind.TheVariants as kind
 use Rattle.printing.specs.Repr.{repr_of}
 use Rattle.operations.specs.declared.state.State.{State}
 use Rattle.operations.specs.declared.made.Made.{Made}

@@ -2,12 +2,12 @@
 -- `index` and `large`. (Starlark's specification, "Augmented assignments" and "list·append"; that a tuple may extend a list is
 -- this project's own.)
 use Rattle.std.specs.Prelude.{true, List, Option, Some, None, Result, Ok, Err}
-use Rattle.values.specs.Cells.{list_changed, dict_changed, joined, pushed, indexed, keyed}
+use Rattle.heap.specs.Cells.{list_changed, dict_changed, joined, pushed, indexed, keyed}
 use Rattle.values.specs.Shape.{Shape, key, atom, items, entries, fields, nothing, shape}
 use Rattle.values.specs.declared.value.Value.{Value}
 use Rattle.values.specs.declared.cells.Cell.{Cell}
-use Rattle.values.specs.declared.ticks.Kind.{Kind}
-use Rattle.values.specs.declared.ticks.Kind.TheVariants.{Wrong}
+use Rattle.ticks.specs.declared.ticks.Kind.{Kind}
+use Rattle.ticks.specs.declared.ticks.Kind.TheVariants.{Wrong}
 use Rattle.operations.specs.States.{Op, changed}
 use Rattle.operations.specs.Reading.{number_in, key_in, sequence_in, of_type}
 use Rattle.operations.specs.Making.{none}

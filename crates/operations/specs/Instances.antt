@@ -7,15 +7,15 @@ use Rattle.depsets.specs.Own.{Own}
 use Rattle.depsets.specs.Elements.{elements, all_of_type}
 use Rattle.depsets.specs.declared.depset.Order.TheVariants as order
 use Rattle.depsets.specs.declared.element.ElementType.TheVariants.{File}
-use Rattle.values.specs.Cells.{made}
+use Rattle.heap.specs.Cells.{made}
 use Rattle.values.specs.Shape.{Shape, shape}
-use Rattle.values.specs.declared.leaf.Provider.{Provider}
-use Rattle.values.specs.declared.leaf.ProviderRef.TheVariants as provider
+use Rattle.leaves.specs.declared.leaf.Provider.{Provider}
+use Rattle.leaves.specs.declared.leaf.ProviderRef.TheVariants as provider
 use Rattle.values.specs.declared.value.Value.{Value}
 use Rattle.values.specs.declared.cells.Cell.{Cell}
 use Rattle.values.specs.declared.cells.Cell.TheVariants as cell
-use Rattle.values.specs.declared.ticks.Kind.{Kind}
-use Rattle.values.specs.declared.ticks.Kind.TheVariants as kind
+use Rattle.ticks.specs.declared.ticks.Kind.{Kind}
+use Rattle.ticks.specs.declared.ticks.Kind.TheVariants as kind
 use Rattle.operations.specs.States.{Op, Doing, with_heap, then_do, then_give}
 use Rattle.operations.specs.Reading.{depset_in, of_type}
 use Rattle.operations.specs.Arguments.{Given, Parameter, Bound, named_only, bound, given_for}

@@ -2,14 +2,14 @@
 -- keys is this project's own.)
 use Rattle.std.specs.Prelude.{ℕ, ℤ, List, [], ◌∷◌, length, Option, Some, None, slice_get, Result, Ok, Err, nat_lt, if◌then◌else◌}
 use Rattle.std.specs.Map.{lookup}
-use Rattle.values.specs.Cells.{place_of}
-use Rattle.values.specs.Leaves.{same_key}
+use Rattle.heap.specs.Cells.{place_of}
+use Rattle.leaves.specs.Leaves.{same_key}
 use Rattle.values.specs.Shape.{Shape, key, atom, items, entries, fields, nothing, shape}
 use Rattle.keys.specs.declared.key.Key.{Key}
 use Rattle.keys.specs.declared.key.Key.TheVariants as index
 use Rattle.values.specs.declared.value.Value.{Value}
-use Rattle.values.specs.declared.ticks.Kind.{Kind}
-use Rattle.values.specs.declared.ticks.Kind.TheVariants as kind
+use Rattle.ticks.specs.declared.ticks.Kind.{Kind}
+use Rattle.ticks.specs.declared.ticks.Kind.TheVariants as kind
 use Rattle.operations.specs.States.{Op, keeping}
 use Rattle.operations.specs.Reading.{number_in, key_in, of_type}
 use Rattle.operations.specs.Making.{text}

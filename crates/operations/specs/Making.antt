@@ -1,18 +1,18 @@
 -- New values. A list, a tuple or a dict takes the next cell. (Starlark's specification, "Identity and mutation"; the limit of
 -- size is this project's own.)
 use Rattle.std.specs.Prelude.{ℕ, ℤ, Bool, true, false, List, [], length, Option, Some, None, Result, Ok, Err}
-use Rattle.values.specs.Cells.{made, list_changed, dict_changed, pushed, keyed}
+use Rattle.heap.specs.Cells.{made, list_changed, dict_changed, pushed, keyed}
 use Rattle.values.specs.Keyed.{has_key}
 use Rattle.values.specs.Shape.{Shape, key, atom, items, entries, fields, nothing, shape}
-use Rattle.values.specs.declared.leaf.Leaf.TheVariants as plain
+use Rattle.leaves.specs.declared.leaf.Leaf.TheVariants as plain
 use Rattle.keys.specs.declared.key.Key.{Key}
 use Rattle.keys.specs.declared.key.Key.TheVariants as index
 use Rattle.values.specs.declared.value.Value.{Value}
 use Rattle.values.specs.declared.value.Value.TheVariants as value
 use Rattle.values.specs.declared.cells.Cell.{Cell}
 use Rattle.values.specs.declared.cells.Cell.TheVariants as cell
-use Rattle.values.specs.declared.ticks.Kind.{Kind}
-use Rattle.values.specs.declared.ticks.Kind.TheVariants as kind
+use Rattle.ticks.specs.declared.ticks.Kind.{Kind}
+use Rattle.ticks.specs.declared.ticks.Kind.TheVariants as kind
 use Rattle.operations.specs.declared.made.Made.{Made}
 use Rattle.operations.specs.declared.made.Made.TheVariants as new
 use Rattle.operations.specs.States.{Op, Doing, with_heap, changed}

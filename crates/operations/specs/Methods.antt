@@ -6,8 +6,8 @@ use Rattle.values.specs.Visits.{keys_of}
 use Rattle.keys.specs.declared.key.Key.{Key}
 use Rattle.values.specs.declared.value.Value.{Value}
 use Rattle.values.specs.declared.value.Value.TheVariants as value
-use Rattle.values.specs.declared.ticks.Kind.{Kind}
-use Rattle.values.specs.declared.ticks.Kind.TheVariants.{Arity}
+use Rattle.ticks.specs.declared.ticks.Kind.{Kind}
+use Rattle.ticks.specs.declared.ticks.Kind.TheVariants.{Arity}
 use Rattle.operations.specs.States.{Op, Doing, keeping, then_do}
 use Rattle.operations.specs.Making.{none, new_list, new_tuple}
 use Rattle.operations.specs.Items.{got}

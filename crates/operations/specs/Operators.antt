@@ -15,8 +15,8 @@ use Rattle.keys.specs.declared.key.Key.{Key}
 use Rattle.keys.specs.declared.key.Key.TheVariants as index
 use Rattle.values.specs.declared.value.Value.{Value}
 use Rattle.values.specs.declared.cells.Cell.{Cell}
-use Rattle.values.specs.declared.ticks.Kind.{Kind}
-use Rattle.values.specs.declared.ticks.Kind.TheVariants as kind
+use Rattle.ticks.specs.declared.ticks.Kind.{Kind}
+use Rattle.ticks.specs.declared.ticks.Kind.TheVariants as kind
 use Rattle.printing.specs.Repr.{fits}
 use Rattle.operations.specs.declared.arithmetic.Arithmetic.{Arithmetic}
 use Rattle.operations.specs.declared.arithmetic.Arithmetic.TheVariants as arithmetic

@@ -1,10 +1,10 @@
 -- The form of an operation: from a state to what it gives and the state after it, or to the kind of its fault. A fault ends
 -- the evaluation, whose state is thrown away then. And how a call answers an operation.
 use Rattle.std.specs.Prelude.{◌≡◌, List, Result, Ok, Err, MatchResult}
-use Rattle.values.specs.Ticking.{Count, ticked, FaultOr}
+use Rattle.ticks.specs.Ticking.{Count, ticked, FaultOr}
 use Rattle.values.specs.declared.cells.Cell.{Cell}
-use Rattle.values.specs.declared.ticks.Kind.{Kind}
-use Rattle.values.specs.declared.ticks.Broken.{Broken}
+use Rattle.ticks.specs.declared.ticks.Kind.{Kind}
+use Rattle.ticks.specs.declared.ticks.Broken.{Broken}
 use Rattle.operations.specs.declared.state.State.{State}
 
 abbrev pub Doing : Type 0 → Type 0

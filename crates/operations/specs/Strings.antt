@@ -7,15 +7,15 @@ use Rattle.strings.specs.Splitting.{split_of}
 use Rattle.strings.specs.Joining.{join_of}
 use Rattle.strings.specs.declared.errors.StringError.{StringError}
 use Rattle.strings.specs.declared.errors.StringError.TheVariants as refused
-use Rattle.values.specs.Ticking.{Count, Ticking, with_count}
+use Rattle.ticks.specs.Ticking.{Count, Ticking, with_count}
 use Rattle.values.specs.Shape.{Shape, key, atom, items, entries, fields, nothing, shape}
-use Rattle.values.specs.declared.ticks.TheConstants.{VISITED_LEVELS}
+use Rattle.ticks.specs.declared.ticks.TheConstants.{VISITED_LEVELS}
 use Rattle.keys.specs.declared.key.Key.{Key}
 use Rattle.keys.specs.declared.key.Key.TheVariants as index
 use Rattle.values.specs.declared.value.Value.{Value}
 use Rattle.values.specs.declared.cells.Cell.{Cell}
-use Rattle.values.specs.declared.ticks.Kind.{Kind}
-use Rattle.values.specs.declared.ticks.Kind.TheVariants as kind
+use Rattle.ticks.specs.declared.ticks.Kind.{Kind}
+use Rattle.ticks.specs.declared.ticks.Kind.TheVariants as kind
 use Rattle.visits.specs.Equal.{equal_at}
 use Rattle.operations.specs.declared.made.Made.{Made}
 use Rattle.operations.specs.declared.made.Made.TheVariants as new

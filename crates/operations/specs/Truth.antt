@@ -3,8 +3,8 @@ use Rattle.std.specs.Prelude.{Bool, true, false, not, List, [], ◌∷◌, pos, 
 use Rattle.std.specs.Ordering.{int_eq}
 use Rattle.depsets.specs.Elements.{elements}
 use Rattle.values.specs.Shape.{Shape, key, atom, items, entries, fields, nothing, shape}
-use Rattle.values.specs.declared.leaf.Leaf.{Leaf}
-use Rattle.values.specs.declared.leaf.Leaf.TheVariants as plain
+use Rattle.leaves.specs.declared.leaf.Leaf.{Leaf}
+use Rattle.leaves.specs.declared.leaf.Leaf.TheVariants as plain
 use Rattle.keys.specs.declared.key.Key.{Key}
 use Rattle.keys.specs.declared.key.Key.TheVariants as index
 use Rattle.values.specs.declared.value.Value.{Value}

@@ -1,13 +1,13 @@
 -- Walks of `for` and of comprehensions, and unpacking. (Starlark's specification, "For loops" and "Assignments"; that only lists,
 -- tuples and dicts are walked, and only lists and tuples unpacked, is this project's own.)
 use Rattle.std.specs.Prelude.{ℕ, List, Option, Some, None, Result, Ok, Err}
-use Rattle.values.specs.Cells.{walk_begun_at, walk_ended}
+use Rattle.heap.specs.Cells.{walk_begun_at, walk_ended}
 use Rattle.values.specs.Shape.{shape}
 pub use Rattle.values.specs.Walks.{walked_items}
 use Rattle.values.specs.declared.value.Value.{Value}
 use Rattle.values.specs.declared.value.Value.TheVariants as value
 use Rattle.values.specs.declared.cells.Cell.{Cell}
-use Rattle.values.specs.declared.ticks.Kind.{Kind}
+use Rattle.ticks.specs.declared.ticks.Kind.{Kind}
 use Rattle.operations.specs.States.{Op, Doing, keeping}
 use Rattle.operations.specs.Reading.{sequence_in, of_type}
 use Rattle.operations.specs.declared.state.State.{State}

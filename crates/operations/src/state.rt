@@ -1,11 +1,12 @@
 //! The state of an evaluation: all that its operations read and change.
 ghost use Rattle.std.specs.Prelude.{◌≡◌, ◌++◌, ◌∷◌, [], ◌<◌, IfOk, OnOk, OnErr, length, slice_set, option_copied, slice_get};
 
+use heap::Heap;
 use operands::Bindings;
 use plain::Text;
 use std::alloc::{AllocError, Global};
 use std::marker::Model;
-use values::{Fields, Heap, Items, Ticks};
+use values::{Fields, Items, Ticks};
 
 /// What an evaluation holds.
 ///

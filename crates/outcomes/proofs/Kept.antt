@@ -6,9 +6,9 @@ use Rattle.depsets.specs.declared.element.Element.TheVariants as element
 use Rattle.values.specs.Tree.{Trees, key, leaf, branch, list, tuple, dict, instance, none, more, tree_list}
 use Rattle.values.specs.View.{FrozenTree, FrozenBranch}
 use Rattle.keys.specs.declared.key.Key.{Key}
-use Rattle.values.specs.declared.leaf.Leaf.{Leaf}
-use Rattle.values.specs.declared.leaf.Leaf.TheVariants as plain
-use Rattle.values.specs.declared.leaf.Provider.{Provider}
+use Rattle.leaves.specs.declared.leaf.Leaf.{Leaf}
+use Rattle.leaves.specs.declared.leaf.Leaf.TheVariants as plain
+use Rattle.leaves.specs.declared.leaf.Provider.{Provider}
 use Rattle.operations.specs.Instances.{default_info}
 use Rattle.coherence.specs.Coherent.{Depsets, AreCoherent, AreFresh}
 use Rattle.coherence.proofs.Firsts.{first_joins}

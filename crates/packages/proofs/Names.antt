@@ -6,7 +6,7 @@ use Rattle.std.specs.Map.{lookup}
 use Rattle.std.specs.Cmp.{IsEquivalence}
 use Rattle.std.proofs.lemmas.Map.Keys.{IsDistinct-push}
 use Rattle.lexer.specs.declared.fault.FaultKind.{FaultKind}
-use Rattle.values.specs.declared.ticks.Kind.{Kind}
+use Rattle.ticks.specs.declared.ticks.Kind.{Kind}
 use Rattle.depsets.specs.Keys.{keep, keep_all, firsts}
 use Rattle.workspace.specs.FileKinds.{is_build_file, package_of}
 use Rattle.workspace.specs.Labels.{LabelParts, is_label}

@@ -1,7 +1,7 @@
 -- What `BUILD` files came to, before packages have their names.
 use Rattle.std.specs.Prelude.{◌≡◌, ℕ, ◌+◌, ◌<◌, true, false, List, [], ◌∷◌, length, slice_index_or, Option, Some, None, Result}
 use Rattle.lexer.specs.declared.fault.FaultKind.{FaultKind}
-use Rattle.values.specs.declared.ticks.Kind.{Kind}
+use Rattle.ticks.specs.declared.ticks.Kind.{Kind}
 use Rattle.workspace.specs.FileKinds.{is_build_file}
 use Rattle.workspace.specs.Workspaces.{Pair, paths_of}
 use Rattle.loading.specs.Loads.{Path, LoadFault}

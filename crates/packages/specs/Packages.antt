@@ -2,7 +2,7 @@
 use Rattle.std.specs.Prelude.{◌≡◌, ◌&&◌, true, ℕ, List, [], ◌∷◌, map, Option, Some, None, Result, Ok, Err, bytes_eq}
 use Rattle.std.specs.List.{filter, list_any}
 use Rattle.lexer.specs.declared.fault.FaultKind.{FaultKind}
-use Rattle.values.specs.declared.ticks.Kind.{Kind}
+use Rattle.ticks.specs.declared.ticks.Kind.{Kind}
 use Rattle.workspace.specs.FileKinds.{is_build_file, package_of}
 use Rattle.workspace.specs.Labels.{LabelParts}
 use Rattle.workspace.specs.Workspaces.{Pair, paths_of}

@@ -1,8 +1,8 @@
 -- How a call of a place answers what the place gives.
 use Rattle.std.specs.Prelude.{◌≡◌, Result, Ok, MatchResult}
-use Rattle.values.specs.Ticking.{FaultOr}
-use Rattle.values.specs.declared.ticks.Kind.{Kind}
-use Rattle.values.specs.declared.ticks.Broken.{Broken}
+use Rattle.ticks.specs.Ticking.{FaultOr}
+use Rattle.ticks.specs.declared.ticks.Kind.{Kind}
+use Rattle.ticks.specs.declared.ticks.Broken.{Broken}
 
 -- what changes the state
 abbrev pub Says : {S A : Type 0} → Result (A × S) Kind → Result A Broken → S → Type 0

@@ -4,7 +4,7 @@ use Rattle.depsets.specs.Flat.{nodes}
 use Rattle.depsets.specs.Listed.{IsCoherent}
 use Rattle.depsets.proofs.Walked.{walked-flat}
 use Rattle.values.specs.Shape.{shape}
-use Rattle.values.specs.declared.ticks.Kind.{Kind}
+use Rattle.ticks.specs.declared.ticks.Kind.{Kind}
 use Rattle.values.specs.declared.value.Value.{Value}
 use Rattle.operations.specs.Arguments.{Given, positions}
 use Rattle.operations.specs.Calls as usual

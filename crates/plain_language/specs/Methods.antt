@@ -4,8 +4,8 @@ use Rattle.depsets.specs.Listed.{flat}
 use Rattle.depsets.specs.Own.{Own}
 use Rattle.depsets.specs.Rose.{Rose}
 use Rattle.values.specs.Shape.{shape}
-use Rattle.values.specs.declared.ticks.Kind.{Kind}
-use Rattle.values.specs.declared.ticks.Kind.TheVariants as kind
+use Rattle.ticks.specs.declared.ticks.Kind.{Kind}
+use Rattle.ticks.specs.declared.ticks.Kind.TheVariants as kind
 use Rattle.values.specs.declared.value.Value.{Value}
 use Rattle.operations.specs.Arguments.{Given, positions}
 use Rattle.operations.specs.Calls as usual

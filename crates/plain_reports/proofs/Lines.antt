@@ -6,8 +6,8 @@ use Rattle.depsets.specs.Listed.{walked, flat}
 use Rattle.values.specs.Tree.{Slots, key as key_tree, leaf, branch, list, tuple, dict, instance, end, missing, given}
 use Rattle.values.specs.View.{FrozenTree, FrozenBranch}
 use Rattle.keys.specs.declared.key.Key.{Key}
-use Rattle.values.specs.declared.leaf.Leaf.{Leaf}
-use Rattle.values.specs.declared.leaf.Provider.{Provider}
+use Rattle.leaves.specs.declared.leaf.Leaf.{Leaf}
+use Rattle.leaves.specs.declared.leaf.Provider.{Provider}
 use Rattle.printing.specs.Texts.{IsCoherentTree, IsCoherentBranch, AreCoherentSlots, field_head, provider_text}
 use Rattle.printing.proofs.TreeTextLemmas.{text-coherent}
 use Rattle.actions.specs.declared.action.Action.{Action}

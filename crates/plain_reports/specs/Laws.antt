@@ -4,7 +4,7 @@ use Rattle.std.specs.Prelude.{◌≡◌, List, All}
 use Rattle.std.specs.List.{flat_map}
 use Rattle.lexer.specs.declared.fault.FaultKind.{FaultKind}
 use Rattle.depsets.specs.Listed.{walked, flat}
-use Rattle.values.specs.declared.ticks.Kind.{Kind}
+use Rattle.ticks.specs.declared.ticks.Kind.{Kind}
 use Rattle.modules.specs.declared.sorting.FileFault.{FileFault}
 use Rattle.one_tree.specs.Found.{Set}
 use Rattle.one_tree.specs.Sets.{IsOneTree}

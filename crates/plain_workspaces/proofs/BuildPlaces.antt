@@ -1,15 +1,15 @@
 -- What a `BUILD` file declares has no depsets, so its place keeps what holds.
 use Rattle.std.proofs.Common.{ℕ, List, [], Option, Some, None, Result, Ok, Err}
 use Rattle.std.specs.Prelude.{◌||◌, codes}
-use Rattle.values.specs.Ticking.{Ticking, then_on}
-use Rattle.values.specs.declared.leaf.AttributeKind.{AttributeKind}
-use Rattle.values.specs.declared.leaf.BuiltIn.{BuiltIn}
-use Rattle.values.specs.declared.leaf.BuiltIn.TheVariants as built_in
-use Rattle.values.specs.declared.leaf.Leaf.{Leaf}
-use Rattle.values.specs.declared.leaf.Leaf.TheVariants as plain
-use Rattle.values.specs.declared.leaf.MadeId.{MadeId}
-use Rattle.values.specs.declared.ticks.Kind.{Kind}
-use Rattle.values.specs.declared.ticks.Kind.TheVariants as fault
+use Rattle.ticks.specs.Ticking.{Ticking, then_on}
+use Rattle.leaves.specs.declared.leaf.AttributeKind.{AttributeKind}
+use Rattle.leaves.specs.declared.leaf.BuiltIn.{BuiltIn}
+use Rattle.leaves.specs.declared.leaf.BuiltIn.TheVariants as built_in
+use Rattle.leaves.specs.declared.leaf.Leaf.{Leaf}
+use Rattle.leaves.specs.declared.leaf.Leaf.TheVariants as plain
+use Rattle.leaves.specs.declared.leaf.MadeId.{MadeId}
+use Rattle.ticks.specs.declared.ticks.Kind.{Kind}
+use Rattle.ticks.specs.declared.ticks.Kind.TheVariants as fault
 use Rattle.values.specs.declared.value.Value.{Value}
 use Rattle.operations.specs.Arguments.{Given}
 use Rattle.operations.specs.States.{Doing}

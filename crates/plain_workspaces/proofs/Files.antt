@@ -5,7 +5,7 @@ use Rattle.std.specs.Str.{bytes_eq}
 use Rattle.std.proofs.lemmas.Slice.Eq.{bytes_eq-Decides}
 use Rattle.edges.proofs.Tests.{either}
 use Rattle.lexer.specs.declared.fault.FaultKind.{FaultKind}
-use Rattle.values.specs.declared.ticks.Kind.{Kind}
+use Rattle.ticks.specs.declared.ticks.Kind.{Kind}
 use Rattle.workspace.specs.FileKinds.{is_build_file, is_module}
 use Rattle.workspace.specs.Workspaces.{Pair, paths_of}
 use Rattle.coherence.specs.Coherent.{AreCoherent, AreFresh}

@@ -3,10 +3,10 @@ use Rattle.std.proofs.Common.{◌≡◌, ℕ, List, [], ◌∷◌, ◌++◌, Opt
 use Rattle.std.specs.Prelude.{slice_get}
 use Rattle.depsets.specs.Flat.{nodes}
 use Rattle.depsets.proofs.Walked.{walked-flat}
-use Rattle.values.specs.declared.leaf.Leaf.{Leaf}
-use Rattle.values.specs.declared.leaf.Leaf.TheVariants as plain
-use Rattle.values.specs.declared.leaf.Object.{Object}
-use Rattle.values.specs.declared.leaf.Object.TheVariants as object
+use Rattle.leaves.specs.declared.leaf.Leaf.{Leaf}
+use Rattle.leaves.specs.declared.leaf.Leaf.TheVariants as plain
+use Rattle.leaves.specs.declared.leaf.Object.{Object}
+use Rattle.leaves.specs.declared.leaf.Object.TheVariants as object
 use Rattle.one_tree.specs.Found.{Set}
 use Rattle.one_tree.specs.Sets.{IsOneTree, AreIn}
 use Rattle.holding.proofs.Steps.{IfSome}

@@ -6,12 +6,12 @@ use Rattle.depsets.specs.Listed.{flat}
 use Rattle.depsets.specs.Own.{Own}
 use Rattle.depsets.specs.Rose.{Rose}
 use Rattle.depsets.specs.declared.element.Element.{Element}
-use Rattle.values.specs.declared.leaf.Leaf.{Leaf}
-use Rattle.values.specs.declared.leaf.Leaf.TheVariants as plain
-use Rattle.values.specs.declared.leaf.Object.{Object}
-use Rattle.values.specs.declared.leaf.Object.TheVariants as object
-use Rattle.values.specs.declared.ticks.Kind.{Kind}
-use Rattle.values.specs.declared.ticks.Kind.TheVariants as fault
+use Rattle.leaves.specs.declared.leaf.Leaf.{Leaf}
+use Rattle.leaves.specs.declared.leaf.Leaf.TheVariants as plain
+use Rattle.leaves.specs.declared.leaf.Object.{Object}
+use Rattle.leaves.specs.declared.leaf.Object.TheVariants as object
+use Rattle.ticks.specs.declared.ticks.Kind.{Kind}
+use Rattle.ticks.specs.declared.ticks.Kind.TheVariants as fault
 use Rattle.values.specs.declared.value.Value.{Value}
 use Rattle.language.specs.Place.{Place}
 use Rattle.workspace.specs.Labels.{LabelParts}

@@ -3,7 +3,7 @@
 use Rattle.std.specs.Prelude.{ℕ, List, length, Result}
 use Rattle.meaning.specs.Calls.{function_meaning, top_meaning}
 use Rattle.meaning.specs.Functions.{Files}
-use Rattle.values.specs.declared.ticks.Kind.{Kind}
+use Rattle.ticks.specs.declared.ticks.Kind.{Kind}
 use Rattle.language.specs.Language.{function_id}
 use Rattle.plain_language.specs.Language.{plain_language}
 use Rattle.loading.specs.Loads.{Path}

@@ -4,22 +4,22 @@ use Rattle.std.proofs.lemmas.Bool.{ltb-true, lt-ltb}
 use Rattle.std.proofs.lemmas.List.{length-append}
 use Rattle.depsets.proofs.Turns.{drop_at}
 use Rattle.depsets.specs.Listed.{walked, flat}
-use Rattle.values.specs.Ticking.{Count, Ticking, ticked, then_on, after_tick, with_count, entered, FaultOr}
+use Rattle.ticks.specs.Ticking.{Count, Ticking, ticked, then_on, after_tick, with_count, entered, FaultOr}
 use Rattle.values.specs.Visits.{all_of}
 use Rattle.values.specs.Shape.{Shape, key, shape}
 use Rattle.printing.specs.Texts.{separator, joined_from, quoted, leaf_text}
 use Rattle.printing.specs.Repr.{has_text, commas, enclosed, printed, printed_entry, print_at, fits, appended, itself, string_key, string_in, whole_at}
-use Rattle.values.specs.declared.leaf.Leaf.{Leaf}
-use Rattle.values.specs.declared.leaf.Leaf.TheVariants as plain
+use Rattle.leaves.specs.declared.leaf.Leaf.{Leaf}
+use Rattle.leaves.specs.declared.leaf.Leaf.TheVariants as plain
 use Rattle.keys.specs.declared.key.Key.{Key}
 use Rattle.keys.specs.declared.key.Key.TheVariants as index
 use Rattle.values.specs.declared.value.Value.{Value}
 use Rattle.values.specs.declared.cells.Cell.{Cell}
 use Rattle.printing.specs.declared.reprs.TheConstants.{LARGEST_TEXT}
-use Rattle.values.specs.declared.ticks.Broken.{Broken}
-use Rattle.values.specs.declared.ticks.Broken.TheVariants as broken
-use Rattle.values.specs.declared.ticks.Kind.{Kind}
-use Rattle.values.specs.declared.ticks.Kind.TheVariants.{Deep, Large}
+use Rattle.ticks.specs.declared.ticks.Broken.{Broken}
+use Rattle.ticks.specs.declared.ticks.Broken.TheVariants as broken
+use Rattle.ticks.specs.declared.ticks.Kind.{Kind}
+use Rattle.ticks.specs.declared.ticks.Kind.TheVariants.{Deep, Large}
 use Rattle.values.proofs.VisitLemmas.{too-deep}
 
 -- a leaf with a text has no listing

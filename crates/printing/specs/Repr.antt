@@ -2,21 +2,21 @@
 -- (Starlark's specification, "str" and "repr"; ticks, depth, size and what has no text are this project's own.)
 use Rattle.std.specs.Prelude.{◌≡◌, MatchResult, ℕ, zero, suc, Bool, true, false, List, ◌++◌, length, Option, Some, None, Result, Ok, Err, if◌then◌else◌, nat_lt, codes}
 use Rattle.depsets.specs.Listed.{flat}
-use Rattle.values.specs.Ticking.{Count, Ticking, after_tick, then_on, with_count, entered, FaultOr}
+use Rattle.ticks.specs.Ticking.{Count, Ticking, after_tick, then_on, with_count, entered, FaultOr}
 use Rattle.values.specs.Visits.{all_of}
 use Rattle.values.specs.Shape.{Shape, key, atom, items, entries, fields, nothing, shape}
 use Rattle.printing.specs.Texts.{joined, leaf_text, key_text, entry_head, tuple_end}
-use Rattle.values.specs.declared.leaf.Leaf.{Leaf}
-use Rattle.values.specs.declared.leaf.Leaf.TheVariants as plain
+use Rattle.leaves.specs.declared.leaf.Leaf.{Leaf}
+use Rattle.leaves.specs.declared.leaf.Leaf.TheVariants as plain
 use Rattle.keys.specs.declared.key.Key.{Key}
 use Rattle.keys.specs.declared.key.Key.TheVariants as index
 use Rattle.values.specs.declared.value.Value.{Value}
 use Rattle.values.specs.declared.cells.Cell.{Cell}
-use Rattle.values.specs.declared.ticks.TheConstants.{VISITED_LEVELS}
+use Rattle.ticks.specs.declared.ticks.TheConstants.{VISITED_LEVELS}
 use Rattle.printing.specs.declared.reprs.TheConstants.{LARGEST_TEXT}
-use Rattle.values.specs.declared.ticks.Broken.{Broken}
-use Rattle.values.specs.declared.ticks.Kind.{Kind}
-use Rattle.values.specs.declared.ticks.Kind.TheVariants.{Wrong, Deep, Large}
+use Rattle.ticks.specs.declared.ticks.Broken.{Broken}
+use Rattle.ticks.specs.declared.ticks.Kind.{Kind}
+use Rattle.ticks.specs.declared.ticks.Kind.TheVariants.{Wrong, Deep, Large}
 
 -- None, labels and Files have a text in the language, as keys have
 abbrev pub has_text : Leaf → Bool

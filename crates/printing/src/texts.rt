@@ -7,7 +7,7 @@ ghost use Rattle.std.specs.Fmt.{signed_decimal};
 ghost use Rattle.std.specs.List.{flat_map, list_all};
 ghost use Rattle.depsets.specs.Rose.{label};
 ghost use Rattle.depsets.specs.Listed.{walked};
-ghost use Rattle.values.specs.Leaves.{built_in_text};
+ghost use Rattle.leaves.specs.Leaves.{built_in_text};
 ghost use Rattle.printing.specs.Texts.{hex_digit, unescaped, escape, is_bare, quoted, separator, joined, truth_text, file_text, export_text, exported_text, provider_text, order_text, attribute_text, object_text, element_text, leaf_text, key_text, field_head, tuple_end};
 
 use depsets::Elements;

@@ -3,7 +3,7 @@ use denote.Param.Send.{IsSend, IsSync, sendable}
 use Rattle.std.proofs.Crossing as std
 use Rattle.depsets.proofs.element.FileRef.TheSendSync as file
 use Rattle.values.proofs.Crossing.{frozen_send, frozen_sync}
-use Rattle.values.proofs.leaf.Provider.TheSendSync as provider
+use Rattle.leaves.proofs.leaf.Provider.TheSendSync as provider
 use Rattle.workspace.proofs.labels.Label.TheSendSync as label
 use Rattle.actions.proofs.Crossing.{action_send, action_sync}
 use Rattle.claims.proofs.telling.Telling.TheSendSync as telling

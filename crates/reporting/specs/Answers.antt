@@ -6,7 +6,7 @@ use Rattle.lexer.specs.declared.fault.FaultKind.{FaultKind}
 use Rattle.depsets.specs.Own.{Own}
 use Rattle.depsets.specs.Rose.{Rose}
 use Rattle.depsets.specs.declared.element.Element.{Element}
-use Rattle.values.specs.declared.ticks.Kind.{Kind}
+use Rattle.ticks.specs.declared.ticks.Kind.{Kind}
 use Rattle.claims.specs.Conflicts.{conflicts_of}
 use Rattle.actions.specs.declared.action.Action.{Action}
 use Rattle.claims.specs.Owned.{Owned}

@@ -7,14 +7,14 @@ use Rattle.lexer.specs.FaultText as syntax
 use Rattle.depsets.specs.Own.{Own}
 use Rattle.depsets.specs.Rose.{Rose}
 use Rattle.depsets.specs.declared.element.Element.{Element}
-use Rattle.values.specs.KindText.{kind_text}
+use Rattle.ticks.specs.KindText.{kind_text}
 use Rattle.values.specs.Tree.{Slots, branch, instance, end, missing, given}
 use Rattle.values.specs.View.{FrozenTree, FrozenBranch}
 use Rattle.keys.specs.declared.key.Key.{Key}
-use Rattle.values.specs.declared.leaf.Leaf.{Leaf}
-use Rattle.values.specs.declared.leaf.Provider.{Provider}
-use Rattle.values.specs.declared.ticks.Kind.{Kind}
-use Rattle.values.specs.declared.ticks.Kind.TheVariants as kind
+use Rattle.leaves.specs.declared.leaf.Leaf.{Leaf}
+use Rattle.leaves.specs.declared.leaf.Provider.{Provider}
+use Rattle.ticks.specs.declared.ticks.Kind.{Kind}
+use Rattle.ticks.specs.declared.ticks.Kind.TheVariants as kind
 use Rattle.printing.specs.Texts.{field_head, joined, provider_text, quoted, text_by}
 use Rattle.actions.specs.declared.action.Action.{Action}
 use Rattle.claims.specs.Same.{input_paths, path_of}

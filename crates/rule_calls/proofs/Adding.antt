@@ -2,11 +2,11 @@
 use Rattle.std.proofs.Common.{◌≡◌, ℕ, ◌+◌, List, [], ◌∷◌, ◌++◌, drop, slice_get, Option, Some, None, Result, Ok, Err, refl, sym, ap, ◌∙◌, append_assoc, append-nil}
 use Rattle.std.specs.Prelude.{option_map, option_and_then}
 use Rattle.depsets.proofs.Turns.{drop_at}
-use Rattle.values.specs.Ticking.{FaultOr}
-use Rattle.values.specs.declared.ticks.Kind.{Kind}
-use Rattle.values.specs.declared.ticks.Kind.TheVariants.{Wrong}
-use Rattle.values.specs.declared.ticks.Broken.{Broken}
-use Rattle.values.specs.declared.ticks.Broken.TheVariants as broken
+use Rattle.ticks.specs.Ticking.{FaultOr}
+use Rattle.ticks.specs.declared.ticks.Kind.{Kind}
+use Rattle.ticks.specs.declared.ticks.Kind.TheVariants.{Wrong}
+use Rattle.ticks.specs.declared.ticks.Broken.{Broken}
+use Rattle.ticks.specs.declared.ticks.Broken.TheVariants as broken
 use Rattle.operations.specs.Items.{or_fault}
 use Rattle.operations.specs.States.{then_give}
 use Rattle.targets.specs.RuleCalls.{each_of}

@@ -1,15 +1,15 @@
 -- A call of a rule in two steps.
 use Rattle.std.proofs.Common.{◌≡◌, ◌∙◌, Bool, true, false, ◌||◌, List, [], ◌∷◌, Option, Some, None, Result, Ok, Err, if◌then◌else◌, ap, sym, refl}
 use Rattle.std.specs.Prelude.{codes}
-use Rattle.values.specs.Ticking.{Count, Ticking, then_on, FaultOr}
+use Rattle.ticks.specs.Ticking.{Count, Ticking, then_on, FaultOr}
 use Rattle.values.specs.View.{FrozenTree}
 use Rattle.values.specs.Visits.{all_of}
 use Rattle.values.specs.declared.cells.Cell.{Cell}
-use Rattle.values.specs.declared.ticks.Broken.{Broken}
-use Rattle.values.specs.declared.ticks.Broken.TheVariants as broken
-use Rattle.values.specs.declared.ticks.Kind.{Kind}
-use Rattle.values.specs.declared.ticks.Kind.TheVariants.{Wrong, Arity, Key as key_fault}
-use Rattle.values.specs.declared.ticks.TheConstants.{VISITED_LEVELS}
+use Rattle.ticks.specs.declared.ticks.Broken.{Broken}
+use Rattle.ticks.specs.declared.ticks.Broken.TheVariants as broken
+use Rattle.ticks.specs.declared.ticks.Kind.{Kind}
+use Rattle.ticks.specs.declared.ticks.Kind.TheVariants.{Wrong, Arity, Key as key_fault}
+use Rattle.ticks.specs.declared.ticks.TheConstants.{VISITED_LEVELS}
 use Rattle.values.specs.declared.value.Value.{Value}
 use Rattle.visits.specs.Freeze.{freeze_at}
 use Rattle.operations.specs.Arguments.{Given}

@@ -1,10 +1,10 @@
 -- A call of a rule in two steps: the target is read out of what is given, and then what is given is frozen.
 use Rattle.std.specs.Prelude.{◌≡◌, ◌||◌, List, [], ◌∷◌, ◌++◌, Option, Some, Result, Ok, Err, MatchResult, if◌then◌else◌, codes}
-use Rattle.values.specs.Ticking.{FaultOr}
+use Rattle.ticks.specs.Ticking.{FaultOr}
 use Rattle.values.specs.declared.cells.Cell.{Cell}
-use Rattle.values.specs.declared.ticks.Broken.{Broken}
-use Rattle.values.specs.declared.ticks.Kind.{Kind}
-use Rattle.values.specs.declared.ticks.Kind.TheVariants.{Wrong, Key as key_fault}
+use Rattle.ticks.specs.declared.ticks.Broken.{Broken}
+use Rattle.ticks.specs.declared.ticks.Kind.{Kind}
+use Rattle.ticks.specs.declared.ticks.Kind.TheVariants.{Wrong, Key as key_fault}
 use Rattle.operations.specs.Arguments.{Given}
 use Rattle.operations.specs.States.{Op, Doing, Stays}
 use Rattle.operations.specs.declared.state.State.{State}

@@ -1,8 +1,8 @@
 -- What a call of a rule gives is frozen, one attribute after the other.
 use Rattle.std.specs.Prelude.{List, [], ◌∷◌, Option, Some, None, Ok}
-use Rattle.values.specs.Ticking.{Count, Ticking, then_on}
+use Rattle.ticks.specs.Ticking.{Count, Ticking, then_on}
 use Rattle.values.specs.declared.cells.Cell.{Cell}
-use Rattle.values.specs.declared.ticks.TheConstants.{VISITED_LEVELS}
+use Rattle.ticks.specs.declared.ticks.TheConstants.{VISITED_LEVELS}
 use Rattle.values.specs.declared.value.Value.{Value}
 use Rattle.visits.specs.Freeze.{freeze_at}
 use Rattle.operations.specs.Arguments.{Given}

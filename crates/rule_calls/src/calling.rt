@@ -1,6 +1,6 @@
 //! The call of a rule.
 ghost use Rattle.std.specs.Prelude.{◌≡◌, Ok, Err, Some, MatchResult};
-ghost use Rattle.values.specs.Ticking.{FaultOr};
+ghost use Rattle.ticks.specs.Ticking.{FaultOr};
 ghost use Rattle.operations.specs.Arguments.{given};
 ghost use Rattle.operations.specs.States.{Does, Stays, Gives};
 ghost use Rattle.targets.specs.RuleCalls.{declares};
@@ -13,11 +13,12 @@ use crate::given::ByName;
 use crate::here::Here;
 use crate::reading::{label_from, values_for};
 use crate::repeats::repeats_given;
+use heap::Heap;
 use operations::{Arguments, State};
 use plain::Shared;
 use std::alloc::Global;
 use targets::{AttributeValue, Rule, Sequence, Target};
-use values::{Broken, Heap, Kind};
+use values::{Broken, Kind};
 use workspace::Label;
 
 /// The target that the call of a rule declares in a package.

@@ -1,14 +1,15 @@
 //! Freezing what a call of a rule gives.
 ghost use Rattle.std.specs.Prelude.{◌≡◌, Ok, Err, MatchResult, option_copied};
-ghost use Rattle.values.specs.Ticking.{Says, FaultOr};
+ghost use Rattle.ticks.specs.Ticking.{Says, FaultOr};
 ghost use Rattle.targets.specs.RuleCalls.{given_as};
 ghost use Rattle.rule_calls.specs.Freezing.{frozen_option, frozen_for};
 
 use crate::given::ByName;
+use heap::Heap;
 use operands::Operand;
 use std::alloc::Global;
 use targets::NamedAttribute;
-use values::{Broken, Heap, Ticks};
+use values::{Broken, Ticks};
 use visits::freeze;
 
 /// Freezes what is given for attributes, in their order. Nothing is kept of it: the target has what was read of it, so

@@ -2,17 +2,18 @@
 ghost use Rattle.std.specs.Prelude.{◌≡◌, [], Ok, Err, MatchResult};
 ghost use Rattle.values.specs.Seeing.{seen, group_items};
 ghost use Rattle.values.specs.Shape.{shape};
-ghost use Rattle.values.specs.Ticking.{FaultOr};
+ghost use Rattle.ticks.specs.Ticking.{FaultOr};
 ghost use Rattle.operations.specs.States.{Gives};
 ghost use Rattle.targets.specs.RuleCalls.{label_in};
 ghost use Rattle.rule_calls.specs.Each.{put_read, added};
 
 use crate::here::Here;
+use heap::Heap;
 use plain::Shared;
 use state::text_of;
 use std::alloc::Global;
 use targets::Sequence;
-use values::{Broken, Group, Heap, Kind, Seen};
+use values::{Broken, Group, Kind, Seen};
 use workspace::Label;
 
 /// The labels that items are, whose texts are read in a package, or `type`.

@@ -1,6 +1,6 @@
 //! The label and the values of a target, out of what is given for it.
 ghost use Rattle.std.specs.Prelude.{◌≡◌, [], Ok, Err, MatchResult, option_copied};
-ghost use Rattle.values.specs.Ticking.{FaultOr};
+ghost use Rattle.ticks.specs.Ticking.{FaultOr};
 ghost use Rattle.operations.specs.Items.{or_fault};
 ghost use Rattle.operations.specs.States.{Gives};
 ghost use Rattle.workspace.specs.Labels.{legal_label};
@@ -11,12 +11,13 @@ ghost use Rattle.rule_calls.specs.Each.{put_read, added};
 use crate::given::ByName;
 use crate::here::Here;
 use crate::typing::typed;
+use heap::Heap;
 use operands::Operand;
 use plain::Shared;
 use state::text_of;
 use std::alloc::Global;
 use targets::{AttributeValue, NamedAttribute, RuleAttributes, Sequence};
-use values::{Broken, Heap, Kind};
+use values::{Broken, Kind};
 use workspace::{Label, is_label, label_with};
 
 /// The label of a target in a package, whose name is a string, or `type`.

@@ -1,10 +1,10 @@
 //! Values of attributes, out of what is given for them.
 ghost use Rattle.std.specs.Prelude.{◌≡◌, ℕ, List, Ok, Err, MatchResult};
 ghost use Rattle.std.specs.List.{list_any};
-ghost use Rattle.values.specs.Leaves.{same_key};
+ghost use Rattle.leaves.specs.Leaves.{same_key};
 ghost use Rattle.values.specs.Seeing.{seen};
 ghost use Rattle.values.specs.Shape.{shape};
-ghost use Rattle.values.specs.Ticking.{FaultOr};
+ghost use Rattle.ticks.specs.Ticking.{FaultOr};
 ghost use Rattle.values.specs.declared.cells.Cell.{Cell};
 ghost use Rattle.operations.specs.Items.{or_fault};
 ghost use Rattle.operations.specs.States.{Gives};
@@ -12,11 +12,12 @@ ghost use Rattle.targets.specs.RuleCalls.{typed, is_allowed, if_allowed};
 
 use crate::here::Here;
 use crate::lists::labels;
+use heap::Heap;
 use operands::Operand;
 use plain::Shared;
 use std::alloc::Global;
 use targets::{Attribute, AttributeValue, TextDict, TextList};
-use values::{AttributeKind, Broken, Heap, Key, Kind, Seen};
+use values::{AttributeKind, Broken, Key, Kind, Seen};
 
 /// What a value is for an attribute, whose labels are read in a package, or `type`.
 pub(crate) fn typed(

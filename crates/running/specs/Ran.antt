@@ -1,7 +1,7 @@
 -- What a run came to, with its faults placed by path.
 use Rattle.std.specs.Prelude.{List, Result, Ok, Err}
 use Rattle.meaning.specs.Outcome.{Fault, Final}
-use Rattle.values.specs.declared.ticks.Kind.{Kind}
+use Rattle.ticks.specs.declared.ticks.Kind.{Kind}
 use Rattle.values.specs.declared.value.Value.{Value}
 use Rattle.language.specs.declared.whole.Whole.{Whole}
 use Rattle.loading.specs.Loads.{Path}

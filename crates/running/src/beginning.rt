@@ -4,12 +4,13 @@ ghost use Rattle.evaluation.specs.Runs.{state_of_target};
 ghost use Rattle.running.specs.Given.{first_state};
 
 use crate::setting::{Setting, TopFile};
+use heap::Heap;
 use language::Whole;
 use operands::Bindings;
 use operations::{Defaults, State};
 use plain::Text;
 use std::alloc::{AllocError, Global};
-use values::{Fields, Heap, Items, Ticks};
+use values::{Fields, Items, Ticks};
 use workspace::Label;
 
 /// So many names, none of which is bound.

@@ -1,16 +1,16 @@
 -- Sizes that are known before anything is made or copied.
 use Rattle.std.proofs.Common.{◌≡◌, ℕ, zero, suc, ◌+◌, Bool, true, false, List, [], ◌∷◌, ◌++◌, length, slice_get, nat_lt, Some, None, Ok, Err, Result, if◌then◌else◌, refl, sym, ap, ◌∙◌}
 use Rattle.std.proofs.lemmas.List.{length-append}
-use Rattle.values.specs.Cells.{put_at, after}
+use Rattle.heap.specs.Cells.{put_at, after}
 use Rattle.values.specs.Shape.{Shape, key, atom, items, entries, fields, nothing}
-use Rattle.values.specs.Ticking.{FaultOr}
+use Rattle.ticks.specs.Ticking.{FaultOr}
 use Rattle.values.specs.declared.cells.Cell.{Cell}
 use Rattle.values.specs.declared.cells.Cell.TheVariants as cell
 use Rattle.values.specs.declared.cells.TheConstants.{LARGEST}
-use Rattle.values.specs.declared.ticks.Broken.{Broken}
-use Rattle.values.specs.declared.ticks.Broken.TheVariants as broken
-use Rattle.values.specs.declared.ticks.Kind.{Kind}
-use Rattle.values.specs.declared.ticks.Kind.TheVariants.{Wrong, Large}
+use Rattle.ticks.specs.declared.ticks.Broken.{Broken}
+use Rattle.ticks.specs.declared.ticks.Broken.TheVariants as broken
+use Rattle.ticks.specs.declared.ticks.Kind.{Kind}
+use Rattle.ticks.specs.declared.ticks.Kind.TheVariants.{Wrong, Large}
 use Rattle.values.specs.declared.value.Value.{Value}
 use Rattle.values.specs.declared.value.Value.TheVariants as value
 use Rattle.operations.specs.declared.state.State.{State}

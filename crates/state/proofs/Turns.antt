@@ -1,7 +1,7 @@
 -- One turn of a loop over the items of a value.
 use Rattle.std.proofs.Common.{◌≡◌, ℕ, ◌+◌, Bool, true, List, [], ◌∷◌, ◌++◌, drop, slice_get, Some, Ok, if◌then◌else◌, sym, ap, ◌∙◌, append_assoc}
 use Rattle.depsets.proofs.Turns.{drop_at}
-use Rattle.values.specs.Ticking.{Count, Ticking, then_on}
+use Rattle.ticks.specs.Ticking.{Count, Ticking, then_on}
 use Rattle.values.specs.declared.value.Value.{Value}
 use Rattle.operations.specs.Equality.{among}
 

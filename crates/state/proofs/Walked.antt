@@ -1,10 +1,10 @@
 -- A walk over a value in which nothing is counted: the state stays as it is.
 use Rattle.std.proofs.Common.{◌≡◌, Ok, Err, refl, ap}
 use Rattle.std.specs.Prelude.{None}
-use Rattle.values.specs.Cells.{walk_begun_at}
+use Rattle.heap.specs.Cells.{walk_begun_at}
 use Rattle.values.specs.Shape.{shape}
 use Rattle.values.specs.declared.value.Value.{Value}
-use Rattle.values.specs.declared.ticks.Kind.{Kind}
+use Rattle.ticks.specs.declared.ticks.Kind.{Kind}
 use Rattle.operations.specs.States.{Stays}
 use Rattle.operations.specs.Walks.{begin, begun, walked_items}
 use Rattle.operations.specs.declared.state.State.{State}

@@ -1,10 +1,10 @@
 -- Sizes that are known before anything is made or copied.
 use Rattle.std.specs.Prelude.{Result, Ok, Err, if◌then◌else◌}
 use Rattle.depsets.specs.Elements.{same_truth}
-use Rattle.values.specs.Cells.{after, joined_items}
+use Rattle.heap.specs.Cells.{after, joined_items}
 use Rattle.values.specs.Shape.{Shape, key, items}
-use Rattle.values.specs.declared.ticks.Kind.{Kind}
-use Rattle.values.specs.declared.ticks.Kind.TheVariants as kind
+use Rattle.ticks.specs.declared.ticks.Kind.{Kind}
+use Rattle.ticks.specs.declared.ticks.Kind.TheVariants as kind
 use Rattle.operations.specs.declared.made.Made.{Made}
 use Rattle.operations.specs.Making.{sequence}
 use Rattle.operations.specs.Operators.{key_sum}

@@ -1,7 +1,7 @@
 //! Changes of lists and dicts. Each is refused by the first of `type`, `frozen`, `iterating`, `index` and `large`.
 ghost use Rattle.std.specs.Prelude.{◌≡◌, ◌++◌, Ok, Err, Some, None, MatchResult, IfOk, OnOk};
-ghost use Rattle.values.specs.Ticking.{FaultOr};
-ghost use Rattle.values.specs.Cells.{list_changed, dict_changed, indexed, keyed, joined};
+ghost use Rattle.ticks.specs.Ticking.{FaultOr};
+ghost use Rattle.heap.specs.Cells.{list_changed, dict_changed, indexed, keyed, joined};
 ghost use Rattle.values.specs.Shape.{shape};
 ghost use Rattle.values.specs.Seeing.{seen, item_value, group_items};
 ghost use Rattle.operations.specs.States.{Does, Stays, changed};

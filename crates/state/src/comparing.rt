@@ -1,13 +1,14 @@
 //! Equality, and membership of lists and tuples.
 ghost use Rattle.std.specs.Prelude.{◌≡◌, Ok, Err, MatchResult};
-ghost use Rattle.values.specs.Ticking.{SaysKind};
+ghost use Rattle.ticks.specs.Ticking.{SaysKind};
 ghost use Rattle.values.specs.Seeing.{item_value, group_items};
 ghost use Rattle.visits.specs.Equal.{equal_at};
 ghost use Rattle.operations.specs.States.{DoesKind, Stays};
 ghost use Rattle.operations.specs.Equality.{equals, among};
 
+use heap::Heap;
 use operations::State;
-use values::{Group, Heap, Item, Kind, Ticks, VISITED_LEVELS};
+use values::{Group, Item, Kind, Ticks, VISITED_LEVELS};
 use visits::equal;
 
 /// Whether two values are equal: a tick for each pair that is visited.

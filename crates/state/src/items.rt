@@ -1,6 +1,6 @@
 //! Items of strings, lists, tuples and dicts.
 ghost use Rattle.std.specs.Prelude.{◌≡◌, ◌<◌, ◌∷◌, [], Ok, Err, Some, None, MatchResult, IfOk, option_copied};
-ghost use Rattle.values.specs.Ticking.{FaultOr};
+ghost use Rattle.ticks.specs.Ticking.{FaultOr};
 ghost use Rattle.values.specs.Seeing.{seen, item_value, group_items, table_entries, option_value};
 ghost use Rattle.operations.specs.States.{Does, Stays, Gives};
 ghost use Rattle.operations.specs.Reading.{number_in, key_in, of_type};
@@ -8,11 +8,12 @@ ghost use Rattle.operations.specs.Making.{text};
 ghost use Rattle.operations.specs.Items.{item, item_in, item_at, value_at, key_item, byte_at, byte_text, found};
 
 use crate::reading::{key_of, number_of};
+use heap::place_of;
 use operands::Operand;
 use operations::State;
 use plain::Text;
 use std::alloc::{AllocError, Global};
-use values::{Broken, Group, Item, Key, Kind, Seen, Table, Value, place_of};
+use values::{Broken, Group, Item, Key, Kind, Seen, Table, Value};
 
 /// `base[index]` of a string, a list, a tuple or a dict. An item of a base that is lent is lent.
 ///

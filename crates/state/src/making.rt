@@ -1,6 +1,6 @@
 //! New lists, tuples and dicts, and what comprehensions and displays put into them.
 ghost use Rattle.std.specs.Prelude.{◌≡◌, Ok, Err, MatchResult};
-ghost use Rattle.values.specs.Ticking.{FaultOr};
+ghost use Rattle.ticks.specs.Ticking.{FaultOr};
 ghost use Rattle.values.specs.Shape.{shape};
 ghost use Rattle.values.specs.Seeing.{seen, item_value, table_entries, option_value};
 ghost use Rattle.values.specs.Keyed.{has_key};
@@ -9,9 +9,10 @@ ghost use Rattle.operations.specs.States.{Does, Stays};
 ghost use Rattle.operations.specs.Making.{new_list, new_tuple, new_dict, placed, collect, keep, enter, entries_in, unless_there, is_held};
 
 use crate::changes::set_key;
+use heap::Heap;
 use operations::{Made, State};
 use std::alloc::Global;
-use values::{Broken, Entries, Heap, Item, Items, Kind, Seen, Value};
+use values::{Broken, Entries, Item, Items, Kind, Seen, Value};
 
 /// A new list of these items, or `large`.
 pub fn new_list(state: &mut State, items: Items) -> Result<Value, Broken>

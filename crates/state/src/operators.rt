@@ -1,6 +1,6 @@
 //! Sums, arithmetic and order.
 ghost use Rattle.std.specs.Prelude.{◌≡◌, ◌++◌, Ok, Err, Some, None, MatchOption, MatchResult, IfOk, IfSome};
-ghost use Rattle.values.specs.Ticking.{FaultOr};
+ghost use Rattle.ticks.specs.Ticking.{FaultOr};
 ghost use Rattle.values.specs.Shape.{shape};
 ghost use Rattle.values.specs.Seeing.{seen, item_value, group_items};
 ghost use Rattle.printing.specs.Repr.{fits};
@@ -8,7 +8,7 @@ ghost use Rattle.operations.specs.States.{Does, Stays, Gives};
 ghost use Rattle.operations.specs.Reading.{number_in, of_type};
 ghost use Rattle.operations.specs.Making.{placed, make};
 ghost use Rattle.operations.specs.Changes.{extension, extended};
-ghost use Rattle.values.specs.Cells.{after, joined_items};
+ghost use Rattle.heap.specs.Cells.{after, joined_items};
 ghost use Rattle.operations.specs.Operators.{number_fault, new_number, key_sum, plus, add_in_place, extended_or_sum, calculated, calculate, number_value, negative, key_order, order_in, compare};
 ghost use Rattle.state.specs.Sizes.{sum_within};
 
@@ -17,6 +17,7 @@ use crate::making::place;
 use crate::reading::number_of;
 use crate::rooms::room;
 use arrayvec::ArrayString;
+use heap::Heap;
 use numbers::{Comparison, NumberError, difference, opposite, product, quotient, remainder, sum};
 use operands::Operand;
 use operations::{Arithmetic, Made, State};
@@ -24,7 +25,7 @@ use plain::Text;
 use printing::LARGEST_TEXT;
 use std::alloc::{AllocError, Global};
 use std::cmp::Ordering;
-use values::{Broken, Group, Heap, Item, Items, Key, Kind, LARGEST, Seen, Value};
+use values::{Broken, Group, Item, Items, Key, Kind, LARGEST, Seen, Value};
 
 /// `a + b`: two whole numbers, two strings, two lists, or two tuples.
 ///

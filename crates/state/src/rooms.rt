@@ -1,15 +1,16 @@
 //! Whether a list may be extended, which is known before anything is copied.
 ghost use Rattle.std.specs.Prelude.{◌≡◌, Ok, Err, Some, None, List, Result, MatchResult};
-ghost use Rattle.values.specs.Ticking.{FaultOr};
-ghost use Rattle.values.specs.Cells.{list_changed, list_refusal, joined};
+ghost use Rattle.ticks.specs.Ticking.{FaultOr};
+ghost use Rattle.heap.specs.Cells.{list_changed, list_refusal, joined};
 ghost use Rattle.values.specs.Shape.{value_of};
 ghost use Rattle.values.specs.Seeing.{item_value, group_items};
 ghost use Rattle.values.specs.declared.cells.Cell.{Cell as Kept};
-ghost use Rattle.values.specs.declared.ticks.Kind.{Kind as Fault};
+ghost use Rattle.ticks.specs.declared.ticks.Kind.{Kind as Fault};
 ghost use Rattle.operations.specs.States.{Gives};
 ghost use Rattle.state.specs.Sizes.{made_or_refused};
 
-use values::{Branch, Broken, Cell, Frozen, Group, Heap, Held, Item, Kind, LARGEST, Value};
+use heap::Heap;
+use values::{Branch, Broken, Cell, Frozen, Group, Held, Item, Kind, LARGEST, Value};
 
 /// A list may be extended by these items, or refuses them as its extension does: by the first of `type`, `frozen`,
 /// `iterating` and `large`.

@@ -1,7 +1,7 @@
 //! Ticks, and walks of lists, tuples and dicts.
 ghost use Rattle.std.specs.Prelude.{◌≡◌, Ok, Err, List, IfErr, MatchResult, None};
-ghost use Rattle.values.specs.Ticking.{FaultOr};
-ghost use Rattle.values.specs.Cells.{IsFullAt, walk_begun_at};
+ghost use Rattle.ticks.specs.Ticking.{FaultOr};
+ghost use Rattle.heap.specs.Cells.{IsFullAt, walk_begun_at};
 ghost use Rattle.values.specs.declared.cells.Cell.{Cell};
 ghost use Rattle.values.specs.Shape.{shape, value_of};
 ghost use Rattle.values.specs.Seeing.{item_value};

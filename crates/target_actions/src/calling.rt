@@ -1,6 +1,6 @@
 //! A call of a method of `ctx.actions`.
 ghost use Rattle.std.specs.Prelude.{◌≡◌, Ok, MatchResult};
-ghost use Rattle.values.specs.Ticking.{FaultOr};
+ghost use Rattle.ticks.specs.Ticking.{FaultOr};
 ghost use Rattle.operations.specs.Arguments.{given};
 ghost use Rattle.contexts.specs.Actions.{method_call, declare_file, write, run, run_shell, run_of};
 
@@ -10,9 +10,10 @@ use crate::programs::Program;
 use crate::registering::write;
 use crate::running::run;
 use contexts::{ActionMethod, Work};
+use heap::Heap;
 use operations::Arguments;
 use std::alloc::Global;
-use values::{Broken, Heap, Value};
+use values::{Broken, Value};
 use workspace::Label;
 
 /// What a method gives to the implementation of the target of a label, whose work it adds to. Files that it declares share the

@@ -1,6 +1,6 @@
 //! `ctx.actions.declare_file`.
 ghost use Rattle.std.specs.Prelude.{◌≡◌, Ok, Err, Some, MatchResult, IfOk};
-ghost use Rattle.values.specs.Ticking.{FaultOr};
+ghost use Rattle.ticks.specs.Ticking.{FaultOr};
 ghost use Rattle.operations.specs.Arguments.{given};
 ghost use Rattle.workspace.specs.Labels.{LabelParts, label_path};
 ghost use Rattle.contexts.specs.Actions.{declare_file, declared, below, file_named};
@@ -8,11 +8,12 @@ ghost use Rattle.contexts.specs.Actions.{declare_file, declared, below, file_nam
 use calls::argument;
 use contexts::Work;
 use depsets::FileRef;
+use heap::Heap;
 use operations::Arguments;
 use plain::{Shared, Text};
 use state::text_of;
 use std::alloc::{AllocError, Global};
-use values::{Broken, Heap, Kind, Leaf, Value};
+use values::{Broken, Kind, Leaf, Value};
 use workspace::{Label, is_label};
 
 /// `ctx.actions.declare_file(name)`: a File of the target of a label.

@@ -4,7 +4,7 @@ ghost use Rattle.std.specs.List.{list_all};
 ghost use Rattle.depsets.specs.Elements.{elements, all_of_type};
 ghost use Rattle.values.specs.Seeing.{seen, group_items};
 ghost use Rattle.values.specs.Shape.{shape};
-ghost use Rattle.values.specs.Ticking.{FaultOr};
+ghost use Rattle.ticks.specs.Ticking.{FaultOr};
 ghost use Rattle.operations.specs.Reading.{string_in, sequence_in};
 ghost use Rattle.operations.specs.States.{Gives};
 ghost use Rattle.contexts.specs.Actions.{inputs_in, shown_inputs, leaf_inputs, words_in, mnemonic_in, if_mnemonic, is_mnemonic, is_letter, file_in, files_from, depset_from};
@@ -15,11 +15,12 @@ use crate::mnemonics::Mnemonics;
 use crate::parts::{files, put_strings};
 use actions::{Files, Inputs, Words};
 use depsets::{Depset, ElementType};
+use heap::Heap;
 use operands::Operand;
 use plain::Text;
 use state::{sequence_of, text_of};
 use std::alloc::Global;
-use values::{Broken, Group, Heap, Kind, Leaf, Seen};
+use values::{Broken, Group, Kind, Leaf, Seen};
 
 /// The inputs of an argument: a sequence of Files, or a depset that is empty or of Files; no Files, where there is none.
 pub(crate) fn inputs_in(

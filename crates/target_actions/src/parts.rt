@@ -2,17 +2,18 @@
 ghost use Rattle.std.specs.Prelude.{◌≡◌, ◌++◌, ◌∷◌, [], Ok, Err, Some, None, MatchResult, option_copied};
 ghost use Rattle.values.specs.Seeing.{seen, group_items};
 ghost use Rattle.values.specs.Shape.{shape};
-ghost use Rattle.values.specs.Ticking.{FaultOr};
+ghost use Rattle.ticks.specs.Ticking.{FaultOr};
 ghost use Rattle.operations.specs.Depsets.{all_in, put_last};
 ghost use Rattle.operations.specs.Reading.{string_in};
 ghost use Rattle.contexts.specs.Actions.{file_in, with_strings};
 
 use actions::{Files, Words};
 use depsets::FileRef;
+use heap::Heap;
 use plain::Shared;
 use state::text_of;
 use std::alloc::Global;
-use values::{Broken, Group, Heap, Kind, Leaf, Seen};
+use values::{Broken, Group, Kind, Leaf, Seen};
 
 /// The File that a value is, if it is one.
 pub(crate) fn file_of<'a>(value: &Seen<'a>) -> Option<&'a Shared<FileRef>>

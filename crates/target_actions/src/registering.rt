@@ -1,7 +1,7 @@
 //! Actions that are registered, and `ctx.actions.write`.
 ghost use Rattle.std.specs.Prelude.{◌≡◌, ◌∷◌, [], Ok, Err, Some, None, MatchResult, IfOk, map, option_copied};
 ghost use Rattle.std.specs.List.{list_all};
-ghost use Rattle.values.specs.Ticking.{FaultOr};
+ghost use Rattle.ticks.specs.Ticking.{FaultOr};
 ghost use Rattle.operations.specs.Arguments.{given};
 ghost use Rattle.calls.specs.Parameters.{taken};
 ghost use Rattle.contexts.specs.Works.{is_among, repeats};
@@ -15,12 +15,13 @@ use actions::{Action, Files, Inputs, Words};
 use calls::{Parameter, check_arguments, got};
 use contexts::{DeclaredFiles, Work};
 use depsets::FileRef;
+use heap::Heap;
 use operands::Operand;
 use operations::Arguments;
 use plain::{Shared, Text};
 use state::text_of;
 use std::alloc::{AllocError, Global};
-use values::{Broken, Heap, Kind, Leaf, Value};
+use values::{Broken, Kind, Leaf, Value};
 
 /// Registers an action.
 ///

@@ -2,7 +2,7 @@
 ghost use Rattle.std.specs.Prelude.{◌≡◌, ◌∷◌, [], Ok, Err, Some, None, MatchResult, map, option_copied, codes};
 ghost use Rattle.values.specs.Seeing.{seen, group_items};
 ghost use Rattle.values.specs.Shape.{shape};
-ghost use Rattle.values.specs.Ticking.{FaultOr};
+ghost use Rattle.ticks.specs.Ticking.{FaultOr};
 ghost use Rattle.operations.specs.Arguments.{given};
 ghost use Rattle.operations.specs.Reading.{sequence_in};
 ghost use Rattle.operations.specs.States.{Gives, then_give};
@@ -18,12 +18,13 @@ use crate::registering::registered;
 use actions::Action;
 use calls::{Parameter, check_arguments, got};
 use contexts::Work;
+use heap::Heap;
 use operands::Operand;
 use operations::Arguments;
 use plain::Text;
 use state::sequence_of;
 use std::alloc::Global;
-use values::{Broken, Group, Heap, Kind, Seen, Value};
+use values::{Broken, Group, Kind, Seen, Value};
 
 /// `ctx.actions.run(*, outputs, executable, inputs = [], arguments = [], mnemonic = "Action")`, or `run_shell`, which is given a
 /// command.

@@ -1,6 +1,6 @@
 -- `ctx.files` by the place of an attribute.
 use Rattle.std.specs.Prelude.{ℕ, List, Result, slice_get}
-use Rattle.values.specs.declared.ticks.Kind.{Kind}
+use Rattle.ticks.specs.declared.ticks.Kind.{Kind}
 use Rattle.values.specs.declared.value.Value.{Value}
 use Rattle.targets.specs.Checks.{Dependency}
 use Rattle.targets.specs.declared.target.Target.{Target}

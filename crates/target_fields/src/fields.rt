@@ -1,6 +1,6 @@
 //! Fields of targets, of `ctx` and of its parts.
 ghost use Rattle.std.specs.Prelude.{◌≡◌, Ok, Err, Some, None, MatchResult, IfOk, option_map, slice_get};
-ghost use Rattle.values.specs.Ticking.{FaultOr};
+ghost use Rattle.ticks.specs.Ticking.{FaultOr};
 ghost use Rattle.operations.specs.Items.{or_fault};
 ghost use Rattle.operations.specs.States.{Gives};
 ghost use Rattle.analysis.specs.Seen.{dependency_seen};

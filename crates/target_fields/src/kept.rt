@@ -12,7 +12,7 @@ use values::{Item, Value};
 /// that it is the list of an attribute of that target.
 pub trait FileLists {
     ghost use Rattle.std.specs.Prelude.{ℕ, Result};
-    ghost use Rattle.values.specs.declared.ticks.Kind.{Kind};
+    ghost use Rattle.ticks.specs.declared.ticks.Kind.{Kind};
     ghost use Rattle.values.specs.declared.value.Value.{Value};
 
     ghost list_at: { ℕ → Result Value Kind };
@@ -20,7 +20,7 @@ pub trait FileLists {
 
 impl FileLists for Brand {
     ghost use Rattle.std.specs.Prelude.{Err};
-    ghost use Rattle.values.specs.declared.ticks.Kind.TheVariants.{Name};
+    ghost use Rattle.ticks.specs.declared.ticks.Kind.TheVariants.{Name};
 
     ghost list_at = { λ _. Err Name };
 }

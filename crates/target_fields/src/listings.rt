@@ -2,7 +2,7 @@
 ghost use Rattle.std.specs.Prelude.{◌≡◌, ◌++◌, ◌∷◌, [], ◌<◌, Ok, Err, Some, None, MatchResult, IfOk, OnOk, map, length, slice_get};
 ghost use Rattle.depsets.specs.Listed.{walked};
 ghost use Rattle.values.specs.Seeing.{item_value};
-ghost use Rattle.values.specs.Ticking.{FaultOr};
+ghost use Rattle.ticks.specs.Ticking.{FaultOr};
 ghost use Rattle.operations.specs.Instances.{default_info};
 ghost use Rattle.operations.specs.States.{Gives};
 ghost use Rattle.contexts.specs.Fields.{attribute_labels, files_listed, files_or_name, frozen_list, listing, listed_files, element_tree, place_of, unless_large};

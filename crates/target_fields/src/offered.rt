@@ -2,15 +2,16 @@
 ghost use Rattle.std.specs.Prelude.{◌≡◌, Ok, Err, Some, None, MatchResult, option_map, option_copied};
 ghost use Rattle.values.specs.Seeing.{seen, item_value};
 ghost use Rattle.values.specs.Shape.{shape, value_of};
-ghost use Rattle.values.specs.Ticking.{FaultOr};
+ghost use Rattle.ticks.specs.Ticking.{FaultOr};
 ghost use Rattle.operations.specs.States.{Gives};
 ghost use Rattle.targets.specs.Checks.{offers as has_instance};
 ghost use Rattle.contexts.specs.Offered.{instances_at, instance_of, instance_at, provider_in, item, offers};
 
 use crate::dependencies::Dependencies;
 use analysis::is_of;
+use heap::Heap;
 use operands::Operand;
-use values::{Broken, Frozen, Heap, Item, Kind, Leaf, Provider, Seen};
+use values::{Broken, Frozen, Item, Kind, Leaf, Provider, Seen};
 
 /// The instance of a provider that the target at a place offers, where it lies.
 ///

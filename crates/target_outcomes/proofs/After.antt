@@ -3,9 +3,9 @@ use Rattle.std.proofs.Common.{◌≡◌, ◌∙◌, ℕ, List, [], length, Resul
 use Rattle.meaning.specs.Outcome.{Final}
 use Rattle.meaning.specs.Functions.{Files}
 use Rattle.meaning.specs.Calls.{function_meaning}
-use Rattle.values.specs.declared.leaf.FunctionRef.{FunctionRef}
-use Rattle.values.specs.declared.ticks.Kind.{Kind}
-use Rattle.values.specs.declared.ticks.TheConstants.{VISITED_LEVELS}
+use Rattle.leaves.specs.declared.leaf.FunctionRef.{FunctionRef}
+use Rattle.ticks.specs.declared.ticks.Kind.{Kind}
+use Rattle.ticks.specs.declared.ticks.TheConstants.{VISITED_LEVELS}
 use Rattle.values.specs.declared.value.Value.{Value}
 use Rattle.lexer.specs.declared.fault.FaultKind.{FaultKind}
 use Rattle.visits.specs.Freeze.{freeze_at}

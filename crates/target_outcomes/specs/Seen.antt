@@ -1,8 +1,8 @@
 -- What the call of an implementation answers, as the definitions of targets have it (this project's own).
 use Rattle.std.specs.Prelude.{◌≡◌, List, Result, Ok, Err, MatchResult, unwrap_or}
 use Rattle.meaning.specs.Functions.{Files, def_line}
-use Rattle.values.specs.declared.leaf.MadeId.{MadeId}
-use Rattle.values.specs.declared.ticks.Kind.{Kind}
+use Rattle.leaves.specs.declared.leaf.MadeId.{MadeId}
+use Rattle.ticks.specs.declared.ticks.Kind.{Kind}
 use Rattle.language.specs.Language.{function_id}
 use Rattle.loading.specs.Loads.{Path}
 use Rattle.loading.specs.declared.faults.Placed.{Placed}

@@ -2,7 +2,7 @@
 ghost use Rattle.std.specs.Prelude.{◌≡◌, ℕ, Ok, Err, IfOk, MatchResult};
 ghost use Rattle.meaning.specs.Functions.{Files, def_line};
 ghost use Rattle.meaning.specs.StatementCode.{code_of};
-ghost use Rattle.values.specs.Ticking.{Count, FaultOr};
+ghost use Rattle.ticks.specs.Ticking.{Count, FaultOr};
 ghost use Rattle.visits.specs.Freeze.{freeze_at};
 ghost use Rattle.language.specs.Language.{function_id};
 ghost use Rattle.call_stack.specs.LinkedView.{codes_of};

@@ -6,8 +6,8 @@ use Rattle.plain.proofs.text.Text.TheSendSync as text
 use Rattle.keys.proofs.key.Key.TheSendSync as key
 use Rattle.workspace.proofs.labels.Label.TheSendSync as label
 use Rattle.values.proofs.Crossing.{frozen_send, frozen_sync}
-use Rattle.values.proofs.leaf.FunctionRef.TheSendSync as function
-use Rattle.values.proofs.leaf.Provider.TheSendSync as provider
+use Rattle.leaves.proofs.leaf.FunctionRef.TheSendSync as function
+use Rattle.leaves.proofs.leaf.Provider.TheSendSync as provider
 use Rattle.targets.specs.contracts.text_list.TextList as TextList
 use Rattle.targets.specs.contracts.text_dict.TextDict as TextDict
 use Rattle.targets.specs.contracts.attributes.AttributeValue as AttributeValue

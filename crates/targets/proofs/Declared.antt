@@ -1,9 +1,9 @@
 -- What a call that declares a target comes to.
 use Rattle.std.proofs.Common.{◌≡◌, ◌∙◌, ℕ, suc, Bool, true, false, ◌||◌, List, [], ◌∷◌, Option, Some, None, Ok, Err, length, ap, sym, refl}
 use Rattle.std.specs.Prelude.{if◌then◌else◌, option_and_then, option_map, codes}
-use Rattle.values.specs.Ticking.{Ticking, then_on}
+use Rattle.ticks.specs.Ticking.{Ticking, then_on}
 use Rattle.values.specs.Shape.{shape}
-use Rattle.values.specs.declared.ticks.Kind.TheVariants.{Arity, Key as key_fault}
+use Rattle.ticks.specs.declared.ticks.Kind.TheVariants.{Arity, Key as key_fault}
 use Rattle.values.specs.declared.value.Value.{Value}
 use Rattle.operations.specs.Arguments.{Given}
 use Rattle.operations.specs.Reading.{string_in}

@@ -4,10 +4,10 @@ use Rattle.values.specs.declared.cells.Cell.{Cell}
 use Rattle.values.specs.declared.cells.Cell.TheVariants as cell
 use Rattle.keys.specs.declared.key.Key.{Key}
 use Rattle.keys.specs.declared.key.Key.TheVariants as index
-use Rattle.values.specs.declared.leaf.AttributeKind.{AttributeKind}
-use Rattle.values.specs.declared.leaf.AttributeKind.TheVariants as kind
-use Rattle.values.specs.declared.leaf.FunctionRef.{FunctionRef}
-use Rattle.values.specs.declared.ticks.Kind.TheVariants as fault
+use Rattle.leaves.specs.declared.leaf.AttributeKind.{AttributeKind}
+use Rattle.leaves.specs.declared.leaf.AttributeKind.TheVariants as kind
+use Rattle.leaves.specs.declared.leaf.FunctionRef.{FunctionRef}
+use Rattle.ticks.specs.declared.ticks.Kind.TheVariants as fault
 use Rattle.values.specs.declared.value.Value.{Value}
 use Rattle.values.specs.declared.value.Value.TheVariants as value
 use Rattle.visits.specs.Freeze.{freeze_at}

@@ -2,10 +2,10 @@
 -- tested by the one alone and source files by the other is this project's own; docs/PROFILE.md, "Checks of dependencies").
 use Rattle.std.specs.Prelude.{ℕ, Bool, true, false, ◌||◌, nat_eq, List, [], ◌∷◌, length, Option, Some, None, if◌then◌else◌}
 use Rattle.std.specs.List.{list_any, list_all, ends_with}
-use Rattle.values.specs.Leaves.{same_provider}
+use Rattle.leaves.specs.Leaves.{same_provider}
 use Rattle.values.specs.Tree.{branch, instance}
 use Rattle.values.specs.View.{FrozenTree, FrozenBranch}
-use Rattle.values.specs.declared.leaf.Provider.{Provider}
+use Rattle.leaves.specs.declared.leaf.Provider.{Provider}
 use Rattle.workspace.specs.Labels.{LabelParts}
 use Rattle.targets.specs.Attributes.{labels_in}
 use Rattle.targets.specs.RuleCalls.{same_label}

@@ -1,8 +1,8 @@
 -- The defaults of attributes (Bazel documentation, the module `attr`; docs/PROFILE.md, "Attributes").
 use Rattle.std.specs.Prelude.{pos, false, [], Option, Some, None}
 use Rattle.keys.specs.declared.key.Key.TheVariants as index
-use Rattle.values.specs.declared.leaf.AttributeKind.{AttributeKind}
-use Rattle.values.specs.declared.leaf.AttributeKind.TheVariants as kind
+use Rattle.leaves.specs.declared.leaf.AttributeKind.{AttributeKind}
+use Rattle.leaves.specs.declared.leaf.AttributeKind.TheVariants as kind
 use Rattle.targets.specs.declared.attributes.Attribute.{Attribute}
 use Rattle.targets.specs.declared.attributes.AttributeValue.{AttributeValue}
 use Rattle.targets.specs.declared.attributes.AttributeValue.TheVariants as has

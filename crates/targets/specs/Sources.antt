@@ -9,7 +9,7 @@ use Rattle.depsets.specs.declared.element.Element.TheVariants as element
 use Rattle.depsets.specs.declared.element.FileRef.{FileRef}
 use Rattle.values.specs.Tree.{leaf, branch, instance, slots}
 use Rattle.values.specs.View.{FrozenTree}
-use Rattle.values.specs.declared.leaf.Leaf.TheVariants as plain
+use Rattle.leaves.specs.declared.leaf.Leaf.TheVariants as plain
 use Rattle.operations.specs.Instances.{default_info}
 
 -- a depset that no call made, with serial 0: that of a source file has its File, and that of a missing `DefaultInfo` is empty

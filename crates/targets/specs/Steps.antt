@@ -5,9 +5,9 @@ use Rattle.std.specs.List.{list_any, filter}
 use Rattle.depsets.specs.declared.element.FileRef.{FileRef}
 use Rattle.values.specs.Tree.{leaf, branch, list, instance, tree_list, slots}
 use Rattle.values.specs.View.{FrozenTree, FrozenBranch}
-use Rattle.values.specs.declared.leaf.Leaf.TheVariants as plain
-use Rattle.values.specs.declared.leaf.Provider.{Provider}
-use Rattle.values.specs.declared.ticks.Kind.{Kind}
+use Rattle.leaves.specs.declared.leaf.Leaf.TheVariants as plain
+use Rattle.leaves.specs.declared.leaf.Provider.{Provider}
+use Rattle.ticks.specs.declared.ticks.Kind.{Kind}
 use Rattle.actions.specs.declared.action.Action.{Action}
 use Rattle.operations.specs.Instances.{default_info}
 use Rattle.workspace.specs.Labels.{LabelParts, label_text, label_path}

@@ -8,11 +8,12 @@ ghost use Rattle.targets.specs.RuleCalls.{each_of};
 ghost use Rattle.targets.specs.TextDicts.{text_entry, value_shown, value_frozen, dict_of_texts};
 
 use crate::text_list::text_seen;
+use heap::Heap;
 use indexmap::IndexSet;
 use plain::Text;
 use std::alloc::{AllocError, Global};
 use std::marker::Model;
-use values::{Branch, Frozen, Heap, Key, Seen, Table};
+use values::{Branch, Frozen, Key, Seen, Table};
 
 /// A key and its value, both strings, as a contract speaks of them.
 #[derive(Drop)]

@@ -7,9 +7,10 @@ ghost use Rattle.operations.specs.Reading.{string_in};
 ghost use Rattle.targets.specs.RuleCalls.{each_of};
 ghost use Rattle.targets.specs.TextLists.{text_tree, tree_text, text_seen, text_frozen, list_of_texts};
 
+use heap::Heap;
 use std::alloc::{AllocError, Global};
 use std::marker::Model;
-use values::{Branch, Frozen, Group, Heap, Key, Seen};
+use values::{Branch, Frozen, Group, Key, Seen};
 
 /// A list of strings, as the frozen list that whoever reads it is lent: to a contract the strings in order.
 #[derive(Drop)]

@@ -1,7 +1,7 @@
 //! Strings joined.
 ghost use Rattle.std.specs.Prelude.{◌≡◌, ◌++◌, ◌∷◌, [], Ok, Err, Some, None, MatchResult, map};
 ghost use Rattle.strings.specs.Joining.{join_of};
-ghost use Rattle.values.specs.Ticking.{FaultOr};
+ghost use Rattle.ticks.specs.Ticking.{FaultOr};
 ghost use Rattle.values.specs.Seeing.{seen, group_items};
 ghost use Rattle.operations.specs.States.{Does, Stays, Gives, then_give};
 ghost use Rattle.operations.specs.Reading.{string_in};
@@ -10,13 +10,14 @@ ghost use Rattle.operations.specs.Depsets.{all_in, put_last};
 ghost use Rattle.operations.specs.Strings.{join, or_string_fault};
 
 use crate::splits::string_fault;
+use heap::Heap;
 use operands::Operand;
 use operations::State;
 use plain::Text;
 use state::{sequence_of, text_of};
 use std::alloc::Global;
 use strings::StringRefusal;
-use values::{Broken, Group, Heap, Key, Kind, Seen, Value};
+use values::{Broken, Group, Key, Kind, Seen, Value};
 
 /// `separator.join(sequence)`. All items are looked at before the size of the whole, and that before anything is built.
 ///

@@ -1,16 +1,17 @@
 //! Membership.
 ghost use Rattle.std.specs.Prelude.{◌≡◌, Ok, Err, Some, None, MatchResult, is_some};
-ghost use Rattle.values.specs.Ticking.{SaysKind};
+ghost use Rattle.ticks.specs.Ticking.{SaysKind};
 ghost use Rattle.values.specs.Seeing.{seen, item_value, table_entries};
 ghost use Rattle.operations.specs.States.{DoesKind, GivesKind, Stays};
 ghost use Rattle.operations.specs.Reading.{key_in, of_type};
 ghost use Rattle.operations.specs.Equality.{is_key_of};
 ghost use Rattle.operations.specs.Strings.{member, held_in, part_of};
 
+use heap::Heap;
 use operations::State;
 use state::{is_among, key_of, text_of};
 use strings::search::is_within;
-use values::{Heap, Item, Key, Kind, Seen, Table, Ticks};
+use values::{Item, Key, Kind, Seen, Table, Ticks};
 
 /// `x in y`: of a list or a tuple an item that equals it, of a dict a key, of a string a part of it.
 ///

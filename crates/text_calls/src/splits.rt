@@ -1,7 +1,7 @@
 //! The parts of a string, as a list of the language.
 ghost use Rattle.std.specs.Prelude.{◌≡◌, ◌++◌, ◌∷◌, [], Ok, Err, Some, None, MatchResult, IfOk, OnOk, map};
 ghost use Rattle.strings.specs.Splitting.{split_of};
-ghost use Rattle.values.specs.Ticking.{FaultOr};
+ghost use Rattle.ticks.specs.Ticking.{FaultOr};
 ghost use Rattle.values.specs.Seeing.{seen};
 ghost use Rattle.operations.specs.States.{Does, Stays, Gives, then_give};
 ghost use Rattle.operations.specs.Reading.{string_in, of_type};

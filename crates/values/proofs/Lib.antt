@@ -1,7 +1,5 @@
-pub mod CellLemmas
 pub mod ExtentLemmas
 pub mod SeeLemmas
 pub mod VisitLemmas
 pub mod KeyListLemmas
 pub mod Crossing
-pub mod LawLemmas

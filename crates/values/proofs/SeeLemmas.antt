@@ -5,7 +5,7 @@ use Rattle.std.proofs.lemmas.Bool.Decides.{nat_tests}
 use borrow.Author.Tests.{ltb-true}
 use Rattle.std.specs.List.{position, position_or_len}
 use Rattle.std.specs.Map.{lookup}
-use Rattle.values.specs.Leaves.{same_key}
+use Rattle.leaves.specs.Leaves.{same_key}
 use Rattle.values.specs.declared.value.Value.{Value}
 use Rattle.keys.specs.declared.key.Key.TheVariants as key
 use Rattle.keys.specs.contracts.key.KeyPartialEq.TheImpl.{eq-value}

@@ -1,12 +1,12 @@
 -- Visits one after the other.
 use Rattle.std.proofs.Common.{◌≡◌, ℕ, ◌+◌, ◌≤◌, List, [], ◌∷◌, ◌++◌, length, drop, slice_get, Some, Result, Ok, Err, refl, sym, ap, ◌∙◌, arith, append_assoc, append-nil, drop_of_length-le}
 use Rattle.depsets.proofs.Turns.{drop_at}
-use Rattle.values.specs.Ticking.{Count, Ticking, then_on, after_tick, FaultOr}
+use Rattle.ticks.specs.Ticking.{Count, Ticking, then_on, after_tick, FaultOr}
 use Rattle.values.specs.Visits.{all_of}
-use Rattle.values.specs.declared.ticks.Broken.{Broken}
-use Rattle.values.specs.declared.ticks.Broken.TheVariants as broken
-use Rattle.values.specs.declared.ticks.Kind.{Kind}
-use Rattle.values.specs.declared.ticks.Kind.TheVariants.{Deep}
+use Rattle.ticks.specs.declared.ticks.Broken.{Broken}
+use Rattle.ticks.specs.declared.ticks.Broken.TheVariants as broken
+use Rattle.ticks.specs.declared.ticks.Kind.{Kind}
+use Rattle.ticks.specs.declared.ticks.Kind.TheVariants.{Deep}
 
 module _ {B : Type 0} where
   pub after-after : (r : Result Count Kind) (f : Count → Result Count Kind) (g : Count → Result B Kind) → after_tick (after_tick r f) g ≡ after_tick r (λ d. after_tick (f d) g)

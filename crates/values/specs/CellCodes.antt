@@ -2,10 +2,10 @@
 use Rattle.std.specs.Prelude.{◌≡◌, ℕ, List, Option, ◌⊎◌, refl}
 use Rattle.std.specs.Coded.{Coded, coded×, coded⊎, coded_ℕ, coded_list, code_by}
 use Rattle.std.proofs.Common.{inl, inr}
-use Rattle.values.specs.LeafCodes.{provider_code}
+use Rattle.leaves.specs.LeafCodes.{provider_code}
 use Rattle.values.specs.ValueCodes.{items_code, fields_code, entries_code}
 use Rattle.keys.specs.declared.key.Key.{Key}
-use Rattle.values.specs.declared.leaf.Provider.{Provider}
+use Rattle.leaves.specs.declared.leaf.Provider.{Provider}
 use Rattle.values.specs.declared.value.Value.{Value}
 use Rattle.values.specs.declared.cells.Cell.{Cell}
 use Rattle.values.specs.declared.cells.Cell.TheVariants.{List as list, Tuple, Dict, Instance}

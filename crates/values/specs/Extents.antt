@@ -5,17 +5,11 @@ use Rattle.std.specs.Prelude.{◌≡◌, ◌+◌, ◌≤◌, ℕ, Bool, true, fa
 use Rattle.values.specs.Tree.{Trees, Pairs, Slots, key, leaf, branch, list, tuple, dict, instance, none, more, stop, pair, end, missing, given}
 use Rattle.values.specs.View.{FrozenTree, FrozenBranch, IsPaired, node_branch}
 use Rattle.values.specs.declared.frozen.Parts.{Parts}
-use Rattle.values.specs.declared.leaf.Leaf.{Leaf}
-use Rattle.values.specs.declared.leaf.Leaf.TheVariants as plain
+use Rattle.leaves.specs.Leaves.{can_freeze}
+use Rattle.leaves.specs.declared.leaf.Leaf.{Leaf}
 use Rattle.keys.specs.declared.key.Key.{Key}
-use Rattle.values.specs.declared.leaf.Provider.{Provider}
+use Rattle.leaves.specs.declared.leaf.Provider.{Provider}
 use Rattle.values.specs.declared.extent.Extent.{Extent}
-
--- all but targets, and the objects `attr`, `ctx` and the parts of `ctx`
-abbrev pub can_freeze : Leaf → Bool
-can_freeze (plain.Target n) = false
-can_freeze (plain.Object o) = false
-can_freeze _ = true
 
 pub record Measure : Type 0 where
   pub values : ℕ

@@ -2,7 +2,7 @@
 use Rattle.std.specs.Prelude.{Bool, List, is_some}
 use Rattle.std.specs.List.{IsDistinct}
 use Rattle.std.specs.Map.{lookup}
-use Rattle.values.specs.Leaves.{same_key}
+use Rattle.leaves.specs.Leaves.{same_key}
 use Rattle.keys.specs.declared.key.Key.{Key}
 use Rattle.values.specs.declared.value.Value.{Value}
 

@@ -4,8 +4,8 @@ use Rattle.std.specs.Coded.{Coded, coded×, coded⊎, coded_ℕ, coded_list, cod
 use Rattle.std.proofs.Common.{inl, inr}
 use Rattle.values.specs.Tree.{coded_branch}
 use Rattle.values.specs.View.{FrozenBranch}
-use Rattle.values.specs.LeafCodes.{leaf_code, key_code, provider_code}
-use Rattle.values.specs.declared.leaf.Leaf.{Leaf as Plain}
+use Rattle.leaves.specs.LeafCodes.{leaf_code, key_code, provider_code}
+use Rattle.leaves.specs.declared.leaf.Leaf.{Leaf as Plain}
 use Rattle.keys.specs.declared.key.Key.{Key as Index}
 use Rattle.values.specs.declared.value.Value.{Value}
 use Rattle.values.specs.declared.value.Value.TheVariants.{Key, Leaf, Cell, Frozen}

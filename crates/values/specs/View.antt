@@ -1,9 +1,9 @@
 -- The tree of a frozen value.
 use Rattle.std.specs.Prelude.{◌≡◌, length, Bool, true, false}
 use Rattle.values.specs.Tree.{Tree, Branch, key, leaf, branch, list, tuple, dict, instance, trees, pairs, slots}
-use Rattle.values.specs.declared.leaf.Leaf.{Leaf}
+use Rattle.leaves.specs.declared.leaf.Leaf.{Leaf}
 use Rattle.keys.specs.declared.key.Key.{Key}
-use Rattle.values.specs.declared.leaf.Provider.{Provider}
+use Rattle.leaves.specs.declared.leaf.Provider.{Provider}
 use Rattle.values.specs.declared.frozen.Held.{Held}
 use Rattle.values.specs.declared.frozen.Held.TheVariants as held
 use Rattle.values.specs.declared.frozen.Node.{Node}

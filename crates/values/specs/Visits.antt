@@ -1,6 +1,6 @@
 -- Visits of all parts of a value, from left to right.
 use Rattle.std.specs.Prelude.{List, [], ◌∷◌, Ok, map}
-use Rattle.values.specs.Ticking.{Count, Ticking, then_on}
+use Rattle.ticks.specs.Ticking.{Count, Ticking, then_on}
 use Rattle.keys.specs.declared.key.Key.{Key}
 use Rattle.values.specs.declared.value.Value.{Value}
 

@@ -1,7 +1,7 @@
-//! The cells of a heap: what names share. Their items, entries and fields are lists to a contract.
+//! Cells: what names share. Their items, entries and fields are lists to a contract.
 ghost use Rattle.indexmap.specs.IndexMap.{insert_entry};
 ghost use Rattle.std.specs.Map.{lookup};
-ghost use Rattle.values.specs.Leaves.{same_key};
+ghost use Rattle.leaves.specs.Leaves.{same_key};
 ghost use Rattle.values.specs.Keyed.{has_key, AreDistinct};
 ghost use Rattle.values.specs.Visits.{keys_of};
 ghost use Rattle.std.specs.Prelude.{◌≡◌, ◌++◌, ◌∷◌, [], ◌<◌, IfOk, OnOk, OnErr, length, slice_get, slice_set, option_copied, MatchOption, ◌≤◌, Some};

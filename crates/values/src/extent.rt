@@ -1,7 +1,8 @@
 //! What a visit of a frozen value finds, noted where the value is made, so that a visit that fits is one comparison.
 ghost use Rattle.std.specs.Prelude.{◌≡◌, ◌<◌, ◌≤◌, IfSome, Some, length, slice_get, true};
 ghost use Rattle.values.specs.Tree.{slots, trees};
-ghost use Rattle.values.specs.Extents.{IsExtent, Measure, above, beside, can_freeze, no_values, one, slots_measure, trees_measure, values_measure, with_slot};
+ghost use Rattle.values.specs.Extents.{IsExtent, Measure, above, beside, no_values, one, slots_measure, trees_measure, values_measure, with_slot};
+ghost use Rattle.leaves.specs.Leaves.{can_freeze};
 
 use crate::{Frozen, Leaf, VISITED_LEVELS, tree_at};
 

@@ -64,10 +64,10 @@ pub enum Node {
 
 impl Model for Frozen {
     ghost use Rattle.values.specs.Tree.{Tree, coded_tree, weight};
-    ghost use Rattle.values.specs.LeafCodes.{leaf_code, key_code, provider_code};
-    ghost use Rattle.values.specs.declared.leaf.Leaf.{Leaf as Plain};
+    ghost use Rattle.leaves.specs.LeafCodes.{leaf_code, key_code, provider_code};
+    ghost use Rattle.leaves.specs.declared.leaf.Leaf.{Leaf as Plain};
     ghost use Rattle.keys.specs.declared.key.Key.{Key as Index};
-    ghost use Rattle.values.specs.declared.leaf.Provider.{Provider as Maker};
+    ghost use Rattle.leaves.specs.declared.leaf.Provider.{Provider as Maker};
 
     ghost Value = { Tree Plain Index Maker };
 
@@ -86,10 +86,10 @@ impl Model for Frozen {
 
 impl Model for Branch {
     ghost use Rattle.values.specs.Tree.{Branch as Limb, coded_branch, branch_weight};
-    ghost use Rattle.values.specs.LeafCodes.{leaf_code, key_code, provider_code};
-    ghost use Rattle.values.specs.declared.leaf.Leaf.{Leaf as Plain};
+    ghost use Rattle.leaves.specs.LeafCodes.{leaf_code, key_code, provider_code};
+    ghost use Rattle.leaves.specs.declared.leaf.Leaf.{Leaf as Plain};
     ghost use Rattle.keys.specs.declared.key.Key.{Key as Index};
-    ghost use Rattle.values.specs.declared.leaf.Provider.{Provider as Maker};
+    ghost use Rattle.leaves.specs.declared.leaf.Provider.{Provider as Maker};
 
     ghost Value = { Limb Plain Index Maker };
 

@@ -4,7 +4,7 @@
 //! them, since most are never walked; then they go behind such a count too. Both are changed where they lie while one name
 //! alone holds them, and else in a copy, so that what another name holds stays as it was.
 ghost use Rattle.indexmap.specs.IndexMap.{insert_entry};
-ghost use Rattle.values.specs.Leaves.{same_key};
+ghost use Rattle.leaves.specs.Leaves.{same_key};
 ghost use Rattle.values.specs.Held.{kept_items};
 ghost use Rattle.std.specs.Prelude.{◌≡◌, ◌++◌, ◌∷◌, [], ◌<◌, IfOk, OnOk, OnErr, length, slice_set};
 
@@ -65,7 +65,7 @@ impl HeldItems {
     /// # Errors
     ///
     /// `AllocError` where there is no memory for the count, or where it is at its greatest.
-    pub(crate) fn share(&mut self, alloc: Global) -> Result<HeldItems, AllocError>
+    pub fn share(&mut self, alloc: Global) -> Result<HeldItems, AllocError>
         ensures same { self.new ≡ self.old }
         ensures ok { IfOk result (λ h. h ≡ self.old) }
     {
@@ -184,7 +184,7 @@ impl HeldEntries {
     }
 
     /// Another name of the same entries: a count more, which no other thread sees, and no copy.
-    pub(crate) fn share(&self) -> Result<HeldEntries, AllocError>
+    pub fn share(&self) -> Result<HeldEntries, AllocError>
         ensures { IfOk result (λ h. h ≡ self.now) }
     {
         let entries = self.entries.clone()?;

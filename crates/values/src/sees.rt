@@ -1,15 +1,15 @@
-//! One view of values, in the heap and frozen alike: what equality, freezing and `str` look at.
+//! One view of values, in cells and frozen alike: what equality, freezing and `str` look at.
 //!
 //! Nothing is shared or copied to look: a view borrows the heap and the value.
 ghost use Rattle.std.specs.Prelude.{◌≡◌, ◌<◌, ◌≤◌, IfOk, length, slice_get, Some, MatchOption, map};
 ghost use Rattle.std.specs.Map.{lookup};
 ghost use Rattle.values.specs.Keyed.{AreDistinct};
-ghost use Rattle.values.specs.Leaves.{same_key};
-ghost use Rattle.values.specs.Shape.{shape, cell_shape, value_of, slot_of, zip};
+ghost use Rattle.leaves.specs.Leaves.{same_key};
+ghost use Rattle.values.specs.Shape.{cell_shape, value_of, slot_of, zip};
 ghost use Rattle.values.specs.Seeing.{item_value, option_value, group_items, table_entries, slot_values, seen};
 ghost use Rattle.values.specs.Visits.{keys_of};
 
-use crate::{Cell, Entries, Frozen, Heap, Key, Leaf, Provider, Value};
+use crate::{Cell, Entries, Frozen, Key, Leaf, Provider, Value};
 use indexmap::IndexSet;
 use std::alloc::AllocError;
 
@@ -270,36 +270,6 @@ fn tree_of_key<'a>(keys: &'a IndexSet<Key>, values: &'a [Frozen], key: &Key) -> 
             }
         }
         None => None,
-    }
-}
-
-impl Heap {
-    /// What a value shows.
-    #[inline(always)]
-    pub fn see<'a>(&'a self, value: &'a Value) -> Seen<'a>
-        ensures { seen result ≡ shape self.now value.now }
-    {
-        match value {
-            Value::Key(key) => Seen::Key(key),
-            Value::Leaf(leaf) => Seen::Leaf(leaf),
-            Value::Frozen(branch) => branch.see(),
-            Value::Cell(number) => match self.cell(*number) {
-                Some(cell) => cell.see(),
-                None => Seen::Nothing,
-            },
-        }
-    }
-
-    /// What an item shows.
-    #[inline(always)]
-    pub fn see_item<'a>(&'a self, item: Item<'a>) -> Seen<'a>
-        ensures { seen result ≡ shape self.now (item_value item.entry) }
-    {
-        match item {
-            Item::Value(value) => self.see(value),
-            Item::Tree(tree) => tree.see(),
-            Item::Key(key) => Seen::Key(key),
-        }
     }
 }
 

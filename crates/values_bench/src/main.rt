@@ -8,6 +8,7 @@ mod rows;
 mod turns;
 
 use anyhow::Result;
+use heap::Heap;
 use plain::{Shared, Text};
 use rows::report;
 use std::alloc::Global;
@@ -17,8 +18,8 @@ use std::rt::Clock;
 use std::time::Instant;
 use turns::turns;
 use values::{
-    Cell, Depset, Element, Entries, ExportName, Exported, Fields, Frozen, FunctionRef, Heap, Id,
-    Item, Items, Key, Leaf, MadeId, Names, Order, Provider, ProviderRef, Seen, Slots, Ticks, Value,
+    Cell, Depset, Element, Entries, ExportName, Exported, Fields, Frozen, FunctionRef, Id, Item,
+    Items, Key, Leaf, MadeId, Names, Order, Provider, ProviderRef, Seen, Slots, Ticks, Value,
 };
 use visits::{equal, freeze};
 

@@ -6,6 +6,7 @@
 
 use crate::rows::report;
 use anyhow::Result;
+use heap::Heap;
 use numbers::Comparison;
 use operands::{Bindings, Operand};
 use plain::{Shared, Text};
@@ -17,8 +18,8 @@ use std::alloc::{AllocError, Global};
 use std::rt::Clock;
 use std::time::Instant;
 use values::{
-    Broken, ExportName, Exported, Fields, Heap, Item, Items, Key, Kind, Leaf, MadeId, Names,
-    Provider, ProviderRef, Seen, Ticks, Value,
+    Broken, ExportName, Exported, Fields, Item, Items, Key, Kind, Leaf, MadeId, Names, Provider,
+    ProviderRef, Seen, Ticks, Value,
 };
 
 /// How often each is done.

@@ -2,15 +2,15 @@
 use Rattle.std.proofs.Common.{◌≡◌, ◌≢◌, ℕ, zero, suc, ◌+◌, ◌-◌, ◌<◌, ◌≤◌, min, Bool, true, false, ◌&&◌, List, [], ◌∷◌, length, drop, drop_of_length-le, slice_get, Option, Some, None, Ok, Err, if◌then◌else◌, refl, ap, ◌∙◌, arith, eq-eqb}
 use Rattle.std.specs.Map.{lookup}
 use Rattle.depsets.proofs.Turns.{drop_at}
-use Rattle.values.specs.Leaves.{same_key}
-use Rattle.values.specs.Ticking.{Count, Ticking, then_on, after_tick, entered}
+use Rattle.leaves.specs.Leaves.{same_key}
+use Rattle.ticks.specs.Ticking.{Count, Ticking, then_on, after_tick, entered}
 use Rattle.values.specs.Shape.{shape}
 use Rattle.visits.specs.Equal.{equal_at, compared, pairs_equal, items_equal, found_equal, matches_equal, entries_equal, same_given}
 use Rattle.keys.specs.declared.key.Key.{Key}
 use Rattle.values.specs.declared.value.Value.{Value}
 use Rattle.values.specs.declared.cells.Cell.{Cell}
-use Rattle.values.specs.declared.ticks.Kind.{Kind}
-use Rattle.values.specs.declared.ticks.Kind.TheVariants.{Deep}
+use Rattle.ticks.specs.declared.ticks.Kind.{Kind}
+use Rattle.ticks.specs.declared.ticks.Kind.TheVariants.{Deep}
 
 module _ (h : List Cell) (a b : Value) (c : Count) where
   pub stopped : (n : ℕ) (k : Kind) → entered n c ≡ Err k → equal_at n h a b c ≡ Err k

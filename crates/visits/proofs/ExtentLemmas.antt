@@ -2,15 +2,16 @@
 use Rattle.std.proofs.Common.{◌≡◌, ℕ, zero, suc, ◌+◌, ◌≤◌, Bool, true, false, Result, Ok, Err, if◌then◌else◌, nat_lt, refl, sym, ap, subst, ◌∙◌, arith}
 use Rattle.values.specs.Tree.{Trees, Pairs, Slots, key, leaf, branch, list, tuple, dict, instance, none, more, stop, pair, end, missing, given, tree_list, slot_list}
 use Rattle.values.specs.View.{FrozenTree, FrozenBranch}
-use Rattle.values.specs.Ticking.{Count, Spends, ticked, spent, after_tick, entered}
-use Rattle.values.specs.Extents.{Measure, IsExtent, both, one, beside, above, measure, branch_measure, trees_measure, pairs_measure, slots_measure, can_freeze}
+use Rattle.ticks.specs.Ticking.{Count, Spends, ticked, spent, after_tick, entered}
+use Rattle.values.specs.Extents.{Measure, IsExtent, both, one, beside, above, measure, branch_measure, trees_measure, pairs_measure, slots_measure}
+use Rattle.leaves.specs.Leaves.{can_freeze}
 use Rattle.visits.specs.Revisit.{AtOnce, values_in, all_visited, entry_visited, slot_visited, branch_visited, leaf_visited, visit_at}
 use Rattle.values.specs.declared.extent.Extent.{Extent}
 use Rattle.keys.specs.declared.key.Key.{Key}
-use Rattle.values.specs.declared.leaf.Leaf.{Leaf}
-use Rattle.values.specs.declared.leaf.Provider.{Provider}
-use Rattle.values.specs.declared.ticks.Kind.{Kind}
-use Rattle.values.specs.declared.ticks.Kind.TheVariants.{Wrong, Steps}
+use Rattle.leaves.specs.declared.leaf.Leaf.{Leaf}
+use Rattle.leaves.specs.declared.leaf.Provider.{Provider}
+use Rattle.ticks.specs.declared.ticks.Kind.{Kind}
+use Rattle.ticks.specs.declared.ticks.Kind.TheVariants.{Wrong, Steps}
 
 pub both-left : (a b : Bool) → both a b ≡ true → a ≡ true
 both-left true b h = refl

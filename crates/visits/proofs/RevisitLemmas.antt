@@ -3,18 +3,18 @@ use Rattle.std.proofs.Common.{◌≡◌, ℕ, zero, suc, ◌+◌, ◌-◌, ◌<�
 use Rattle.values.specs.Tree.{Trees, Pairs, Slots, key as key_tree, leaf, branch, list, tuple, dict, instance, none, more, stop, pair, end, missing, given, trees, tree_list, pairs, pair_list, slots, slot_list}
 use Rattle.values.specs.View.{FrozenTree, FrozenBranch}
 use Rattle.values.specs.Shape.{shape, tree_shape, branch_shape, value_of, entry_of, slot_of}
-use Rattle.values.specs.Ticking.{Count, Ticking, ticked, then_on, after_tick, with_count, entered}
+use Rattle.ticks.specs.Ticking.{Count, Ticking, ticked, then_on, after_tick, with_count, entered}
 use Rattle.values.specs.Visits.{all_of, keys_of}
-use Rattle.values.specs.Extents.{can_freeze}
+use Rattle.leaves.specs.Leaves.{can_freeze}
 use Rattle.visits.specs.Freeze.{freeze_at, built, frozen_entry, frozen_slot, sequence}
 use Rattle.visits.specs.Revisit.{values_in, all_visited, entry_visited, slot_visited, branch_visited, visited, visit_at}
 use Rattle.keys.specs.declared.key.Key.{Key}
-use Rattle.values.specs.declared.leaf.Leaf.{Leaf}
-use Rattle.values.specs.declared.leaf.Provider.{Provider}
+use Rattle.leaves.specs.declared.leaf.Leaf.{Leaf}
+use Rattle.leaves.specs.declared.leaf.Provider.{Provider}
 use Rattle.values.specs.declared.value.Value.{Value}
 use Rattle.values.specs.declared.cells.Cell.{Cell}
-use Rattle.values.specs.declared.ticks.Kind.{Kind}
-use Rattle.values.specs.declared.ticks.Kind.TheVariants.{Wrong, Deep}
+use Rattle.ticks.specs.declared.ticks.Kind.{Kind}
+use Rattle.ticks.specs.declared.ticks.Kind.TheVariants.{Wrong, Deep}
 use Rattle.values.proofs.VisitLemmas.{after-after, too-deep}
 
 -- a visit, and then the parts

@@ -4,18 +4,18 @@ use Rattle.std.specs.Prelude.{ℕ, zero, suc, Bool, true, false, ◌&&◌, List,
 use Rattle.std.specs.Map.{lookup}
 use Rattle.std.specs.Str.{bytes_eq}
 use Rattle.depsets.specs.Elements.{same_truth}
-use Rattle.values.specs.Leaves.{same_key, same_function, same_provider, same_rule}
-use Rattle.values.specs.Ticking.{Count, Ticking, after_tick, then_on, with_count, entered}
+use Rattle.leaves.specs.Leaves.{same_key, same_function, same_provider, same_rule}
+use Rattle.ticks.specs.Ticking.{Count, Ticking, after_tick, then_on, with_count, entered}
 use Rattle.values.specs.Shape.{Shape, key, atom, items, entries, fields, shape}
-use Rattle.values.specs.declared.leaf.Leaf.{Leaf}
-use Rattle.values.specs.declared.leaf.Leaf.TheVariants as plain
-use Rattle.values.specs.declared.leaf.Object.{Object}
-use Rattle.values.specs.declared.leaf.Object.TheVariants as object
+use Rattle.leaves.specs.declared.leaf.Leaf.{Leaf}
+use Rattle.leaves.specs.declared.leaf.Leaf.TheVariants as plain
+use Rattle.leaves.specs.declared.leaf.Object.{Object}
+use Rattle.leaves.specs.declared.leaf.Object.TheVariants as object
 use Rattle.keys.specs.declared.key.Key.{Key}
 use Rattle.values.specs.declared.value.Value.{Value}
 use Rattle.values.specs.declared.cells.Cell.{Cell}
-use Rattle.values.specs.declared.ticks.Kind.{Kind}
-use Rattle.values.specs.declared.ticks.Kind.TheVariants.{Wrong, Deep}
+use Rattle.ticks.specs.declared.ticks.Kind.{Kind}
+use Rattle.ticks.specs.declared.ticks.Kind.TheVariants.{Wrong, Deep}
 
 abbrev pub same_object : Object → Object → Bool
 same_object object.Attr object.Attr = true

@@ -3,16 +3,16 @@
 use Rattle.std.specs.Prelude.{ℕ, zero, suc, Bool, true, false, List, Option, Some, None, Result, Ok, Err, if◌then◌else◌}
 use Rattle.values.specs.Tree.{key as key_tree, leaf, branch, list, tuple, dict, instance, trees, pairs, slots}
 use Rattle.values.specs.View.{FrozenTree}
-use Rattle.values.specs.Extents.{can_freeze}
-use Rattle.values.specs.Ticking.{Count, Ticking, after_tick, then_on, with_count, entered}
+use Rattle.leaves.specs.Leaves.{can_freeze}
+use Rattle.ticks.specs.Ticking.{Count, Ticking, after_tick, then_on, with_count, entered}
 use Rattle.values.specs.Visits.{all_of, keys_of}
 use Rattle.values.specs.Shape.{Shape, key, atom, items, entries, fields, nothing, shape}
-use Rattle.values.specs.declared.leaf.Leaf.{Leaf}
+use Rattle.leaves.specs.declared.leaf.Leaf.{Leaf}
 use Rattle.keys.specs.declared.key.Key.{Key}
 use Rattle.values.specs.declared.value.Value.{Value}
 use Rattle.values.specs.declared.cells.Cell.{Cell}
-use Rattle.values.specs.declared.ticks.Kind.{Kind}
-use Rattle.values.specs.declared.ticks.Kind.TheVariants.{Wrong, Deep}
+use Rattle.ticks.specs.declared.ticks.Kind.{Kind}
+use Rattle.ticks.specs.declared.ticks.Kind.TheVariants.{Wrong, Deep}
 
 abbrev pub frozen_leaf : Leaf → Result FrozenTree Kind
 frozen_leaf l = if can_freeze l then Ok (leaf l) else Err Wrong

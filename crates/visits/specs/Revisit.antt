@@ -2,14 +2,15 @@
 use Rattle.std.specs.Prelude.{◌≡◌, MatchResult, ℕ, zero, suc, List, [], ◌∷◌, Option, Some, None, Result, Ok, Err, Bool, true, false, if◌then◌else◌}
 use Rattle.values.specs.Tree.{Pairs, key, leaf, branch, list, tuple, dict, instance, stop, pair, tree_list, slot_list}
 use Rattle.values.specs.View.{FrozenTree, FrozenBranch}
-use Rattle.values.specs.Ticking.{Count, after_tick, entered}
-use Rattle.values.specs.Extents.{can_freeze, measure, IsExtent}
+use Rattle.ticks.specs.Ticking.{Count, after_tick, entered}
+use Rattle.values.specs.Extents.{measure, IsExtent}
+use Rattle.leaves.specs.Leaves.{can_freeze}
 use Rattle.values.specs.declared.extent.Extent.{Extent}
-use Rattle.values.specs.declared.leaf.Leaf.{Leaf}
-use Rattle.values.specs.declared.leaf.Provider.{Provider}
+use Rattle.leaves.specs.declared.leaf.Leaf.{Leaf}
+use Rattle.leaves.specs.declared.leaf.Provider.{Provider}
 use Rattle.keys.specs.declared.key.Key.{Key}
-use Rattle.values.specs.declared.ticks.Kind.{Kind}
-use Rattle.values.specs.declared.ticks.Kind.TheVariants.{Wrong, Deep}
+use Rattle.ticks.specs.declared.ticks.Kind.{Kind}
+use Rattle.ticks.specs.declared.ticks.Kind.TheVariants.{Wrong, Deep}
 
 abbrev pub values_in : Pairs Leaf Key Provider → List FrozenTree
 values_in stop = []

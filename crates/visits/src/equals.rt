@@ -1,13 +1,14 @@
 //! Equality of values.
 ghost use Rattle.std.specs.Prelude.{◌≡◌, ◌<◌, ◌&&◌, [], ◌∷◌, length, slice_get, Ok, Err, Some, MatchResult};
 ghost use Rattle.std.specs.Str.{bytes_eq};
-ghost use Rattle.values.specs.Leaves.{same_key};
-ghost use Rattle.values.specs.Ticking.{SaysKind};
+ghost use Rattle.leaves.specs.Leaves.{same_key};
+ghost use Rattle.ticks.specs.Ticking.{SaysKind};
 ghost use Rattle.values.specs.Seeing.{seen, item_value, option_value, group_items, table_entries, slot_values};
 ghost use Rattle.visits.specs.Equal.{equal_at, compared, leaf_equal, same_object, pairs_equal, items_equal, entries_equal, slot_equal, same_given};
 
+use heap::Heap;
 use values::{
-    FileRef, Group, Heap, Item, Key, Kind, Leaf, Object, Seen, Slots, Table, Ticks, VISITED_LEVELS,
+    FileRef, Group, Item, Key, Kind, Leaf, Object, Seen, Slots, Table, Ticks, VISITED_LEVELS,
 };
 
 /// Whether two values are equal, wherever they lie. A pair that is visited costs a tick.

@@ -3,7 +3,7 @@
 //! Each cell becomes one counted node. What is frozen already is visited again, which costs its ticks, and
 //! is then shared by a count: nothing of it is copied.
 ghost use Rattle.std.specs.Prelude.{◌≡◌, ◌<◌, Ok, Some, MatchResult, length, slice_get};
-ghost use Rattle.values.specs.Ticking.{Says, FaultOr, after_tick, with_count, entered};
+ghost use Rattle.ticks.specs.Ticking.{Says, FaultOr, after_tick, with_count, entered};
 ghost use Rattle.values.specs.Visits.{all_of};
 ghost use Rattle.values.specs.Seeing.{item_value};
 ghost use Rattle.values.specs.Shape.{cell_shape};
@@ -11,12 +11,13 @@ ghost use Rattle.values.specs.Tree.{key as key_tree, branch, list, tuple, dict, 
 ghost use Rattle.visits.specs.Freeze.{freeze_at, built, frozen_leaf, frozen_entry, frozen_slot};
 
 use crate::revisit::{freeze_branch, freeze_tree};
+use heap::Heap;
 use indexmap::IndexSet;
 use plain::{Shared, push_last};
 use std::alloc::Global;
 use values::{
-    Branch, Broken, Cell, Entries, Frozen, Heap, Item, Key, Kind, Leaf, Provider, Ticks,
-    VISITED_LEVELS, Value,
+    Branch, Broken, Cell, Entries, Frozen, Item, Key, Kind, Leaf, Provider, Ticks, VISITED_LEVELS,
+    Value,
 };
 
 /// The tree of a value. Each value that is visited costs a tick, one that is frozen already too.

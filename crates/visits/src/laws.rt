@@ -1,7 +1,7 @@
 //! What freezing comes to, as a law of its definition.
 ghost use Rattle.std.specs.Prelude.{◌≡◌, List, ℕ, Ok};
 ghost use Rattle.values.specs.Shape.{value_of};
-ghost use Rattle.values.specs.Ticking.{Count};
+ghost use Rattle.ticks.specs.Ticking.{Count};
 ghost use Rattle.values.specs.View.{FrozenTree};
 ghost use Rattle.values.specs.declared.cells.Cell.{Cell as Kept};
 ghost use Rattle.visits.specs.Freeze.{freeze_at};

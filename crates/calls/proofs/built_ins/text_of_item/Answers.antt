@@ -1,5 +1,5 @@
 use Rattle.std.proofs.Common.{◌≡◌, rules, w64, to_z, of_z, sym, ap, ◌∙◌, subst}
-use Rattle.values.specs.Ticking.{Says}
+use Rattle.ticks.specs.Ticking.{Says}
 use Rattle.values.specs.Seeing.{item_value}
 use Rattle.operations.specs.Reading.{number_in}
 use Rattle.calls.specs.NumberTexts.{number_told}

@@ -1,5 +1,5 @@
 use Rattle.std.proofs.Common.{◌≡◌, ap, ◌∙◌, sym, subst}
-use Rattle.values.specs.Ticking.{FaultOr}
+use Rattle.ticks.specs.Ticking.{FaultOr}
 use Rattle.calls.specs.Pairs.{tuples_behind}
 use Rattle.calls.proofs.Tuples.{same_grown, grown_on, list_grows, unlisted, list_does}
 use Rattle.calls.proofs.pairs.list_tuples.Goals as goal

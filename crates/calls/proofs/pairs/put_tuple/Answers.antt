@@ -1,5 +1,5 @@
 use Rattle.std.proofs.Common.{◌∷◌, [], subst}
-use Rattle.values.specs.Ticking.{FaultOr}
+use Rattle.ticks.specs.Ticking.{FaultOr}
 use Rattle.operations.specs.Making.{new_tuple}
 use Rattle.calls.proofs.Tuples.{same_grown, stays_grown, tuple_grows, no_tuple, pushed_does}
 use Rattle.calls.proofs.pairs.put_tuple.Goals as goal

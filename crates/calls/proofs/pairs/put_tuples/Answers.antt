@@ -1,5 +1,5 @@
 use Rattle.std.proofs.Common.{◌≡◌, refl, sym, ◌∙◌, subst}
-use Rattle.values.specs.Ticking.{FaultOr}
+use Rattle.ticks.specs.Ticking.{FaultOr}
 use Rattle.calls.proofs.Tuples.{same_grown, grown_on, turned, unturned}
 use Rattle.calls.proofs.pairs.put_tuples.Goals as goal
 

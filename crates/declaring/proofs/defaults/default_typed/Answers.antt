@@ -1,6 +1,6 @@
 use Rattle.std.proofs.Common.{◌≡◌, IfOk, sym, subst}
 use Rattle.values.specs.Seeing.{seen}
-use Rattle.values.specs.declared.leaf.AttributeKind.{AttributeKind}
+use Rattle.leaves.specs.declared.leaf.AttributeKind.{AttributeKind}
 use Rattle.declarations.specs.AttributeCalls.{default_typed}
 use Rattle.declaring.proofs.defaults.default_typed.Goals as goal
 

@@ -1,8 +1,8 @@
 use Rattle.std.proofs.Common.{◌≡◌, ◌+◌, drop, sym, ap, subst, ◌∙◌}
 use Rattle.std.specs.Prelude.{Ok, option_copied}
-use Rattle.values.specs.Ticking.{FaultOr}
+use Rattle.ticks.specs.Ticking.{FaultOr}
 use Rattle.values.specs.Visits.{all_of}
-use Rattle.values.specs.declared.ticks.TheConstants.{VISITED_LEVELS}
+use Rattle.ticks.specs.declared.ticks.TheConstants.{VISITED_LEVELS}
 use Rattle.visits.specs.Freeze.{freeze_at}
 use Rattle.values.proofs.VisitLemmas.{with_done, all_of-next, all_of-fault}
 use Rattle.frozen_modules.proofs.freezing.freeze_defaults.Goals as goal

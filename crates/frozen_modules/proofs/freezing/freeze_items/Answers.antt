@@ -1,7 +1,7 @@
 use Rattle.std.proofs.Common.{◌+◌, drop, ap, subst, ◌∙◌}
-use Rattle.values.specs.Ticking.{FaultOr}
+use Rattle.ticks.specs.Ticking.{FaultOr}
 use Rattle.values.specs.Visits.{all_of}
-use Rattle.values.specs.declared.ticks.TheConstants.{VISITED_LEVELS}
+use Rattle.ticks.specs.declared.ticks.TheConstants.{VISITED_LEVELS}
 use Rattle.visits.specs.Freeze.{freeze_at}
 use Rattle.values.proofs.VisitLemmas.{with_done, all_of-next, all_of-fault}
 use Rattle.frozen_modules.proofs.freezing.freeze_items.Goals as goal

@@ -1,6 +1,6 @@
 use Rattle.std.proofs.Common.{◌≡◌, drop}
 use Rattle.values.specs.Visits.{all_of}
-use Rattle.values.specs.declared.ticks.TheConstants.{VISITED_LEVELS}
+use Rattle.ticks.specs.declared.ticks.TheConstants.{VISITED_LEVELS}
 use Rattle.visits.specs.Freeze.{freeze_at}
 use Rattle.values.proofs.VisitLemmas.{with_done}
 use Rattle.frozen_modules.proofs.freezing.freeze_items.Given as goal

@@ -1,5 +1,5 @@
 use Rattle.std.proofs.Common.{◌+◌, ◌-◌, Ok, Some, slice_get, string_bytes, sym, ap, ◌∙◌, subst}
-use Rattle.values.specs.Ticking.{Count, FaultOr, after_tick, entered}
+use Rattle.ticks.specs.Ticking.{Count, FaultOr, after_tick, entered}
 use Rattle.values.specs.Visits.{all_of}
 use Rattle.values.specs.Shape.{shape}
 use Rattle.values.specs.Seeing.{item_value, group_items, table_entries}

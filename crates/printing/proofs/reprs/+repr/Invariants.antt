@@ -1,5 +1,5 @@
 use Rattle.std.proofs.Common.{◌≡◌, ◌+◌, ◌*◌, drop, string_bytes}
-use Rattle.values.specs.Ticking.{entered}
+use Rattle.ticks.specs.Ticking.{entered}
 use Rattle.values.specs.Visits.{all_of}
 use Rattle.values.specs.Seeing.{group_items, table_entries}
 use Rattle.printing.specs.Repr.{commas, printed_entry, print_at, appended}

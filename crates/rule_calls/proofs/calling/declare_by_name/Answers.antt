@@ -1,5 +1,5 @@
 use Rattle.std.proofs.Common.{◌≡◌, ◌∙◌, true, refl, ap, sym, subst}
-use Rattle.values.specs.Ticking.{FaultOr}
+use Rattle.ticks.specs.Ticking.{FaultOr}
 use Rattle.targets.specs.RuleCalls.{fits}
 use Rattle.targets.specs.declared.attributes.Rule.{Rule}
 use Rattle.rule_calls.specs.Freezing.{frozen_for}

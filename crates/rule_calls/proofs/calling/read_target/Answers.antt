@@ -1,7 +1,7 @@
 use Rattle.std.proofs.Common.{◌≡◌, ◌∙◌, [], Result, ap, sym, subst}
-use Rattle.values.specs.Ticking.{FaultOr}
-use Rattle.values.specs.declared.ticks.Kind.{Kind}
-use Rattle.values.specs.declared.ticks.Kind.TheVariants.{Wrong}
+use Rattle.ticks.specs.Ticking.{FaultOr}
+use Rattle.ticks.specs.declared.ticks.Kind.{Kind}
+use Rattle.ticks.specs.declared.ticks.Kind.TheVariants.{Wrong}
 use Rattle.operations.specs.Items.{or_fault}
 use Rattle.operations.specs.States.{Gives}
 use Rattle.targets.specs.RuleCalls.{label_from, value_for}

@@ -1,5 +1,5 @@
 use Rattle.std.proofs.Common.{◌∙◌, sym, subst}
-use Rattle.values.specs.Ticking.{FaultOr}
+use Rattle.ticks.specs.Ticking.{FaultOr}
 use Rattle.targets.proofs.Placing.{default_is}
 use Rattle.targets.specs.RuleCalls.{value_for}
 use Rattle.rule_calls.proofs.Adding.{added-then, added-fault}

@@ -1,6 +1,6 @@
 use Rattle.std.proofs.Common.{◌≡◌, drop}
 use Rattle.std.specs.List.{list_any}
-use Rattle.values.specs.Leaves.{same_key}
+use Rattle.leaves.specs.Leaves.{same_key}
 use Rattle.rule_calls.proofs.typing.is_among.Given as goal
 
 abbrev pub invariant-loop-other : goal.invariant-loop-other

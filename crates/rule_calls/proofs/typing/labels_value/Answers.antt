@@ -1,10 +1,10 @@
 use Rattle.std.proofs.Common.{Ok, sym, ap, ◌∙◌, subst}
 use Rattle.values.specs.Seeing.{seen, group_items}
 use Rattle.values.specs.Shape.{shape}
-use Rattle.values.specs.Ticking.{FaultOr}
-use Rattle.values.specs.declared.leaf.AttributeKind.TheVariants as kind
+use Rattle.ticks.specs.Ticking.{FaultOr}
+use Rattle.leaves.specs.declared.leaf.AttributeKind.TheVariants as kind
 use Rattle.values.specs.declared.sees.Seen.{Seen}
-use Rattle.values.specs.declared.ticks.Kind.TheVariants.{Wrong}
+use Rattle.ticks.specs.declared.ticks.Kind.TheVariants.{Wrong}
 use Rattle.values.specs.declared.value.Value.{Value}
 use Rattle.operations.specs.Items.{or_fault}
 use Rattle.targets.specs.RuleCalls.{typed}

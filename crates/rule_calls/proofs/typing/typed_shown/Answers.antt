@@ -1,6 +1,6 @@
 use Rattle.std.proofs.Common.{sym, refl}
 use Rattle.values.specs.Seeing.{seen}
-use Rattle.values.specs.declared.leaf.AttributeKind.TheVariants as kind
+use Rattle.leaves.specs.declared.leaf.AttributeKind.TheVariants as kind
 use Rattle.rule_calls.proofs.Typed.{typed-seen}
 use Rattle.rule_calls.proofs.typing.typed_shown.Goals as goal
 

@@ -1,7 +1,7 @@
 use Rattle.std.proofs.Common.{◌≡◌, ◌∙◌, List, Result, Ok, Err, IfOk, MatchResult, ap, subst}
 use Rattle.meaning.specs.Calls.{function_meaning}
 use Rattle.meaning.specs.Outcome.{Final}
-use Rattle.values.specs.declared.ticks.Kind.{Kind}
+use Rattle.ticks.specs.declared.ticks.Kind.{Kind}
 use Rattle.values.specs.declared.value.Value.{Value}
 use Rattle.language.specs.Language.{language, function_id}
 use Rattle.language.specs.declared.whole.Whole.{Whole}

@@ -1,7 +1,7 @@
 use Rattle.std.proofs.Common.{true, false, Ok, Err, sym, ap, ◌∙◌}
 use Rattle.visits.specs.Equal.{equal_at}
 use Rattle.values.specs.Seeing.{group_items, item_value}
-use Rattle.values.specs.declared.ticks.TheConstants.{VISITED_LEVELS}
+use Rattle.ticks.specs.declared.ticks.TheConstants.{VISITED_LEVELS}
 use Rattle.state.proofs.Turns.{among-then}
 use Rattle.state.proofs.comparing.is_among.Goals as goal
 

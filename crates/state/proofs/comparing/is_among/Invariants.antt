@@ -1,6 +1,6 @@
 use Rattle.std.proofs.Common.{◌≡◌, drop}
 use Rattle.values.specs.Seeing.{group_items, item_value}
-use Rattle.values.specs.declared.ticks.TheConstants.{VISITED_LEVELS}
+use Rattle.ticks.specs.declared.ticks.TheConstants.{VISITED_LEVELS}
 use Rattle.visits.specs.Equal.{equal_at}
 use Rattle.operations.specs.Equality.{among}
 use Rattle.state.proofs.comparing.is_among.Given as goal

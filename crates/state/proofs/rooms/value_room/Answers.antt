@@ -1,5 +1,5 @@
 use Rattle.std.proofs.Common.{sym, ap, ◌∙◌, subst}
-use Rattle.values.specs.Cells.{list_changed, joined}
+use Rattle.heap.specs.Cells.{list_changed, joined}
 use Rattle.values.specs.Seeing.{group_items}
 use Rattle.operations.specs.States.{Gives}
 use Rattle.state.specs.Sizes.{made_or_refused}

@@ -1,5 +1,5 @@
 use Rattle.std.proofs.Common.{sym, ap, ◌∙◌, subst}
-use Rattle.values.specs.Ticking.{FaultOr}
+use Rattle.ticks.specs.Ticking.{FaultOr}
 use Rattle.values.specs.Shape.{shape}
 use Rattle.values.specs.Seeing.{group_items, item_value}
 use Rattle.operations.specs.Depsets.{put_last}

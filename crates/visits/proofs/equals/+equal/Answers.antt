@@ -1,5 +1,5 @@
 use Rattle.std.proofs.Common.{◌≡◌, ◌-◌, arith, sym, ap, ◌∙◌, refl, subst, Ok, Some, slice_get}
-use Rattle.values.specs.Ticking.{SaysKind}
+use Rattle.ticks.specs.Ticking.{SaysKind}
 use Rattle.visits.specs.Equal.{equal_at, compared, slot_equal}
 use Rattle.values.specs.Seeing.{group_items, table_entries, slot_values, item_value, option_value}
 use Rattle.visits.proofs.EqualLemmas.{stopped, went, pairs-then, pairs-end, items-pairs, matches-then, entries-matches}

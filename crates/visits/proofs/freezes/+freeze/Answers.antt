@@ -1,5 +1,5 @@
 use Rattle.std.proofs.Common.{◌+◌, ◌-◌, drop, length, Ok, Some, option_copied, sym, ap, ◌∙◌, subst}
-use Rattle.values.specs.Ticking.{Count, FaultOr, Says, after_tick, entered}
+use Rattle.ticks.specs.Ticking.{Count, FaultOr, Says, after_tick, entered}
 use Rattle.values.specs.Visits.{all_of, keys_of}
 use Rattle.values.specs.Tree.{branch}
 use Rattle.values.specs.Shape.{shape, cell_shape}

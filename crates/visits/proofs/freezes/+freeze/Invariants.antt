@@ -1,7 +1,7 @@
 use Rattle.std.proofs.Common.{◌≡◌, ◌+◌, ◌*◌, drop}
 use Rattle.values.specs.Visits.{all_of}
 use Rattle.visits.specs.Freeze.{freeze_at, frozen_entry, frozen_slot}
-use Rattle.values.specs.Ticking.{entered}
+use Rattle.ticks.specs.Ticking.{entered}
 use Rattle.values.proofs.VisitLemmas.{with_done}
 use Rattle.visits.proofs.freezes.+freeze.Given as goal
 

@@ -1,7 +1,7 @@
 use Rattle.std.proofs.Common.{sym, ap, ◌∙◌, subst}
-use Rattle.values.specs.Ticking.{Says}
+use Rattle.ticks.specs.Ticking.{Says}
 use Rattle.values.specs.Seeing.{item_value}
-use Rattle.values.specs.declared.ticks.TheConstants.{VISITED_LEVELS}
+use Rattle.ticks.specs.declared.ticks.TheConstants.{VISITED_LEVELS}
 use Rattle.values.specs.declared.value.Value.TheVariants as value
 use Rattle.visits.specs.Freeze.{freeze_at}
 use Rattle.visits.proofs.RevisitLemmas.{opened, frozen-again}

@@ -1,6 +1,6 @@
 use Rattle.std.proofs.Common.{◌+◌, ◌-◌, drop, false, refl, sym, ap, ◌∙◌, subst, arith}
 use Rattle.depsets.proofs.Turns.{drop_at}
-use Rattle.values.specs.Ticking.{Count, after_tick, entered}
+use Rattle.ticks.specs.Ticking.{Count, after_tick, entered}
 use Rattle.values.specs.Tree.{pairs}
 use Rattle.values.specs.View.{node_branch}
 use Rattle.values.proofs.SeeLemmas.{tree_list-trees, slot_list-slots, pairs-short}

@@ -1,6 +1,6 @@
 use Rattle.std.proofs.Common.{◌≡◌, ◌+◌, ◌*◌, drop}
 use Rattle.values.specs.Tree.{pairs}
-use Rattle.values.specs.Ticking.{entered}
+use Rattle.ticks.specs.Ticking.{entered}
 use Rattle.visits.specs.Revisit.{visit_at, all_visited, entry_visited, slot_visited, values_in}
 use Rattle.visits.proofs.revisit.+visit.Given as goal
 

@@ -1,5 +1,5 @@
 use Rattle.std.proofs.Common.{subst, arith}
-use Rattle.values.specs.Ticking.{Spends}
+use Rattle.ticks.specs.Ticking.{Spends}
 use Rattle.visits.proofs.ExtentLemmas.{at-once}
 use Rattle.visits.proofs.revisit.visit_at_once.Goals as goal
 

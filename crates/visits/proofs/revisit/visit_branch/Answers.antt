@@ -1,5 +1,5 @@
 use Rattle.std.proofs.Common.{◌-◌, sym, ap, ◌∙◌, subst}
-use Rattle.values.specs.Ticking.{Count, after_tick, entered}
+use Rattle.ticks.specs.Ticking.{Count, after_tick, entered}
 use Rattle.values.specs.Tree.{branch}
 use Rattle.visits.specs.Revisit.{Goes, visit_at, visited, branch_visited}
 use Rattle.visits.proofs.ExtentLemmas.{not-at-once}

@@ -1,0 +1,2 @@
+pub mod Ticking
+pub mod KindText

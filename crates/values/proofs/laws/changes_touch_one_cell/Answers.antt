@@ -1,5 +1,0 @@
-use Rattle.values.proofs.LawLemmas.{one-cell}
-use Rattle.values.proofs.laws.changes_touch_one_cell.Goals as goal
-
-pub returns : goal.returns
-returns c = one-cell
