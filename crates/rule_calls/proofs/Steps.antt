@@ -23,7 +23,7 @@ use Rattle.targets.specs.declared.attributes.NamedAttribute.{NamedAttribute}
 use Rattle.targets.specs.declared.attributes.Rule.{Rule}
 use Rattle.targets.specs.declared.target.Target.{Target}
 use Rattle.rule_calls.specs.Each.{added}
-use Rattle.rule_calls.specs.Freezing.{frozen_option, frozen_for}
+use Rattle.rule_arguments.specs.Freezing.{frozen_option, frozen_for}
 use Rattle.rule_calls.specs.Packages.{Declared}
 use Rattle.rule_calls.specs.Called.{target_of, target_read}
 use Rattle.rule_calls.proofs.Adding.{added-each}

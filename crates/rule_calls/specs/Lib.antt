@@ -1,5 +1,3 @@
 pub mod Each
-pub mod Freezing
 pub mod Packages
 pub mod Called
-pub mod GivenCode

@@ -8,14 +8,13 @@ ghost use Rattle.rule_calls.specs.Called.{target_of, target_read, call, Calls};
 
 use crate::by_name::PackageTargets;
 use crate::fitting::fits;
-use crate::freezing::freeze_given;
-use crate::given::ByName;
 use crate::here::Here;
 use crate::reading::{label_from, values_for};
 use crate::repeats::repeats_given;
 use heap::Heap;
 use operations::{Arguments, State};
 use plain::Shared;
+use rule_arguments::{ByName, freeze_given};
 use std::alloc::Global;
 use targets::{AttributeValue, Rule, Sequence, Target};
 use values::{Broken, Kind};

@@ -4,8 +4,8 @@ ghost use Rattle.std.specs.List.{list_any, list_all};
 ghost use Rattle.targets.specs.Attributes.{is_private};
 ghost use Rattle.targets.specs.RuleCalls.{may_name, is_missed, fits};
 
-use crate::given::ByName;
 use plain::Text;
+use rule_arguments::ByName;
 use targets::{NamedAttribute, Rule, RuleAttributes};
 
 /// Whether there is no position, each name is one that a call may give, and `name` and each mandatory attribute are

@@ -8,8 +8,6 @@
 mod by_name;
 mod calling;
 mod fitting;
-mod freezing;
-mod given;
 mod here;
 mod lists;
 mod name_key;

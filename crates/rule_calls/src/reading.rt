@@ -8,12 +8,12 @@ ghost use Rattle.targets.specs.Attributes.{default_of};
 ghost use Rattle.targets.specs.RuleCalls.{value_for, label_from};
 ghost use Rattle.rule_calls.specs.Each.{put_read, added};
 
-use crate::given::ByName;
 use crate::here::Here;
 use crate::typing::typed;
 use heap::Heap;
 use operands::Operand;
 use plain::Shared;
+use rule_arguments::ByName;
 use state::text_of;
 use std::alloc::Global;
 use targets::{AttributeValue, NamedAttribute, RuleAttributes, Sequence};

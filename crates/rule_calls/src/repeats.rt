@@ -3,9 +3,9 @@ ghost use Rattle.std.specs.Prelude.{◌≡◌, ◌&&◌, IfOk, true, false};
 ghost use Rattle.std.specs.List.{list_any};
 ghost use Rattle.targets.specs.RuleCalls.{is_given, repeats, repeats_label, repeats_given};
 
-use crate::given::ByName;
 use analysis::label_key;
 use plain::Shared;
+use rule_arguments::ByName;
 use std::alloc::{AllocError, Global};
 use std::collections::BTreeSet;
 use targets::{AttributeValue, NamedAttribute};

@@ -2,7 +2,7 @@ use Rattle.std.proofs.Common.{◌≡◌, ◌∙◌, true, refl, ap, sym, subst}
 use Rattle.ticks.specs.Ticking.{FaultOr}
 use Rattle.targets.specs.RuleCalls.{fits}
 use Rattle.targets.specs.declared.attributes.Rule.{Rule}
-use Rattle.rule_calls.specs.Freezing.{frozen_for}
+use Rattle.rule_arguments.specs.Freezing.{frozen_for}
 use Rattle.rule_calls.proofs.Steps.{declares-ok, declares-fault}
 use Rattle.rule_calls.proofs.calling.declare_by_name.Goals as goal
 

@@ -16,7 +16,7 @@ use values::{Frozen, Held, Item, Leaf, Value};
 
 /// What a call of a rule gives, found by name.
 #[derive(Drop)]
-pub(crate) struct ByName<'a, 'v> {
+pub struct ByName<'a, 'v> {
     arguments: Arguments<'a, 'v>,
     places: FirstPlaces<'a>,
 }
@@ -27,7 +27,7 @@ impl<'a, 'v> Model for ByName<'a, 'v> {
 
     ghost Value = { Given };
 
-    ghost use Rattle.rule_calls.specs.GivenCode.{given_code};
+    ghost use Rattle.rule_arguments.specs.GivenCode.{given_code};
 
     ghost coded = { given_code };
 
@@ -38,10 +38,7 @@ impl<'a, 'v> Model for ByName<'a, 'v> {
 
 impl<'a, 'v> ByName<'a, 'v> {
     /// The arguments of a call.
-    pub(crate) fn new(
-        alloc: Global,
-        arguments: &Arguments<'a, 'v>,
-    ) -> Result<ByName<'a, 'v>, AllocError>
+    pub fn new(alloc: Global, arguments: &Arguments<'a, 'v>) -> Result<ByName<'a, 'v>, AllocError>
         ensures { IfOk result (λ b. b ≡ given arguments.now) }
     {
         let places = FirstPlaces::new(alloc, arguments.names)?;
@@ -52,21 +49,21 @@ impl<'a, 'v> ByName<'a, 'v> {
     }
 
     /// How many are given by position.
-    pub(crate) fn position_count(&self) -> usize
+    pub fn position_count(&self) -> usize
         ensures { result ≡ length self.now.items }
     {
         self.arguments.items.len()
     }
 
     /// The names that are given.
-    pub(crate) fn names(&self) -> &'a [Text]
+    pub fn names(&self) -> &'a [Text]
         ensures { result.now ≡ self.now.names }
     {
         self.arguments.names
     }
 
     /// What was given under a name; None counts as not given.
-    pub(crate) fn given_as(&self, name: &str) -> Option<&'a Operand<'v>>
+    pub fn given_as(&self, name: &str) -> Option<&'a Operand<'v>>
         ensures { option_copied result ≡ given_as self.now name.now }
     {
         match value_at(self.arguments.values, self.places.get(name)) {

@@ -2,7 +2,7 @@
 ghost use Rattle.std.specs.Prelude.{◌≡◌, Ok, Err, MatchResult, option_copied};
 ghost use Rattle.ticks.specs.Ticking.{Says, FaultOr};
 ghost use Rattle.targets.specs.RuleCalls.{given_as};
-ghost use Rattle.rule_calls.specs.Freezing.{frozen_option, frozen_for};
+ghost use Rattle.rule_arguments.specs.Freezing.{frozen_option, frozen_for};
 
 use crate::given::ByName;
 use heap::Heap;
@@ -14,7 +14,7 @@ use visits::freeze;
 
 /// Freezes what is given for attributes, in their order. Nothing is kept of it: the target has what was read of it, so
 /// that it costs ticks alone.
-pub(crate) fn freeze_given(
+pub fn freeze_given(
     alloc: Global,
     attributes: &[NamedAttribute],
     arguments: &ByName<'_, '_>,

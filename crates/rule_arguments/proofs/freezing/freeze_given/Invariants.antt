@@ -1,6 +1,6 @@
 use Rattle.std.proofs.Common.{◌≡◌, drop}
-use Rattle.rule_calls.specs.Freezing.{frozen_for}
-use Rattle.rule_calls.proofs.freezing.freeze_given.Given as goal
+use Rattle.rule_arguments.specs.Freezing.{frozen_for}
+use Rattle.rule_arguments.proofs.freezing.freeze_given.Given as goal
 
 abbrev pub invariant-loop-attribute : goal.invariant-loop-attribute
 invariant-loop-attribute l =
