@@ -1,18 +1,19 @@
 -- The slots of names, as levels are entered and left.
-use Rattle.std.proofs.Common.{◌≡◌, ℕ, suc, ◌+◌, ◌<◌, ◌≤◌, Bool, true, false, ◌||◌, List, [], ◌∷◌, ◌++◌, length, Option, Some, None, refl, sym, ap, ◌∙◌, subst, arith, if◌then◌else◌}
+use Rattle.std.proofs.Common.{◌≡◌, ℕ, suc, ◌+◌, ◌<◌, ◌≤◌, Bool, true, false, ◌||◌, List, [], ◌∷◌, ◌++◌, drop, length, map, take, Option, Some, None, refl, sym, ap, ◌∙◌, subst, arith, if◌then◌else◌}
 use Rattle.std.specs.Prelude.{bytes_eq, cond, is_some, option_map, position, IfSome}
 use Rattle.std.specs.Cmp.Lexicographic.{nat_list_eq_equiv}
 use Rattle.std.specs.List.{position_or_len}
 use Rattle.std.specs.Option.{option_flatten}
 use Rattle.std.specs.Map.{lookup, set_value}
 use Rattle.std.proofs.lemmas.Bool.{lt-ltb}
+use Rattle.std.proofs.lemmas.List.{length-drop, length-take-le}
 use Rattle.std.proofs.lemmas.List.Folds.{list_any-append, list_any_at}
 use Rattle.std.proofs.lemmas.List.Quantifiers.{position-Some}
 use Rattle.std.proofs.lemmas.List.Recursion.{is_position_or_len}
 use Rattle.std.proofs.lemmas.Map.{lookup-set_value}
 use Rattle.indexmap.specs.IndexSet.{insert_key}
 use Rattle.program_tree.specs.Names.{Name, among, or_else, slot_of, width}
-use Rattle.scopes.specs.ScopeView.{AreLevel, HasSlots, KnowsAround, found, names_in}
+use Rattle.scopes.specs.ScopeView.{AllKnowAround, AreLevel, HasSlots, IsCut, KnowsAround, found, names_in, parts}
 use Rattle.scopes.specs.declared.levels.BoundName.{BoundName}
 use Rattle.file_syntax.proofs.NamePlaces.{before_it, counted, has_place, not_both, same, same_name, slot_within}
 
@@ -140,12 +141,52 @@ there y l ls s e h = by (among y l) refl
         let k = slot_within y ls s (sym (outside y l ls a) ∙ e) in
         absurd (omega (arith, k, h))
 
-pub no_slots : (x : Name) (ls : List (List Name)) → width ls ≡ 0 → slot_of x ls ≡ None
+no_slots : (x : Name) (ls : List (List Name)) → width ls ≡ 0 → slot_of x ls ≡ None
 no_slots x ls h = by (slot_of x ls) refl
   where
     by : (o : Option ℕ) → slot_of x ls ≡ o → slot_of x ls ≡ None
     by None e = e
     by (Some k) e = let w = slot_within x ls k e in absurd (omega (arith, h, w))
+
+named : (bs : List BoundName) → length (names_in bs) ≡ length bs
+named [] = refl
+named (c ∷ bs) = ap suc (named bs)
+
+-- there are as many slots as names that are bound
+pub width_cut : (ns : List ℕ) (bs : List BoundName) → IsCut ns bs → width (map names_in (parts ns bs)) ≡ length bs
+width_cut [] bs h = sym (ap length h)
+width_cut (n ∷ ns) bs h =
+    let outside : width (map names_in (parts ns (take n bs))) ≡ length (take n bs) = width_cut ns (take n bs) h.1 in
+    omega (arith, outside, named (drop n bs), length-take-le n bs h.0, length-drop n bs, h.0)
+
+-- where none is bound
+pub none_bound : (x : Name) (ns : List ℕ) (bs : List BoundName) → IsCut ns bs → length bs ≡ 0 → slot_of x (map names_in (parts ns bs)) ≡ None
+none_bound x ns bs h e = no_slots x (map names_in (parts ns bs)) (width_cut ns bs h ∙ e)
+
+-- bound names that are cut at these places, with the slots that they have, are these levels
+pub record IsLevels (ns : List ℕ) (bs : List BoundName) (es : List (Name × Option ℕ)) (ls : List (List Name)) : Type 0 where
+  pub cut : IsCut ns bs
+  pub slots : HasSlots es ls
+  pub around : AllKnowAround (parts ns bs)
+  pub names : map names_in (parts ns bs) ≡ ls
+
+-- and so they are with a level more
+pub level_added : (ns : List ℕ) (bs cs : List BoundName) (fs : List (Name × Option ℕ)) (xs : List Name) (ls : List (List Name)) → IsCut ns bs
+    → AllKnowAround (parts ns bs) → map names_in (parts ns bs) ≡ ls → names_in (drop (length bs) cs) ≡ xs → AreLevel fs (drop (length bs) cs) ls
+    → take (length bs) cs ≡ bs → length bs ≤ length cs → IsLevels (length bs ∷ ns) cs fs (xs ∷ ls)
+level_added ns bs cs fs xs ls cut around names e level front fits =
+    record {
+      cut = (fits, subst (IsCut ns) (sym front) cut);
+      slots = subst (λ l. HasSlots fs (l ∷ ls)) e level.0;
+      around = (
+        subst (KnowsAround (drop (length bs) cs)) (sym same) level.1,
+        subst (λ ds. AllKnowAround (parts ns ds)) (sym front) around,
+      );
+      names = ap (λ l. l ∷ map names_in (parts ns (take (length bs) cs))) e ∙ ap (λ ks. xs ∷ ks) same;
+    }
+  where
+    same : map names_in (parts ns (take (length bs) cs)) ≡ ls
+    same = ap (λ ds. map names_in (parts ns ds)) front ∙ names
 
 -- places among names and one more
 longer : (l : List Name) (y : Name) → length (l ++ y ∷ []) ≡ suc (length l)
@@ -202,10 +243,6 @@ slot_pushed x y l ls n a w = by (among x l) refl (bytes_eq y x) refl
 names_pushed : (bs : List BoundName) (b : BoundName) → names_in (bs ++ b ∷ []) ≡ names_in bs ++ b.name ∷ []
 names_pushed [] b = refl
 names_pushed (c ∷ bs) b = ap (λ l. c.name ∷ l) (names_pushed bs b)
-
-named : (bs : List BoundName) → length (names_in bs) ≡ length bs
-named [] = refl
-named (c ∷ bs) = ap suc (named bs)
 
 knows_pushed : (bs : List BoundName) (b : BoundName) (ls : List (List Name)) → KnowsAround bs ls → b.around ≡ slot_of b.name ls → KnowsAround (bs ++ b ∷ []) ls
 knows_pushed [] b ls h e = (e, tt)

@@ -1,5 +1,5 @@
 -- What the program's scopes stand for.
-use Rattle.std.specs.Prelude.{◌≡◌, ℕ, List, [], ◌∷◌, map, Option, bytes_eq, ⊤}
+use Rattle.std.specs.Prelude.{◌≡◌, ◌≤◌, ℕ, List, [], ◌∷◌, drop, length, map, take, Option, bytes_eq, ⊤}
 use Rattle.std.specs.Map.{lookup}
 use Rattle.std.specs.Option.{option_flatten}
 use Rattle.program_tree.specs.Names.{Name, Scope, once, slot_of}
@@ -44,3 +44,13 @@ AllKnowAround (l ∷ ls) = KnowsAround l (map names_in ls) × AllKnowAround ls
 -- a map and the innermost level belong to one another, inside of these levels
 abbrev pub AreLevel : List (Name × Option ℕ) → List BoundName → List (List Name) → Type 0
 AreLevel es bs ls = HasSlots es (names_in bs ∷ ls) × KnowsAround bs ls
+
+-- a list cut at these places, the last part first
+abbrev pub parts : {A : Type 0} → List ℕ → List A → List (List A)
+parts [] xs = []
+parts (n ∷ ns) xs = drop n xs ∷ parts ns (take n xs)
+
+-- the places are in the list, each before the next, and nothing stands before the first
+abbrev pub IsCut : {A : Type 0} → List ℕ → List A → Type 0
+IsCut [] xs = xs ≡ []
+IsCut (n ∷ ns) xs = (n ≤ length xs) × IsCut ns (take n xs)

@@ -1,6 +1,6 @@
 //! The slots of a function and of the comprehensions in it.
 
-ghost use Rattle.std.specs.Prelude.{◌≡◌, ◌∷◌, [], List, IfOk, OnOk, bytes_eq};
+ghost use Rattle.std.specs.Prelude.{◌≡◌, ◌≤◌, ◌∷◌, [], List, IfOk, OnOk, bytes_eq, drop, length, take};
 ghost use Rattle.std.specs.Map.{set_value};
 ghost use Rattle.indexmap.specs.IndexSet.{insert_key};
 ghost use Rattle.program_tree.specs.Names.{Name as OfName, once, slot_of, width};
@@ -23,25 +23,26 @@ struct BoundName<'t> {
 /// the innermost level is the first.
 #[derive(Drop)]
 pub struct Levels<'t> {
-    levels: Vec<Vec<BoundName<'t>>>,
+    /// The names of all levels, those of the innermost last: each stands at the place that is its slot.
+    bound: Vec<BoundName<'t>>,
+    /// Where each level begins, the innermost last.
+    starts: Vec<usize>,
     /// The slot of each name; None of one whose levels were left.
     slots: IndexMap<Name<'t>, Option<usize>>,
-    used: usize,
 }
 
 impl<'t> Model for Levels<'t> {
-    ghost use Rattle.std.specs.Prelude.{◌≡◌, List, map, reverse};
-    ghost use Rattle.program_tree.specs.Names.{Name, width};
-    ghost use Rattle.scopes.specs.ScopeView.{AllKnowAround, HasSlots, names_in};
+    ghost use Rattle.std.specs.Prelude.{List, map, reverse};
+    ghost use Rattle.program_tree.specs.Names.{Name};
+    ghost use Rattle.scopes.specs.ScopeView.{AllKnowAround, HasSlots, IsCut, names_in, parts};
 
     ghost Value = { List (List Name) };
 
-    ghost view = { λ l. map names_in (map (λ v. v.items) (reverse l.levels.items)) };
+    ghost view = { λ l. map names_in (parts (reverse l.starts.items) l.bound.items) };
 
-    ghost invariant = { λ l.
-        (l.used ≡ width (map names_in (map (λ v. v.items) (reverse l.levels.items))))
-        × HasSlots l.slots.entries (map names_in (map (λ v. v.items) (reverse l.levels.items)))
-        × AllKnowAround (map (λ v. v.items) (reverse l.levels.items)) };
+    ghost invariant = { λ l. IsCut (reverse l.starts.items) l.bound.items
+        × HasSlots l.slots.entries (map names_in (parts (reverse l.starts.items) l.bound.items))
+        × AllKnowAround (parts (reverse l.starts.items) l.bound.items) };
 }
 
 /// Sets the slot of a name, if it is in the map.
@@ -63,21 +64,23 @@ fn restore<'t>(slots: &mut IndexMap<Name<'t>, Option<usize>>, level: &[BoundName
     }
 }
 
-/// Binds a name in a level with this first slot. One that the level has already keeps its slot.
+/// Binds a name in the innermost level, which begins at this place. One that the level has already keeps its slot.
 fn bind<'t>(
     slots: &mut IndexMap<Name<'t>, Option<usize>>,
-    level: &mut Vec<BoundName<'t>>,
+    bound: &mut Vec<BoundName<'t>>,
     first: usize,
     name: &Name<'t>,
 ) -> Result<(), AllocError>
     ensures { OnOk result ((ls : List (List OfName)) → width ls ≡ first
-        → AreLevel slots.old.entries level.old.items ls
-        → (names_in level.new.items ≡ insert_key bytes_eq (names_in level.old.items) name.now)
-        × AreLevel slots.new.entries level.new.items ls) }
+        → first ≤ length bound.old.items
+        → AreLevel slots.old.entries (drop first bound.old.items) ls
+        → (names_in (drop first bound.new.items)
+        ≡ insert_key bytes_eq (names_in (drop first bound.old.items)) name.now)
+        × AreLevel slots.new.entries (drop first bound.new.items) ls
+        × (take first bound.new.items ≡ take first bound.old.items)
+        × (first ≤ length bound.new.items)) }
 {
-    let Some(slot) = first.checked_add(level.len()) else {
-        return Err(AllocError);
-    };
+    let slot = bound.len();
     let around = slots.insert(name.share()?, Some(slot))?.flatten();
     if let Some(before) = around {
         if before >= first {
@@ -85,31 +88,33 @@ fn bind<'t>(
             return Ok(());
         }
     }
-    level.push(BoundName {
+    bound.push(BoundName {
         name: name.share()?,
         around,
     })?;
     Ok(())
 }
 
-/// The level of these names, each once, with this first slot. The map has their slots then.
-fn level_of<'t>(
-    alloc: Global,
+/// Binds these names in a new level, each once. The map has their slots then.
+fn bind_all<'t>(
     slots: &mut IndexMap<Name<'t>, Option<usize>>,
-    first: usize,
+    bound: &mut Vec<BoundName<'t>>,
     names: &[Name<'t>],
-) -> Result<Vec<BoundName<'t>>, AllocError>
-    ensures { IfOk result (λ level. (ls : List (List OfName)) → width ls ≡ first
+) -> Result<(), AllocError>
+    ensures { OnOk result ((ls : List (List OfName)) → width ls ≡ length bound.old.items
         → HasSlots slots.old.entries ls
-        → (names_in level.items ≡ once names.now)
-        × AreLevel slots.new.entries level.items ls) }
+        → (names_in (drop (length bound.old.items) bound.new.items) ≡ once names.now)
+        × AreLevel slots.new.entries (drop (length bound.old.items) bound.new.items) ls
+        × (take (length bound.old.items) bound.new.items ≡ bound.old.items)
+        × (length bound.old.items ≤ length bound.new.items)) }
 {
     slots.reserve(names.len())?;
-    let mut level = Vec::with_capacity(alloc, names.len())?;
+    bound.reserve(names.len())?;
+    let first = bound.len();
     for name in names {
-        bind(slots, &mut level, first, name)?;
+        bind(slots, bound, first, name)?;
     }
-    Ok(level)
+    Ok(())
 }
 
 impl<'t> Levels<'t> {
@@ -118,9 +123,9 @@ impl<'t> Levels<'t> {
         ensures { result ≡ [] }
     {
         Levels {
-            levels: Vec::new(alloc),
+            bound: Vec::new(alloc),
+            starts: Vec::new(alloc),
             slots: IndexMap::new(alloc),
-            used: 0,
         }
     }
 
@@ -128,43 +133,34 @@ impl<'t> Levels<'t> {
     pub(crate) fn width(&self) -> usize
         ensures { result ≡ width self.now }
     {
-        self.used
+        self.bound.len()
     }
 
     /// The slot of a name: of the innermost level that has it. However many levels there are, it is one look-up.
-    #[tactic(auto, using(crate::proofs::LevelLemmas::no_slots))]
     pub(crate) fn slot(&self, name: &Name<'t>) -> Option<usize>
         ensures { result ≡ slot_of name.now self.now }
     {
-        if self.used == 0 {
+        if self.bound.len() == 0 {
             return None;
         }
         self.slots.get(name).copied().flatten()
     }
 
-    /// These levels, and inside of them one of these names, each once. A count of slots past the greatest number is
-    /// answered as want of memory.
-    pub(crate) fn with_level(
-        self,
-        alloc: Global,
-        names: &[Name<'t>],
-    ) -> Result<Levels<'t>, AllocError>
+    /// These levels, and inside of them one of these names, each once.
+    pub(crate) fn with_level(self, names: &[Name<'t>]) -> Result<Levels<'t>, AllocError>
         ensures { IfOk result (λ l. l ≡ once names.now ∷ self.entry) }
     {
         let Levels {
-            mut levels,
+            mut bound,
+            mut starts,
             mut slots,
-            used,
         } = self;
-        let level = level_of(alloc, &mut slots, used, names)?;
-        let Some(used) = used.checked_add(level.len()) else {
-            return Err(AllocError);
-        };
-        levels.push(level)?;
+        starts.push(bound.len())?;
+        bind_all(&mut slots, &mut bound, names)?;
         Ok(Levels {
-            levels,
+            bound,
+            starts,
             slots,
-            used,
         })
     }
 
@@ -173,7 +169,7 @@ impl<'t> Levels<'t> {
         ensures { OnOk result (self.new ≡ once names.now ∷ self.old) }
     {
         let around = mem::replace(self, Levels::new(alloc));
-        let inside = around.with_level(alloc, names)?;
+        let inside = around.with_level(names)?;
         drop(mem::replace(self, inside));
         Ok(())
     }
@@ -182,9 +178,9 @@ impl<'t> Levels<'t> {
     pub(crate) fn leave(&mut self)
         ensures { self.new ≡ outer self.old }
     {
-        if let Some(level) = self.levels.pop() {
-            self.used -= level.len();
-            restore(&mut self.slots, level.as_slice());
+        if let Some(start) = self.starts.pop() {
+            restore(&mut self.slots, &self.bound[start..]);
+            self.bound.truncate(start);
         }
     }
 }

@@ -211,7 +211,7 @@ impl<'t> Scope<'t> {
         ensures entered { OnOk result (self.new ≡ in_function names.now self.old) }
         ensures left { IfOk result (λ levels. levels ≡ self.old.levels) }
     {
-        let levels = Levels::new(alloc).with_level(alloc, names)?;
+        let levels = Levels::new(alloc).with_level(names)?;
         Ok(mem::replace(&mut self.levels, levels))
     }
 

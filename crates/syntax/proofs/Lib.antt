@@ -1,2 +1,3 @@
+pub mod DepthLemmas
 pub mod ProgramLemmas
 pub mod ScopeLemmas

@@ -1,5 +1,5 @@
 -- What the functions that resolve names ensure.
-use Rattle.std.specs.Prelude.{◌≡◌, ℕ, Bool, true, false, not, ◌&&◌, List, Option, Some, None, Result, Ok, Err, option_map, reverse}
+use Rattle.std.specs.Prelude.{◌≡◌, ◌≤◌, ℕ, Bool, true, false, not, ◌&&◌, List, Option, Some, None, Result, Ok, Err, max, option_map, reverse}
 use Rattle.std.specs.Global.{Box}
 use Rattle.std.specs.declared.alloc.Global.{Global}
 use Rattle.std.specs.declared.vec.Vec.{Vec}
@@ -19,6 +19,7 @@ use Rattle.syntax.specs.declared.steps.Behind.{Behind}
 use Rattle.syntax.specs.declared.steps.Later.{Later}
 use Rattle.grammar.specs.Bare.{Tree, Rest, done, for_each, only_if}
 use Rattle.grammar.specs.BareLines.{Form, Lines, a_line}
+use Rattle.grammar.specs.BareDepth.{form_depth, lines_depth, tree_depth}
 use Rattle.grammar.specs.LineView.{form_of, lines}
 use Rattle.grammar.specs.TreeView.{tree_of}
 use Rattle.program_tree.specs.Names.{Name, Scope, apart, clause_names, distinct, form_binds, or_else, scope_of, width}
@@ -26,8 +27,7 @@ use Rattle.program_tree.specs.ProgramView as view
 use Rattle.program_tree.specs.Resolved as resolved
 use Rattle.program_tree.specs.Resolved.{Made, Steps, own_slots, steps_of}
 use Rattle.program_tree.specs.declared.program.OwnSlots.{OwnSlots}
-use Rattle.file_syntax.specs.Scopes.{none_predeclared}
-use Rattle.file_syntax.specs.Scopes.{adds_to_name, line_scoped, lines_fault, rest_scoped, scoped, unless}
+use Rattle.file_syntax.specs.Scopes.{adds_to_name, line_scoped, lines_fault, none_predeclared, rest_scoped, scoped, unless}
 use Rattle.scopes.specs.ScopeView.{entered}
 
 -- the expression of the first clause of a comprehension
@@ -82,10 +82,10 @@ Enters r old (Ok (own, first)) new =
 Enters r old (Err stop.Breaks) new = ((none_predeclared (clause_names r) && first_scoped old r) ≡ false) × (new ≡ old)
 Enters r old (Err stop.NoMemory) new = Unit {0}
 
--- a function value that resolves the expressions inside
+-- a function value that resolves the expressions inside, of which no more than so many are inside of one another
 pub record ResolvesInside (turns : ℕ) (pre : Global → MutBor Scope → Bor Expr → ℕ → Type 0)
     (post : Global → MutBor Scope → Bor Expr → ℕ → Result Term Unresolved → MutBor Scope → Type 0) : Type 0 where
-  pub callable : (alloc : Global) (old : MutBor Scope) (e : Bor Expr) → pre alloc old e turns
+  pub callable : (alloc : Global) (old : MutBor Scope) (e : Bor Expr) → tree_depth (tree_of e.now) ≤ turns → pre alloc old e turns
   pub gives : (alloc : Global) (old new : MutBor Scope) (e : Bor Expr) (r : Result Term Unresolved) → post alloc old e turns r new
       → GivesTerm (tree_of e.now) old.now r new.now
 
@@ -122,6 +122,10 @@ back (Some ls) s = record { globals = s.globals; levels = ls }
 -- a line before others, whose block is seen already
 abbrev pub before_lines : Line → Lines → Lines
 before_lines l rest = a_line (out-Line l).number (form_of (out-Line l).form) (lines (out-Line l).block.items) rest
+
+-- the depth of the deepest expression of a line and of its block
+abbrev pub line_depth : Line → ℕ
+line_depth l = max (form_depth (form_of (out-Line l).form)) (lines_depth (lines (out-Line l).block.items))
 
 -- the line itself, where it breaks a rule, or the first in its block
 abbrev pub own_fault : Scope → Line → Option ℕ

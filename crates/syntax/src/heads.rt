@@ -1,8 +1,9 @@
 //! Resolving the names of a line, but for those of its block, by the rules of scopes: what a line binds and the parameters
 //! of a function are not predeclared, parameters are distinct, and those with defaults come last.
 
-ghost use Rattle.std.specs.Prelude.{◌≡◌, ◌&&◌, IfOk, map};
+ghost use Rattle.std.specs.Prelude.{◌≡◌, ◌≤◌, ◌&&◌, IfOk, map};
 ghost use Rattle.std.specs.List.{list_all};
+ghost use Rattle.grammar.specs.BareDepth.{form_depth, param_depth, params_depth, tree_depth};
 ghost use Rattle.grammar.specs.BareLines.{defines};
 ghost use Rattle.grammar.specs.LineView.{form_of, item_of, param_of};
 ghost use Rattle.grammar.specs.TreeView.{tree_of};
@@ -12,8 +13,7 @@ ghost use Rattle.program_tree.specs.ProgramView.{terms_onto};
 ghost use Rattle.program_tree.specs.Resolved as resolved;
 ghost use Rattle.program_tree.specs.Resolved.{Terms, defaults, global_of, with_default};
 ghost use Rattle.syntax.specs.Resolves.{Gives, GivesHead, GivesTerm, Keeps};
-ghost use Rattle.file_syntax.specs.Scopes.{none_predeclared};
-ghost use Rattle.file_syntax.specs.Scopes.{defaults_last, form_scoped, line_scoped, param_scoped, scoped};
+ghost use Rattle.file_syntax.specs.Scopes.{defaults_last, form_scoped, line_scoped, none_predeclared, param_scoped, scoped};
 
 use crate::resolver::{Unresolved, bindings, resolve};
 use grammar::{Expr, Form, Item, MAX_DEPTH, Name, Param};
@@ -36,6 +36,7 @@ pub(crate) enum Head {
 }
 
 fn term<'t>(alloc: Global, scope: &mut Scope<'t>, expr: &Expr<'t>) -> Result<Term, Unresolved>
+    requires { tree_depth (tree_of expr.now) ≤ 200 }
     ensures { GivesTerm (tree_of expr.now) scope.old result scope.new }
 {
     resolve(alloc, scope, expr, MAX_DEPTH)
@@ -101,6 +102,7 @@ fn add_default<'t>(
     found: &mut Vec<Term>,
     param: &Param<'t>,
 ) -> Result<(), Unresolved>
+    requires { param_depth (param_of param.now) ≤ 200 }
     ensures kept { Keeps (λ s. param_scoped s (param_of param.now)) scope.old result scope.new }
     ensures found { IfOk result (λ _. (r : Terms)
         → terms_onto (map view.term found.new.items) r
@@ -123,6 +125,7 @@ fn defaults<'t>(
     scope: &mut Scope<'t>,
     params: &[Param<'t>],
 ) -> Result<Vec<Term>, Unresolved>
+    requires { params_depth (map param_of params.now) ≤ 200 }
     ensures { Gives (λ v. view.terms v.items) (λ s. list_all (param_scoped s)
         (map param_of params.now)) (λ s. defaults s (map param_of params.now)) scope.old result
         scope.new }
@@ -185,6 +188,7 @@ fn def<'t>(
     name: &Name<'t>,
     params: &[Param<'t>],
 ) -> Result<Head, Unresolved>
+    requires { params_depth (map param_of params.now) ≤ 200 }
     ensures { GivesHead form_scoped (defines name.now (map param_of params.now)) scope.old result
         scope.new }
 {
@@ -211,6 +215,9 @@ fn three<'t>(
     at: &Expr<'t>,
     value: &Expr<'t>,
 ) -> Result<(Box<Term>, Box<Term>, Term), Unresolved>
+    requires base { tree_depth (tree_of base.now) ≤ 200 }
+    requires at { tree_depth (tree_of at.now) ≤ 200 }
+    requires value { tree_depth (tree_of value.now) ≤ 200 }
     ensures { Gives {B = resolved.Term × resolved.Term × resolved.Term}
         (λ t. (view.term t.0.value, view.term t.1.value, view.term t.2))
         (λ s. scoped s (tree_of base.now) && (scoped s (tree_of at.now) && scoped s
@@ -229,6 +236,7 @@ fn three<'t>(
 
 /// A line without the rule on what it binds.
 fn form_head<'t>(alloc: Global, scope: &mut Scope<'t>, form: &Form<'t>) -> Result<Head, Unresolved>
+    requires { form_depth (form_of form.now) ≤ 200 }
     ensures { GivesHead form_scoped (form_of form.now) scope.old result scope.new }
 {
     match form {
@@ -280,13 +288,13 @@ fn form_head<'t>(alloc: Global, scope: &mut Scope<'t>, form: &Form<'t>) -> Resul
 ///
 /// # Errors
 ///
-/// [`Unresolved::Breaks`] where it breaks a rule of scopes. [`Unresolved::NoMemory`] where memory was refused, or an
-/// expression is deeper than those of any text that was read.
+/// [`Unresolved::Breaks`] where it breaks a rule of scopes. [`Unresolved::NoMemory`] where memory was refused.
 pub(crate) fn line_head<'t>(
     alloc: Global,
     scope: &mut Scope<'t>,
     form: &Form<'t>,
 ) -> Result<Head, Unresolved>
+    requires { form_depth (form_of form.now) ≤ 200 }
     ensures { GivesHead line_scoped (form_of form.now) scope.old result scope.new }
 {
     if !binds_free(form) {

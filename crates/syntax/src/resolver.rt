@@ -2,11 +2,11 @@
 //! one call, and no comprehension binds a predeclared name. What resolves the expressions inside is a parameter, so that
 //! each form is proved by itself.
 
-ghost use Rattle.std.specs.Prelude.{◌≡◌, ◌&&◌, ◌∷◌, [], IfOk, MatchOption, Some, map};
+ghost use Rattle.std.specs.Prelude.{◌≡◌, ◌+◌, ◌≤◌, ◌&&◌, ◌∷◌, [], IfOk, MatchOption, Some, map, max};
 ghost use Rattle.std.specs.Option.{option_map};
-ghost use Rattle.grammar.specs.Bare.{Rest, Tree, choice as choice_tree, dict as dict_tree, each, each_entry, invokes, listing, named as name_tree, operates, selects, subscript, tuple as tuple_tree, turned};
-ghost use Rattle.program_tree.specs.Names.{distinct};
-ghost use Rattle.program_tree.specs.Names.{Scope as Around};
+ghost use Rattle.grammar.specs.Bare.{Rest, choice as choice_tree, dict as dict_tree, each, each_entry, invokes, listing, named as name_tree, operates, selects, subscript, tuple as tuple_tree, turned};
+ghost use Rattle.grammar.specs.BareDepth.{entries_depth, keywords_depth, rest_depth, tree_depth, trees_depth};
+ghost use Rattle.program_tree.specs.Names.{Scope as Around, distinct};
 ghost use Rattle.program_tree.specs.ProgramView as view;
 ghost use Rattle.program_tree.specs.ProgramView.{rounds_onto};
 ghost use Rattle.program_tree.specs.Resolved as resolved;
@@ -90,6 +90,8 @@ fn operand<'l, 't>(clause: &'l Clause<'t>) -> &'l Expr<'t>
     ensures others { (t : Around) (r : Rest) → others_scoped t (clause_of clause.now r)
         ≡ rest_scoped t t r }
     ensures first { (r : Rest) → first_tree (clause_of clause.now r) ≡ Some (tree_of result.now) }
+    ensures depth { (r : Rest) → rest_depth (clause_of clause.now r)
+        ≡ max (tree_depth (tree_of result.now)) (rest_depth r) }
 {
     match clause {
         Clause::For(_, _, operand) => operand,
@@ -172,7 +174,7 @@ fn resolve_name<'t>(scope: &Scope<'t>, text: &Name<'t>) -> Result<Term, Unresolv
 #[derive(Clone, Copy)]
 struct Resolver<F> {
     alloc: Global,
-    /// How many expressions may still be inside of one another.
+    /// How many expressions are at most inside of one another in those inside.
     turns: usize,
     inside: F,
 }
@@ -181,7 +183,9 @@ impl<F: for<'t> Fn(Global, &mut Scope<'t>, &Expr<'t>, usize) -> Result<Term, Unr
     F,
 > {
     fn one<'t>(&self, scope: &mut Scope<'t>, expr: &Expr<'t>) -> Result<Term, Unresolved>
-        requires { ResolvesInside self.now.turns (F.pre self.now.inside) (F.post self.now.inside) }
+        requires inside { ResolvesInside self.now.turns (F.pre self.now.inside)
+            (F.post self.now.inside) }
+        requires fits { tree_depth (tree_of expr.now) ≤ self.now.turns }
         ensures { GivesTerm (tree_of expr.now) scope.old result scope.new }
     {
         (self.inside)(self.alloc, scope, expr, self.turns)
@@ -190,7 +194,9 @@ impl<F: for<'t> Fn(Global, &mut Scope<'t>, &Expr<'t>, usize) -> Result<Term, Unr
     /// The same behind a `Box`, so that those who resolve one inside of another take little of the stack.
     #[inline(never)]
     fn boxed<'t>(&self, scope: &mut Scope<'t>, expr: &Expr<'t>) -> Result<Box<Term>, Unresolved>
-        requires { ResolvesInside self.now.turns (F.pre self.now.inside) (F.post self.now.inside) }
+        requires inside { ResolvesInside self.now.turns (F.pre self.now.inside)
+            (F.post self.now.inside) }
+        requires fits { tree_depth (tree_of expr.now) ≤ self.now.turns }
         ensures { GivesBoxed (tree_of expr.now) scope.old result scope.new }
     {
         let term = self.one(scope, expr)?;
@@ -199,7 +205,9 @@ impl<F: for<'t> Fn(Global, &mut Scope<'t>, &Expr<'t>, usize) -> Result<Term, Unr
 
     #[inline(never)]
     fn all<'t>(&self, scope: &mut Scope<'t>, exprs: &[Expr<'t>]) -> Result<Vec<Term>, Unresolved>
-        requires { ResolvesInside self.now.turns (F.pre self.now.inside) (F.post self.now.inside) }
+        requires inside { ResolvesInside self.now.turns (F.pre self.now.inside)
+            (F.post self.now.inside) }
+        requires fit { trees_depth (trees exprs.now) ≤ self.now.turns }
         ensures { Gives (λ v. view.terms v.items) (λ s. trees_scoped s (trees exprs.now))
             (λ s. resolved.terms s (trees exprs.now)) scope.old result scope.new }
     {
@@ -217,7 +225,9 @@ impl<F: for<'t> Fn(Global, &mut Scope<'t>, &Expr<'t>, usize) -> Result<Term, Unr
         scope: &mut Scope<'t>,
         written: &[Entry<'t>],
     ) -> Result<Vec<Pair>, Unresolved>
-        requires { ResolvesInside self.now.turns (F.pre self.now.inside) (F.post self.now.inside) }
+        requires inside { ResolvesInside self.now.turns (F.pre self.now.inside)
+            (F.post self.now.inside) }
+        requires fit { entries_depth (entries written.now) ≤ self.now.turns }
         ensures { Gives (λ v. view.pairs v.items) (λ s. entries_scoped s (entries written.now))
             (λ s. resolved.pairs s (entries written.now)) scope.old result scope.new }
     {
@@ -238,7 +248,9 @@ impl<F: for<'t> Fn(Global, &mut Scope<'t>, &Expr<'t>, usize) -> Result<Term, Unr
         scope: &mut Scope<'t>,
         named: &[Keyword<'t>],
     ) -> Result<Vec<Argument>, Unresolved>
-        requires { ResolvesInside self.now.turns (F.pre self.now.inside) (F.post self.now.inside) }
+        requires inside { ResolvesInside self.now.turns (F.pre self.now.inside)
+            (F.post self.now.inside) }
+        requires fit { keywords_depth (keywords named.now) ≤ self.now.turns }
         ensures { Gives (λ v. view.keywords v.items) (λ s. keywords_scoped s (keywords named.now))
             (λ s. resolved.keywords s (keywords named.now)) scope.old result scope.new }
     {
@@ -255,7 +267,9 @@ impl<F: for<'t> Fn(Global, &mut Scope<'t>, &Expr<'t>, usize) -> Result<Term, Unr
 
     #[inline(never)]
     fn tuple<'t>(&self, scope: &mut Scope<'t>, items: &[Expr<'t>]) -> Result<Term, Unresolved>
-        requires { ResolvesInside self.now.turns (F.pre self.now.inside) (F.post self.now.inside) }
+        requires inside { ResolvesInside self.now.turns (F.pre self.now.inside)
+            (F.post self.now.inside) }
+        requires fits { tree_depth (tuple_tree (trees items.now)) ≤ self.now.turns + 1 }
         ensures { GivesTerm (tuple_tree (trees items.now)) scope.old result scope.new }
     {
         Ok(tuple(self.all(scope, items)?))
@@ -263,7 +277,9 @@ impl<F: for<'t> Fn(Global, &mut Scope<'t>, &Expr<'t>, usize) -> Result<Term, Unr
 
     #[inline(never)]
     fn list_of<'t>(&self, scope: &mut Scope<'t>, items: &[Expr<'t>]) -> Result<Term, Unresolved>
-        requires { ResolvesInside self.now.turns (F.pre self.now.inside) (F.post self.now.inside) }
+        requires inside { ResolvesInside self.now.turns (F.pre self.now.inside)
+            (F.post self.now.inside) }
+        requires fits { tree_depth (listing (trees items.now)) ≤ self.now.turns + 1 }
         ensures { GivesTerm (listing (trees items.now)) scope.old result scope.new }
     {
         Ok(list_of(self.all(scope, items)?))
@@ -271,7 +287,9 @@ impl<F: for<'t> Fn(Global, &mut Scope<'t>, &Expr<'t>, usize) -> Result<Term, Unr
 
     #[inline(never)]
     fn dict_of<'t>(&self, scope: &mut Scope<'t>, written: &[Entry<'t>]) -> Result<Term, Unresolved>
-        requires { ResolvesInside self.now.turns (F.pre self.now.inside) (F.post self.now.inside) }
+        requires inside { ResolvesInside self.now.turns (F.pre self.now.inside)
+            (F.post self.now.inside) }
+        requires fits { tree_depth (dict_tree (entries written.now)) ≤ self.now.turns + 1 }
         ensures { GivesTerm (dict_tree (entries written.now)) scope.old result scope.new }
     {
         Ok(dict_of(self.pairs(scope, written)?))
@@ -285,7 +303,10 @@ impl<F: for<'t> Fn(Global, &mut Scope<'t>, &Expr<'t>, usize) -> Result<Term, Unr
         left: &Expr<'t>,
         right: &Expr<'t>,
     ) -> Result<Term, Unresolved>
-        requires { ResolvesInside self.now.turns (F.pre self.now.inside) (F.post self.now.inside) }
+        requires inside { ResolvesInside self.now.turns (F.pre self.now.inside)
+            (F.post self.now.inside) }
+        requires fits { tree_depth (operates (operator_seen operator) (tree_of left.now)
+            (tree_of right.now)) ≤ self.now.turns + 1 }
         ensures { GivesTerm (operates (operator_seen operator) (tree_of left.now)
             (tree_of right.now)) scope.old result scope.new }
     {
@@ -302,7 +323,10 @@ impl<F: for<'t> Fn(Global, &mut Scope<'t>, &Expr<'t>, usize) -> Result<Term, Unr
         test: &Expr<'t>,
         other: &Expr<'t>,
     ) -> Result<Term, Unresolved>
-        requires { ResolvesInside self.now.turns (F.pre self.now.inside) (F.post self.now.inside) }
+        requires inside { ResolvesInside self.now.turns (F.pre self.now.inside)
+            (F.post self.now.inside) }
+        requires fits { tree_depth (choice_tree (tree_of then.now) (tree_of test.now)
+            (tree_of other.now)) ≤ self.now.turns + 1 }
         ensures { GivesTerm (choice_tree (tree_of then.now) (tree_of test.now) (tree_of other.now))
             scope.old result scope.new }
     {
@@ -319,7 +343,9 @@ impl<F: for<'t> Fn(Global, &mut Scope<'t>, &Expr<'t>, usize) -> Result<Term, Unr
         sign: Sign,
         operand: &Expr<'t>,
     ) -> Result<Term, Unresolved>
-        requires { ResolvesInside self.now.turns (F.pre self.now.inside) (F.post self.now.inside) }
+        requires inside { ResolvesInside self.now.turns (F.pre self.now.inside)
+            (F.post self.now.inside) }
+        requires fits { tree_depth (turned (sign_seen sign) (tree_of operand.now)) ≤ self.now.turns + 1 }
         ensures { GivesTerm (turned (sign_seen sign) (tree_of operand.now)) scope.old result
             scope.new }
     {
@@ -334,7 +360,9 @@ impl<F: for<'t> Fn(Global, &mut Scope<'t>, &Expr<'t>, usize) -> Result<Term, Unr
         base: &Expr<'t>,
         field: &Name<'t>,
     ) -> Result<Term, Unresolved>
-        requires { ResolvesInside self.now.turns (F.pre self.now.inside) (F.post self.now.inside) }
+        requires inside { ResolvesInside self.now.turns (F.pre self.now.inside)
+            (F.post self.now.inside) }
+        requires fits { tree_depth (selects (tree_of base.now) field.now) ≤ self.now.turns + 1 }
         ensures { GivesTerm (selects (tree_of base.now) field.now) scope.old result scope.new }
     {
         let base = self.boxed(scope, base)?;
@@ -348,7 +376,9 @@ impl<F: for<'t> Fn(Global, &mut Scope<'t>, &Expr<'t>, usize) -> Result<Term, Unr
         base: &Expr<'t>,
         at: &Expr<'t>,
     ) -> Result<Term, Unresolved>
-        requires { ResolvesInside self.now.turns (F.pre self.now.inside) (F.post self.now.inside) }
+        requires inside { ResolvesInside self.now.turns (F.pre self.now.inside)
+            (F.post self.now.inside) }
+        requires fits { tree_depth (subscript (tree_of base.now) (tree_of at.now)) ≤ self.now.turns + 1 }
         ensures { GivesTerm (subscript (tree_of base.now) (tree_of at.now)) scope.old result
             scope.new }
     {
@@ -365,7 +395,10 @@ impl<F: for<'t> Fn(Global, &mut Scope<'t>, &Expr<'t>, usize) -> Result<Term, Unr
         items: &[Expr<'t>],
         named: &[Keyword<'t>],
     ) -> Result<Term, Unresolved>
-        requires { ResolvesInside self.now.turns (F.pre self.now.inside) (F.post self.now.inside) }
+        requires inside { ResolvesInside self.now.turns (F.pre self.now.inside)
+            (F.post self.now.inside) }
+        requires fits { tree_depth (invokes (tree_of callee.now) (trees items.now) (keywords named.now))
+            ≤ self.now.turns + 1 }
         ensures { GivesTerm (invokes (tree_of callee.now) (trees items.now) (keywords named.now))
             scope.old result scope.new }
     {
@@ -384,7 +417,9 @@ impl<F: for<'t> Fn(Global, &mut Scope<'t>, &Expr<'t>, usize) -> Result<Term, Unr
         scope: &mut Scope<'t>,
         clauses: &[Clause<'t>],
     ) -> Result<Option<Box<Term>>, Unresolved>
-        requires { ResolvesInside self.now.turns (F.pre self.now.inside) (F.post self.now.inside) }
+        requires inside { ResolvesInside self.now.turns (F.pre self.now.inside)
+            (F.post self.now.inside) }
+        requires fit { rest_depth (rests clauses.now) ≤ self.now.turns }
         ensures { Gives (option_map boxed_term) (λ s. first_scoped s (rests clauses.now))
             (λ s. option_map (resolved.term s) (first_tree (rests clauses.now))) scope.old result
             scope.new }
@@ -403,7 +438,9 @@ impl<F: for<'t> Fn(Global, &mut Scope<'t>, &Expr<'t>, usize) -> Result<Term, Unr
         found: &mut Vec<Round>,
         clauses: &[Clause<'t>],
     ) -> Result<(), Unresolved>
-        requires { ResolvesInside self.now.turns (F.pre self.now.inside) (F.post self.now.inside) }
+        requires inside { ResolvesInside self.now.turns (F.pre self.now.inside)
+            (F.post self.now.inside) }
+        requires fit { rest_depth (rests clauses.now) ≤ self.now.turns }
         ensures { Gives (λ _. view.rounds found.new.items)
             (λ s. rest_scoped s s (rests clauses.now))
             (λ s. rounds_onto (map view.round found.old.items)
@@ -425,7 +462,9 @@ impl<F: for<'t> Fn(Global, &mut Scope<'t>, &Expr<'t>, usize) -> Result<Term, Unr
         first: Option<Box<Term>>,
         clauses: &[Clause<'t>],
     ) -> Result<Vec<Round>, Unresolved>
-        requires { ResolvesInside self.now.turns (F.pre self.now.inside) (F.post self.now.inside) }
+        requires inside { ResolvesInside self.now.turns (F.pre self.now.inside)
+            (F.post self.now.inside) }
+        requires fit { rest_depth (rests clauses.now) ≤ self.now.turns }
         ensures { (s : Around) → option_map boxed_term first
             ≡ option_map (resolved.term s) (first_tree (rests clauses.now))
             → Gives (λ v. view.rounds v.items) (λ t. others_scoped t (rests clauses.now))
@@ -450,7 +489,10 @@ impl<F: for<'t> Fn(Global, &mut Scope<'t>, &Expr<'t>, usize) -> Result<Term, Unr
         first: Option<Box<Term>>,
         clauses: &[Clause<'t>],
     ) -> Result<(Box<Term>, Vec<Round>), Unresolved>
-        requires { ResolvesInside self.now.turns (F.pre self.now.inside) (F.post self.now.inside) }
+        requires inside { ResolvesInside self.now.turns (F.pre self.now.inside)
+            (F.post self.now.inside) }
+        requires fits { tree_depth (tree_of element.now) ≤ self.now.turns }
+        requires fit { rest_depth (rests clauses.now) ≤ self.now.turns }
         ensures { (s : Around) → option_map boxed_term first
             ≡ option_map (resolved.term s) (first_tree (rests clauses.now))
             → Gives {B = resolved.Term × resolved.Rounds}
@@ -473,7 +515,11 @@ impl<F: for<'t> Fn(Global, &mut Scope<'t>, &Expr<'t>, usize) -> Result<Term, Unr
         first: Option<Box<Term>>,
         clauses: &[Clause<'t>],
     ) -> Result<(Box<Term>, Box<Term>, Vec<Round>), Unresolved>
-        requires { ResolvesInside self.now.turns (F.pre self.now.inside) (F.post self.now.inside) }
+        requires inside { ResolvesInside self.now.turns (F.pre self.now.inside)
+            (F.post self.now.inside) }
+        requires key { tree_depth (tree_of key.now) ≤ self.now.turns }
+        requires value { tree_depth (tree_of value.now) ≤ self.now.turns }
+        requires fit { rest_depth (rests clauses.now) ≤ self.now.turns }
         ensures { (s : Around) → option_map boxed_term first
             ≡ option_map (resolved.term s) (first_tree (rests clauses.now))
             → Gives {B = resolved.Term × resolved.Term × resolved.Rounds}
@@ -499,7 +545,9 @@ impl<F: for<'t> Fn(Global, &mut Scope<'t>, &Expr<'t>, usize) -> Result<Term, Unr
         scope: &mut Scope<'t>,
         clauses: &[Clause<'t>],
     ) -> Result<(OwnSlots, Option<Box<Term>>), Unresolved>
-        requires { ResolvesInside self.now.turns (F.pre self.now.inside) (F.post self.now.inside) }
+        requires inside { ResolvesInside self.now.turns (F.pre self.now.inside)
+            (F.post self.now.inside) }
+        requires fit { rest_depth (rests clauses.now) ≤ self.now.turns }
         ensures { Enters (rests clauses.now) scope.old result scope.new }
     {
         let names = clause_names(self.alloc, clauses)?;
@@ -518,7 +566,9 @@ impl<F: for<'t> Fn(Global, &mut Scope<'t>, &Expr<'t>, usize) -> Result<Term, Unr
         element: &Expr<'t>,
         clauses: &[Clause<'t>],
     ) -> Result<Term, Unresolved>
-        requires { ResolvesInside self.now.turns (F.pre self.now.inside) (F.post self.now.inside) }
+        requires inside { ResolvesInside self.now.turns (F.pre self.now.inside)
+            (F.post self.now.inside) }
+        requires fits { tree_depth (each (tree_of element.now) (rests clauses.now)) ≤ self.now.turns + 1 }
         ensures { GivesTerm (each (tree_of element.now) (rests clauses.now)) scope.old result
             scope.new }
     {
@@ -537,7 +587,10 @@ impl<F: for<'t> Fn(Global, &mut Scope<'t>, &Expr<'t>, usize) -> Result<Term, Unr
         value: &Expr<'t>,
         clauses: &[Clause<'t>],
     ) -> Result<Term, Unresolved>
-        requires { ResolvesInside self.now.turns (F.pre self.now.inside) (F.post self.now.inside) }
+        requires inside { ResolvesInside self.now.turns (F.pre self.now.inside)
+            (F.post self.now.inside) }
+        requires fits { tree_depth (each_entry (tree_of key.now) (tree_of value.now) (rests clauses.now))
+            ≤ self.now.turns + 1 }
         ensures { GivesTerm (each_entry (tree_of key.now) (tree_of value.now) (rests clauses.now))
             scope.old result scope.new }
     {
@@ -549,7 +602,9 @@ impl<F: for<'t> Fn(Global, &mut Scope<'t>, &Expr<'t>, usize) -> Result<Term, Unr
     }
 
     fn expr<'t>(&self, scope: &mut Scope<'t>, expr: &Expr<'t>) -> Result<Term, Unresolved>
-        requires { ResolvesInside self.now.turns (F.pre self.now.inside) (F.post self.now.inside) }
+        requires inside { ResolvesInside self.now.turns (F.pre self.now.inside)
+            (F.post self.now.inside) }
+        requires fits { tree_depth (tree_of expr.now) ≤ self.now.turns + 1 }
         ensures { GivesTerm (tree_of expr.now) scope.old result scope.new }
     {
         match expr {
@@ -577,23 +632,21 @@ impl<F: for<'t> Fn(Global, &mut Scope<'t>, &Expr<'t>, usize) -> Result<Term, Unr
     }
 }
 
-/// An expression whose names are resolved.
+/// An expression whose names are resolved. It calls itself once for each expression that is inside of another, `turns`
+/// times at most.
 ///
 /// # Errors
 ///
-/// [`Unresolved::Breaks`] where it breaks a rule of scopes. [`Unresolved::NoMemory`] where memory was refused, or the
-/// expression has more than `turns` others inside of one another.
+/// [`Unresolved::Breaks`] where it breaks a rule of scopes. [`Unresolved::NoMemory`] where memory was refused.
 pub(crate) fn resolve<'t>(
     alloc: Global,
     scope: &mut Scope<'t>,
     expr: &Expr<'t>,
     turns: usize,
 ) -> Result<Term, Unresolved>
+    requires { tree_depth (tree_of expr.now) ≤ turns }
     ensures { GivesTerm (tree_of expr.now) scope.old result scope.new }
 {
-    if turns == 0 {
-        return Err(Unresolved::NoMemory);
-    }
     Resolver {
         alloc,
         turns: turns - 1,

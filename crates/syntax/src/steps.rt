@@ -2,6 +2,7 @@
 //! statement. The lines of a block are gone through from the last to the first.
 
 ghost use Rattle.std.specs.Prelude.{◌≡◌, ◌≤◌, ◌<◌, ◌+◌, ◌^◌, [], IfOk, OnOk, max, reverse};
+ghost use Rattle.grammar.specs.BareDepth.{form_depth, lines_depth};
 ghost use Rattle.grammar.specs.BareLines.{Lines};
 ghost use Rattle.grammar.specs.LineView as seen;
 ghost use Rattle.grammar.specs.LineView.{form_of, line_of};
@@ -10,7 +11,7 @@ ghost use Rattle.program_tree.specs.Names.{Scope as Around, scope_of};
 ghost use Rattle.program_tree.specs.ProgramView as view;
 ghost use Rattle.program_tree.specs.Resolved as resolved;
 ghost use Rattle.program_tree.specs.Resolved.{Branches, begun, head, next_number, no_steps, steps_of, with_line, with_number};
-ghost use Rattle.syntax.specs.Resolves.{FollowsOn, IsLater, IsOwn, Places, PlacesSteps, back, before_lines, behind_seen, head_seen, own_fault};
+ghost use Rattle.syntax.specs.Resolves.{FollowsOn, IsLater, IsOwn, Places, PlacesSteps, back, before_lines, behind_seen, head_seen, line_depth, own_fault};
 ghost use Rattle.file_syntax.specs.Scopes.{line_scoped, lines_fault, top_fault, unless};
 
 use crate::heads::{Head, line_head};
@@ -196,6 +197,7 @@ pub(crate) struct Later {
 /// resolved, so that blocks inside of one another take little of the stack.
 #[inline(never)]
 fn head_of<'t>(alloc: Global, scope: &mut Scope<'t>, line: &Line<'t>) -> Result<Box<Head>, Stopped>
+    requires { form_depth (form_of (out-Line line.now).form) ≤ 200 }
     ensures { Places (λ s. unless (out-Line line.now).number
         (line_scoped s (form_of (out-Line line.now).form)))
         (λ h s. head_seen h.value ≡ head s (form_of (out-Line line.now).form)) scope.old result
@@ -250,6 +252,7 @@ fn line_and_block<'t>(
     scope: &mut Scope<'t>,
     line: &Line<'t>,
 ) -> Result<(Box<Head>, Inner), Stopped>
+    requires { line_depth line.now ≤ 200 }
     ensures { Places (λ s. own_fault s line.now)
         (λ m s. IsOwn s line.now m.0.value m.1) scope.old result scope.new }
 {
@@ -356,8 +359,7 @@ fn ended(later: Later) -> Result<Vec<Step>, Stopped>
 ///
 /// # Errors
 ///
-/// [`Stopped::At`] the first line that breaks a rule of scopes. [`Stopped::NoMemory`] where memory was refused, or an
-/// expression is deeper than those of any text that was read.
+/// [`Stopped::At`] the first line that breaks a rule of scopes. [`Stopped::NoMemory`] where memory was refused.
 #[cycle(blocks)]
 #[inline(never)]
 fn resolve_lines<'t>(
@@ -365,6 +367,7 @@ fn resolve_lines<'t>(
     scope: &mut Scope<'t>,
     lines: &[Line<'t>],
 ) -> Result<Vec<Step>, Stopped>
+    requires { lines_depth (seen.lines lines.now) ≤ 200 }
     ensures { PlacesSteps (λ s. lines_fault s (seen.lines lines.now))
         (λ s. steps_of s (seen.lines lines.now)) scope.old result scope.new }
 {
@@ -388,6 +391,7 @@ fn resolve_owned<'t>(
     scope: &mut Scope<'t>,
     lines: Vec<Line<'t>>,
 ) -> Result<Vec<Step>, Stopped>
+    requires { lines_depth (seen.lines lines.items) ≤ 200 }
     ensures { PlacesSteps (λ s. lines_fault s (seen.lines lines.entry.items))
         (λ s. steps_of s (seen.lines lines.entry.items)) scope.old result scope.new }
 {
@@ -407,13 +411,13 @@ fn resolve_owned<'t>(
 ///
 /// # Errors
 ///
-/// [`Stopped::At`] the first line that breaks a rule of scopes. [`Stopped::NoMemory`] where memory was refused, or an
-/// expression is deeper than those of any text that was read.
+/// [`Stopped::At`] the first line that breaks a rule of scopes. [`Stopped::NoMemory`] where memory was refused.
 pub(crate) fn resolve_file<'t>(
     alloc: Global,
     scope: &mut Scope<'t>,
     lines: Vec<Line<'t>>,
 ) -> Result<Vec<Step>, Stopped>
+    requires { lines_depth (seen.lines lines.items) ≤ 200 }
     ensures { PlacesSteps (λ s. top_fault s [] (seen.lines lines.entry.items))
         (λ s. steps_of s (seen.lines lines.entry.items)) scope.old result scope.new }
 {

@@ -1,8 +1,9 @@
-use Rattle.std.proofs.Common.{arith, ◌&&◌, ◌+◌, ◌∙◌, ap, drop, map, sym}
+use Rattle.std.proofs.Common.{arith, ◌≤◌, ◌&&◌, ◌+◌, ◌∙◌, ap, drop, map, subst, sym}
 use Rattle.program_tree.specs.ProgramView as view
 use Rattle.program_tree.specs.ProgramView.{rounds_onto}
 use Rattle.program_tree.specs.Resolved as resolved
 use Rattle.file_syntax.specs.Scopes.{rest_scoped, scoped}
+use Rattle.grammar.specs.BareDepth.{rest_depth}
 use Rattle.grammar.specs.TreeView.{clause_of, rests, tree_of}
 use Rattle.std.specs.Prelude.{Some, option_map}
 use Rattle.scopes.proofs.NameLemmas.{drop_at}
@@ -18,6 +19,8 @@ loop-clause-preserved g c =
     let e = tree_of c.operand.result.now in
     let same = c.loop-clause.invariant.2 in
     let behind = c.in_ok-value.ensures.2 ∙ same in
+    let deep = subst (λ d. rest_depth (rests d) ≤ c.args.self.now.turns) here c.loop-clause.invariant.3 in
+    let parts = c.operand.ensures.depth rest in
     let kept = sym (ap (λ v. scoped v e) same) ∙ c.in_ok-value.ensures.0 in
     let term = c.in_ok-value.ensures.1 ∙ ap (λ v. resolved.term v e) same in
     let made = c.in_ok-made.ensures s rest (ap (option_map (resolved.term s)) (c.operand.ensures.first rest) ∙ ap Some (sym term)) in
@@ -32,4 +35,5 @@ loop-clause-preserved g c =
           ∙ ap (λ d. rounds_onto found (resolved.rounds s s (rests d))) (sym here)
           ∙ c.loop-clause.invariant.1,
       behind,
+      omega (arith, deep, parts),
     )

@@ -1,8 +1,9 @@
-use Rattle.std.proofs.Common.{arith, ◌&&◌, ◌+◌, ◌∙◌, ap, drop, map, sym}
+use Rattle.std.proofs.Common.{arith, ◌≤◌, ◌&&◌, ◌+◌, ◌∙◌, ap, drop, map, subst, sym}
 use Rattle.program_tree.specs.ProgramView as view
 use Rattle.program_tree.specs.ProgramView.{terms_onto}
 use Rattle.program_tree.specs.Resolved as resolved
 use Rattle.file_syntax.specs.Scopes.{scoped, trees_scoped}
+use Rattle.grammar.specs.BareDepth.{trees_depth}
 use Rattle.grammar.specs.TreeView.{tree_of, trees}
 use Rattle.scopes.proofs.NameLemmas.{drop_at}
 use Rattle.syntax.proofs.ProgramLemmas.{onto_last}
@@ -17,6 +18,7 @@ loop-expr-preserved g c =
     let found = map view.term c.loop-expr.found.items in
     let same = c.loop-expr.invariant.2 in
     let told = c.in_ok-term.ensures in
+    let deep = subst (λ d. trees_depth (trees d) ≤ c.args.self.now.turns) here c.loop-expr.invariant.3 in
     let kept = sym (ap (λ v. scoped v e) same) ∙ told.0 in (
       ap (λ b. b && trees_scoped s rest) (sym kept)
           ∙ ap (λ d. trees_scoped s (trees d)) (sym here)
@@ -27,4 +29,5 @@ loop-expr-preserved g c =
           ∙ ap (λ d. terms_onto found (resolved.terms s (trees d))) (sym here)
           ∙ c.loop-expr.invariant.1,
       told.2 ∙ same,
+      omega (arith, deep),
     )

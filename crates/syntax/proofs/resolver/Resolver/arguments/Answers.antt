@@ -1,9 +1,10 @@
-use Rattle.std.proofs.Common.{arith, ◌&&◌, ◌+◌, ◌∙◌, ap, drop, map, sym}
+use Rattle.std.proofs.Common.{arith, ◌≤◌, ◌&&◌, ◌+◌, ◌∙◌, ap, drop, map, subst, sym}
 use Rattle.program_tree.specs.ProgramView as view
 use Rattle.program_tree.specs.ProgramView.{keywords_onto}
 use Rattle.program_tree.specs.Resolved as resolved
 use Rattle.file_syntax.specs.Scopes.{keywords_scoped, scoped}
 use Rattle.grammar.specs.Bare as bare
+use Rattle.grammar.specs.BareDepth.{keywords_depth}
 use Rattle.grammar.specs.TreeView.{keywords, tree_of}
 use Rattle.scopes.proofs.NameLemmas.{drop_at}
 use Rattle.syntax.proofs.ProgramLemmas.{onto_last}
@@ -20,7 +21,8 @@ loop-argument-preserved g c =
     let v = tree_of c.named_value-read.result.1.now in
     let same = c.loop-argument.invariant.2 in
     let kept = sym (ap (λ t. scoped t v) same) ∙ c.in_ok-value.ensures.0 in
-    let written = ap keywords here ∙ ap (λ p. bare.more_keywords p.0 p.1 rest) c.named_value-read.ensures in (
+    let written = ap keywords here ∙ ap (λ p. bare.more_keywords p.0 p.1 rest) c.named_value-read.ensures in
+    let deep = subst (λ ks. keywords_depth ks ≤ c.args.self.now.turns) written c.loop-argument.invariant.3 in (
       ap (λ b. b && keywords_scoped s rest) (sym kept)
           ∙ ap (keywords_scoped s) (sym written)
           ∙ c.loop-argument.invariant.0,
@@ -32,4 +34,5 @@ loop-argument-preserved g c =
           ∙ ap (λ ks. keywords_onto found (resolved.keywords s ks)) (sym written)
           ∙ c.loop-argument.invariant.1,
       c.in_ok-value.ensures.2 ∙ same,
+      omega (arith, deep),
     )

@@ -1,10 +1,11 @@
-use Rattle.std.proofs.Common.{arith, ◌&&◌, ◌+◌, ◌∙◌, ap, drop, map, sym}
+use Rattle.std.proofs.Common.{arith, ◌≤◌, ◌&&◌, ◌+◌, ◌∙◌, ap, drop, map, subst, sym}
 use Rattle.program_tree.specs.ProgramView as view
 use Rattle.program_tree.specs.ProgramView.{pairs_onto}
 use Rattle.program_tree.specs.Resolved as resolved
 use Rattle.program_tree.specs.Resolved.{more_pairs}
 use Rattle.file_syntax.specs.Scopes.{entries_scoped, scoped}
 use Rattle.grammar.specs.Bare.{more_entries}
+use Rattle.grammar.specs.BareDepth.{entries_depth}
 use Rattle.grammar.specs.TreeView.{entries, tree_of}
 use Rattle.scopes.proofs.NameLemmas.{drop_at}
 use Rattle.syntax.proofs.ProgramLemmas.{onto_last}
@@ -23,7 +24,8 @@ loop-pair-preserved g c =
     let behind_key = c.in_ok-key.ensures.2 ∙ same in
     let key = sym (ap (λ t. scoped t k) same) ∙ c.in_ok-key.ensures.0 in
     let value = sym (ap (λ t. scoped t v) behind_key) ∙ c.in_ok-value.ensures.0 in
-    let written = ap entries here ∙ ap (λ p. more_entries p.0 p.1 rest) c.parts_of-read.ensures in (
+    let written = ap entries here ∙ ap (λ p. more_entries p.0 p.1 rest) c.parts_of-read.ensures in
+    let deep = subst (λ es. entries_depth es ≤ c.args.self.now.turns) written c.loop-pair.invariant.3 in (
       ap (λ b. b && entries_scoped s rest) (sym value)
           ∙ ap (λ b. b && (scoped s v && entries_scoped s rest)) (sym key)
           ∙ ap (entries_scoped s) (sym written)
@@ -36,4 +38,5 @@ loop-pair-preserved g c =
           ∙ ap (λ es. pairs_onto found (resolved.pairs s es)) (sym written)
           ∙ c.loop-pair.invariant.1,
       c.in_ok-value.ensures.2 ∙ behind_key,
+      omega (arith, deep),
     )
