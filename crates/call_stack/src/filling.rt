@@ -147,6 +147,7 @@ pub(crate) fn pad(slots: &mut Slots<'_>, count: usize) -> Result<(), AllocError>
 
 /// So many values off the top of a stack, in which they are, into slots that have none yet: the topmost one is in the last
 /// of them.
+#[inline(always)]
 pub(crate) fn fill_from_top<'a>(
     slots: &mut Slots<'a>,
     count: usize,

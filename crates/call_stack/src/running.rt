@@ -203,7 +203,7 @@ pub(crate) fn call_asked<'a, W: Operate<'a>>(
 }
 
 /// A call of something with so many values by position, and those of these names behind them.
-#[inline(never)]
+#[inline(always)]
 fn call_taken<'a, W: Operate<'a>>(
     world: &W,
     linked: &'a Linked,

@@ -26,6 +26,7 @@ use values::{Broken, BuiltIn, Item, Kind, Leaf, Value};
 
 /// A call of what isn't written in Starlark: its values by position, of which the first is at the top, and those by name
 /// with their names. They are left where they were, in another order, so that their memory serves again.
+#[inline(always)]
 pub(crate) fn call<'a, L: Link<'a>, P: Place<'a>>(
     world: &World<'_, L, P>,
     whole: &mut Whole<P::Work>,
@@ -72,6 +73,7 @@ fn arguments<'a, 'v>(
 }
 
 /// A call with arguments.
+#[inline(always)]
 fn call_with<'a, L: Link<'a>, P: Place<'a>>(
     world: &World<'_, L, P>,
     whole: &mut Whole<P::Work>,
@@ -104,6 +106,7 @@ fn call_value<'a, L: Link<'a>, P: Place<'a>>(
 }
 
 /// A call of a built-in function, a provider or a rule.
+#[inline(always)]
 fn call_leaf<'a, L: Link<'a>, P: Place<'a>>(
     world: &World<'_, L, P>,
     whole: &mut Whole<P::Work>,
@@ -124,6 +127,7 @@ fn call_leaf<'a, L: Link<'a>, P: Place<'a>>(
 }
 
 /// A call of a built-in function, which may be one of the place.
+#[inline(always)]
 fn call_built_in<'a, L: Link<'a>, P: Place<'a>>(
     world: &World<'_, L, P>,
     whole: &mut Whole<P::Work>,

@@ -74,6 +74,7 @@ impl<'a> Slots<'a> {
     }
 
     /// One slot more.
+    #[inline(always)]
     pub fn push(&mut self, value: Option<Operand<'a>>) -> Result<(), AllocError>
         ensures { IfOk result (λ _. self.new ≡ self.old ++ value.entry ∷ []) }
     {

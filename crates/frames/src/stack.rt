@@ -92,6 +92,7 @@ impl<T> Stack<T> {
     }
 
     /// The items, the top first.
+    #[inline(always)]
     pub fn into_vec(self) -> Vec<T>
         ensures { result.items ≡ self }
     {
