@@ -632,8 +632,8 @@ impl<F: for<'t> Fn(Global, &mut Scope<'t>, &Expr<'t>, usize) -> Result<Term, Unr
     }
 }
 
-/// An expression whose names are resolved. It calls itself once for each expression that is inside of another, `turns`
-/// times at most.
+/// An expression whose names are resolved. As many of its calls are inside of one another as expressions are, `turns`
+/// at most.
 ///
 /// # Errors
 ///

@@ -1,6 +1,6 @@
 //! One view of values, in cells and frozen alike: what equality, freezing and `str` look at.
 //!
-//! Nothing is shared or copied to look: a view borrows the heap and the value.
+//! Nothing is shared or copied to look: a view borrows the cell or the tree.
 ghost use Rattle.std.specs.Prelude.{◌≡◌, ◌<◌, ◌≤◌, IfOk, length, slice_get, Some, MatchOption, map};
 ghost use Rattle.std.specs.Map.{lookup};
 ghost use Rattle.values.specs.Keyed.{AreDistinct};
