@@ -1,6 +1,6 @@
 //! The blocks of a file: its lines are put into the blocks of their heads, from the last line to the first.
 
-ghost use Rattle.std.specs.Prelude.{◌≡◌, ◌∷◌, List, [], map, IfOk};
+ghost use Rattle.std.specs.Prelude.{◌≡◌, ◌∷◌, [], map, IfOk};
 ghost use Rattle.grammar.specs.BareLines.{Lines};
 ghost use Rattle.grammar.specs.LineView.{line_of, lines, lines_of};
 ghost use Rattle.grammar.specs.Built.{around, attached, built, inner_of, innermost, left_by, put};

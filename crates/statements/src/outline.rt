@@ -1,7 +1,7 @@
 //! Where logical lines may stand: a pass over their outlines, from the first to the last.
 
-ghost use Rattle.std.specs.Prelude.{◌≡◌, ◌+◌, ◌∷◌, ◌<◌, ℕ, List, [], length, drop, slice_get, IfOk, Ok, Err, Option};
-ghost use Rattle.statements.specs.Outlines.{is_top, is_module, is_function, shape_stands, within, formed_stands, follows, takes_else, early_enough, still_early, opens, fits, behind, inside, top_level, down_to, block_column, opened, stepped, pass, first_of};
+ghost use Rattle.std.specs.Prelude.{◌≡◌, ◌+◌, ◌∷◌, ◌<◌, List, [], length, drop, IfOk, Ok, Err, Option};
+ghost use Rattle.statements.specs.Outlines.{is_top, is_function, shape_stands, within, formed_stands, follows, takes_else, early_enough, still_early, opens, fits, behind, inside, top_level, down_to, block_column, opened, stepped, pass, first_of};
 ghost use Rattle.lexer.specs.Stops.{FaultsAt};
 ghost use Rattle.statements.specs.declared.outline.Open.{Open};
 ghost use Rattle.lexer.specs.declared.fault.FaultKind.TheVariants as FaultKind;

@@ -345,7 +345,8 @@ impl<F: for<'t> Fn(Global, &mut Scope<'t>, &Expr<'t>, usize) -> Result<Term, Unr
     ) -> Result<Term, Unresolved>
         requires inside { ResolvesInside self.now.turns (F.pre self.now.inside)
             (F.post self.now.inside) }
-        requires fits { tree_depth (turned (sign_seen sign) (tree_of operand.now)) ≤ self.now.turns + 1 }
+        requires fits { tree_depth (turned (sign_seen sign) (tree_of operand.now))
+            ≤ self.now.turns + 1 }
         ensures { GivesTerm (turned (sign_seen sign) (tree_of operand.now)) scope.old result
             scope.new }
     {
@@ -378,7 +379,8 @@ impl<F: for<'t> Fn(Global, &mut Scope<'t>, &Expr<'t>, usize) -> Result<Term, Unr
     ) -> Result<Term, Unresolved>
         requires inside { ResolvesInside self.now.turns (F.pre self.now.inside)
             (F.post self.now.inside) }
-        requires fits { tree_depth (subscript (tree_of base.now) (tree_of at.now)) ≤ self.now.turns + 1 }
+        requires fits { tree_depth (subscript (tree_of base.now) (tree_of at.now))
+            ≤ self.now.turns + 1 }
         ensures { GivesTerm (subscript (tree_of base.now) (tree_of at.now)) scope.old result
             scope.new }
     {
@@ -397,8 +399,8 @@ impl<F: for<'t> Fn(Global, &mut Scope<'t>, &Expr<'t>, usize) -> Result<Term, Unr
     ) -> Result<Term, Unresolved>
         requires inside { ResolvesInside self.now.turns (F.pre self.now.inside)
             (F.post self.now.inside) }
-        requires fits { tree_depth (invokes (tree_of callee.now) (trees items.now) (keywords named.now))
-            ≤ self.now.turns + 1 }
+        requires fits { tree_depth (invokes (tree_of callee.now) (trees items.now)
+            (keywords named.now)) ≤ self.now.turns + 1 }
         ensures { GivesTerm (invokes (tree_of callee.now) (trees items.now) (keywords named.now))
             scope.old result scope.new }
     {
@@ -568,7 +570,8 @@ impl<F: for<'t> Fn(Global, &mut Scope<'t>, &Expr<'t>, usize) -> Result<Term, Unr
     ) -> Result<Term, Unresolved>
         requires inside { ResolvesInside self.now.turns (F.pre self.now.inside)
             (F.post self.now.inside) }
-        requires fits { tree_depth (each (tree_of element.now) (rests clauses.now)) ≤ self.now.turns + 1 }
+        requires fits { tree_depth (each (tree_of element.now) (rests clauses.now))
+            ≤ self.now.turns + 1 }
         ensures { GivesTerm (each (tree_of element.now) (rests clauses.now)) scope.old result
             scope.new }
     {
@@ -589,8 +592,8 @@ impl<F: for<'t> Fn(Global, &mut Scope<'t>, &Expr<'t>, usize) -> Result<Term, Unr
     ) -> Result<Term, Unresolved>
         requires inside { ResolvesInside self.now.turns (F.pre self.now.inside)
             (F.post self.now.inside) }
-        requires fits { tree_depth (each_entry (tree_of key.now) (tree_of value.now) (rests clauses.now))
-            ≤ self.now.turns + 1 }
+        requires fits { tree_depth (each_entry (tree_of key.now) (tree_of value.now)
+            (rests clauses.now)) ≤ self.now.turns + 1 }
         ensures { GivesTerm (each_entry (tree_of key.now) (tree_of value.now) (rests clauses.now))
             scope.old result scope.new }
     {
