@@ -1,6 +1,6 @@
 //! Codes that are linked.
 
-ghost use Rattle.std.specs.Prelude.{◌≡◌, [], ◌∷◌, ◌++◌, IfOk, IfSome, ◌<◌, ◌^◌, option_copied, option_map};
+ghost use Rattle.std.specs.Prelude.{◌≡◌, [], ◌∷◌, ◌++◌, IfOk, option_copied};
 ghost use Rattle.meaning.specs.Linked.{AreFileCodes};
 
 use code::{Code, FunctionCode, Lined};
@@ -16,10 +16,8 @@ pub struct Linked {
 
 impl Linked {
     ghost use Rattle.meaning.specs.Instructions.{code_at, code_line};
-    ghost use Rattle.meaning.specs.Performing.{place};
-    ghost use Rattle.code.specs.View.{lined_seen};
     ghost use Rattle.frames.specs.Answers.{id_seen};
-    ghost use Rattle.call_stack.specs.LinkedView.{codes_of};
+    ghost use Rattle.call_stack.specs.LinkedView.{IsCodeOf, codes_of};
 
     /// No files.
     pub fn new(alloc: Global) -> Linked
@@ -64,16 +62,14 @@ impl Linked {
         }
     }
 
-    /// The instruction at a place of a function, with its line.
-    #[inline(always)]
-    pub fn instruction(&self, function: FunctionId, at: usize) -> Option<&Lined>
-        ensures there { option_map lined_seen (option_copied result)
-            ≡ place (codes_of self.now) (id_seen function) at }
-        ensures short { IfSome result (λ _. at < 2 ^ 63) }
+    /// The instructions of a function, each with its line; none where there is no such function.
+    #[inline(never)]
+    pub fn instructions(&self, function: FunctionId) -> &[Lined]
+        ensures { IsCodeOf (codes_of self.now) (id_seen function) result.now }
     {
         match self.function(function) {
-            Some(code) => code.instructions().get(at),
-            None => None,
+            Some(code) => code.instructions(),
+            None => &[],
         }
     }
 }

@@ -11,7 +11,7 @@ ghost use Rattle.call_stack.specs.CallView.{arguments_seen};
 ghost use Rattle.call_stack.specs.LinkedView.{codes_of};
 ghost use Rattle.machine.specs.StartView.{Answers, Comes, Starts, meaning_of, start_of};
 
-use crate::stepping::step;
+use crate::stepping::{Current, step};
 use call_stack::{
     Active, Arguments, Called, Linked, Place, Running, call, call_function, frame_at_entry, unset,
 };
@@ -176,8 +176,9 @@ fn run<'a, W: Operate<'a>>(
         Ok(Begun::Over(value)) => return Ok(value),
         Err(stop) => return Err(stop),
     };
+    let mut current = Current::of(linked, running.top.function);
     loop {
-        match step(world, linked, &mut running, state) {
+        match step(world, linked, &mut current, &mut running, state) {
             Ok(Step::More) => {}
             Ok(Step::Over(value)) => return Ok(value),
             Ok(Step::Stuck) => unreachable!(),

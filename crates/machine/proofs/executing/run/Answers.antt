@@ -14,10 +14,12 @@ pub loop-value-init : goal.loop-value-init
 loop-value-init g c =
     let ops = g.W.Operate.operations c.args.world.now in
     let codes = codes_of c.args.linked.now in
-    let rest = g.W.Operate.rest in
-    came_first ops codes (start_of ops codes c.args.start c.args.state.now) (more (config_of rest c.in-Ok-Running.running c.begin.new.state))
-    (counted ops codes c.args.linked.now.compiled c.args.start c.args.state.now)
-    (c.in-Ok-Running.ensures ∙ ap (λ b. started rest b c.begin.new.state) c.in-Ok-Running.field-0-is)
+    let rest = g.W.Operate.rest in (
+      came_first ops codes (start_of ops codes c.args.start c.args.state.now) (more (config_of rest c.in-Ok-Running.running c.begin.new.state))
+          (counted ops codes c.args.linked.now.compiled c.args.start c.args.state.now)
+          (c.in-Ok-Running.ensures ∙ ap (λ b. started rest b c.begin.new.state) c.in-Ok-Running.field-0-is),
+      c.of-current.ensures.code,
+    )
 
 pub loop-value-smaller : goal.loop-value-smaller
 loop-value-smaller g c =
@@ -27,19 +29,21 @@ loop-value-smaller g c =
     let r = c.step.new.r in
     falls ops codes (start_of ops codes c.args.start c.args.state.now) (counted ops codes c.args.linked.now.compiled c.args.start c.args.state.now).0
     (config_of rest c.loop-value.running c.loop-value.state) (config_of rest r c.step.new.state)
-    (c.in-Ok-More.ensures ∙ ap (λ q. shown rest (map (frame_seen rest) r.below) (ids_seen r.active) q r.top.value c.step.new.state) c.in-Ok-More.field-0-is)
-    c.loop-value.invariant
+    (c.in-Ok-More.ensures.moves ∙ ap (λ q. shown rest (map (frame_seen rest) r.below) (ids_seen r.active) q r.top.value c.step.new.state) c.in-Ok-More.field-0-is)
+    c.loop-value.invariant.0
 
 pub loop-value-preserved : goal.loop-value-preserved
 loop-value-preserved g c =
     let ops = g.W.Operate.operations c.args.world.now in
     let codes = codes_of c.args.linked.now in
     let rest = g.W.Operate.rest in
-    let r = c.step.new.r in
-    came_on ops codes (start_of ops codes c.args.start c.args.state.now) (counted ops codes c.args.linked.now.compiled c.args.start c.args.state.now).0
-    (config_of rest c.loop-value.running c.loop-value.state) (more (config_of rest r c.step.new.state))
-    (c.in-Ok-More.ensures ∙ ap (λ q. shown rest (map (frame_seen rest) r.below) (ids_seen r.active) q r.top.value c.step.new.state) c.in-Ok-More.field-0-is)
-    c.loop-value.invariant
+    let r = c.step.new.r in (
+      came_on ops codes (start_of ops codes c.args.start c.args.state.now) (counted ops codes c.args.linked.now.compiled c.args.start c.args.state.now).0
+          (config_of rest c.loop-value.running c.loop-value.state) (more (config_of rest r c.step.new.state))
+          (c.in-Ok-More.ensures.moves ∙ ap (λ q. shown rest (map (frame_seen rest) r.below) (ids_seen r.active) q r.top.value c.step.new.state) c.in-Ok-More.field-0-is)
+          c.loop-value.invariant.0,
+      c.step.ensures.current,
+    )
 
 pub returns-in-Ok-Over-step : goal.returns-in-Ok-Over-step
 returns-in-Ok-Over-step g c =
@@ -51,8 +55,8 @@ returns-in-Ok-Over-step g c =
     let most = (counted ops codes c.args.linked.now.compiled c.args.start c.args.state.now).0 in
     came_over ops codes x most (Ok (c.in-Ok-Over-step.value, c.step.new.state))
     (came_on ops codes x most (config_of rest c.loop-value.running c.loop-value.state) (over (Ok (c.in-Ok-Over-step.value, c.step.new.state)))
-    (c.in-Ok-Over-step.ensures ∙ ap (λ q. shown rest (map (frame_seen rest) r.below) (ids_seen r.active) q r.top.value c.step.new.state) c.in-Ok-Over-step.field-0-is)
-    c.loop-value.invariant)
+    (c.in-Ok-Over-step.ensures.moves ∙ ap (λ q. shown rest (map (frame_seen rest) r.below) (ids_seen r.active) q r.top.value c.step.new.state) c.in-Ok-Over-step.field-0-is)
+    c.loop-value.invariant.0)
 
 pub unreachable-requires : goal.unreachable-requires
 unreachable-requires g c =
@@ -64,12 +68,12 @@ unreachable-requires g c =
     let most = (counted ops codes c.args.linked.now.compiled c.args.start c.args.state.now).0 in
     never_stuck ops codes x most
     (came_on ops codes x most (config_of rest c.loop-value.running c.loop-value.state) stuck
-    (c.in-Ok-Stuck.ensures ∙ ap (λ q. shown rest (map (frame_seen rest) r.below) (ids_seen r.active) q r.top.value c.step.new.state) c.in-Ok-Stuck.field-0-is)
-    c.loop-value.invariant)
+    (c.in-Ok-Stuck.ensures.moves ∙ ap (λ q. shown rest (map (frame_seen rest) r.below) (ids_seen r.active) q r.top.value c.step.new.state) c.in-Ok-Stuck.field-0-is)
+    c.loop-value.invariant.0)
 
 pub returns-in-Err-step : goal.returns-in-Err-step
 returns-in-Err-step g c =
     let ops = g.W.Operate.operations c.args.world.now in
     let codes = codes_of c.args.linked.now in
     came_break ops codes (start_of ops codes c.args.start c.args.state.now) (counted ops codes c.args.linked.now.compiled c.args.start c.args.state.now).0
-    (config_of g.W.Operate.rest c.loop-value.running c.loop-value.state) c.in-Err-step.stop c.in-Err-step.ensures c.loop-value.invariant
+    (config_of g.W.Operate.rest c.loop-value.running c.loop-value.state) c.in-Err-step.stop c.in-Err-step.ensures.moves c.loop-value.invariant.0
