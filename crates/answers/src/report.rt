@@ -16,7 +16,7 @@ ghost use Rattle.plain_workspaces.specs.Workspaces.{evaluated};
 ghost use Rattle.answers.specs.Reports.{IsTooMany, Reports};
 
 use crate::found::found;
-use crate::letting_go::let_go;
+use crate::letting_go::Leftovers;
 use crate::refused::{NoReport, without_graph};
 use crate::team::{Deques, Shelving, Team};
 use edges::NodeId;
@@ -115,18 +115,21 @@ fn told_alone<R: Threads + Sync>(
     rt: &R,
     alloc: Global,
     targets: Targets,
-    graph: &Graph,
-    found: &Gathered<Outcome>,
+    graph: Graph,
+    found: Gathered<Outcome>,
+    leftovers: Leftovers,
 ) -> Result<Report, AllocError>
-    requires nodes { found.now.nodes ≡ length graph.now.labels }
+    requires nodes { found.nodes ≡ length graph.labels }
     ensures { let w = evaluated targets.files targets.limit in
         (workspace : List Pair) (asked : List LabelParts) → IsWorkspace workspace
-        → AreFilesOf workspace targets.files → IsGraphOf (dependencies w) asked graph.now
-        → AreOutcomesOf w graph.now.labels found.now
+        → AreFilesOf workspace targets.files → IsGraphOf (dependencies w) asked graph
+        → AreOutcomesOf w graph.labels found
         → IfOk result (Reports workspace asked targets.limit) }
 {
     let failing = targets.into_faults();
-    told(rt, alloc, &failing, graph, found, 1)
+    let report = told(rt, alloc, &failing, &graph, &found, 1);
+    leftovers.of_two(found, graph);
+    report
 }
 
 /// The report of what was found of the nodes of a graph, by so many threads. What it was made of is let go after it, each part by
@@ -138,6 +141,7 @@ fn told_together<R: Threads + Sync>(
     graph: Graph,
     found: Gathered<Outcome>,
     threads: usize,
+    leftovers: Leftovers,
 ) -> Result<Report, AllocError>
     requires nodes { found.nodes ≡ length graph.labels }
     ensures { let w = evaluated targets.files targets.limit in
@@ -147,11 +151,11 @@ fn told_together<R: Threads + Sync>(
         → IfOk result (Reports workspace asked targets.limit) }
 {
     let report = told(rt, alloc, targets.faults(), &graph, &found, threads);
-    let_go(rt, found, graph, targets);
+    leftovers.of_three(rt, found, graph, targets);
     report
 }
 
-/// The report of what was found of the nodes of a graph, by one thread or by several. What it was made of is let go.
+/// The report of what was found of the nodes of a graph, by one thread or by several.
 fn told_of<R: Threads + Sync>(
     rt: &R,
     alloc: Global,
@@ -159,6 +163,7 @@ fn told_of<R: Threads + Sync>(
     graph: Graph,
     found: Gathered<Outcome>,
     threads: usize,
+    leftovers: Leftovers,
 ) -> Result<Report, AllocError>
     requires nodes { found.nodes ≡ length graph.labels }
     ensures { let w = evaluated targets.files targets.limit in
@@ -168,13 +173,13 @@ fn told_of<R: Threads + Sync>(
         → IfOk result (Reports workspace asked targets.limit) }
 {
     if threads > 1 {
-        told_together(rt, alloc, targets, graph, found, threads)
+        told_together(rt, alloc, targets, graph, found, threads, leftovers)
     } else {
-        told_alone(rt, alloc, targets, &graph, &found)
+        told_alone(rt, alloc, targets, graph, found, leftovers)
     }
 }
 
-/// The report on the labels of a graph, by a team of workers at any shelf. What it was made of is let go.
+/// The report on the labels of a graph, by a team of workers at any shelf.
 fn report_on_graph<R, S, F, G>(
     rt: &R,
     alloc: Global,
@@ -195,13 +200,21 @@ where
     ensures few { result ≡ Err NoReport.TooMany → ⊥ }
 {
     let found = found::<R, S, F, G>(rt, alloc, &targets, &graph, team)?;
-    let report = told_of(rt, alloc, targets, graph, found, team.workers);
+    let report = told_of(
+        rt,
+        alloc,
+        targets,
+        graph,
+        found,
+        team.workers,
+        team.leftovers,
+    );
     Ok(report?)
 }
 
 /// The report on labels of a workspace and on all that they depend on, where each evaluation may use so many ticks.
 ///
-/// It is [`report_on_shelf`] where each worker has a deque.
+/// It is [`report_on_shelf`] where each worker has a deque, and where the memory of what the report was made of is given back.
 ///
 /// # Errors
 ///
@@ -225,6 +238,7 @@ pub fn report_on<R: Threads + Wait + Sync, G: Gate>(
         workers,
         shelving: &Deques,
         gate,
+        leftovers: Leftovers::Free,
     };
     report_on_shelf::<R, StealShelf, Deques, G>(rt, alloc, workspace, labels, limit, &team)
 }

@@ -2,6 +2,7 @@
 ghost use Rattle.std.specs.Prelude.{◌≡◌, ◌<◌, IfOk, vec_len};
 ghost use Rattle.pool.specs.Ends.{AreEnds};
 
+use crate::letting_go::Leftovers;
 use pool::{LockShelf, NoMemory, Shelf, StealShelf};
 use std::alloc::Global;
 use std::sync::Wait;
@@ -60,4 +61,6 @@ pub struct Team<'a, F, G> {
     pub shelving: &'a F,
     /// What is called round each label, by the worker that analyses it.
     pub gate: &'a G,
+    /// What becomes of the memory of what the report was made of.
+    pub leftovers: Leftovers,
 }

@@ -3,7 +3,7 @@
 
 use devices::Counted;
 use pool::NoGate;
-use serve::{ServeStop, closing, serve};
+use serve::{Leftovers, ServeStop, closing, serve};
 use std::process::ExitCode;
 use std::{env, io};
 
@@ -38,6 +38,7 @@ fn main(rt: HostRuntime) -> ExitCode {
             &mut writer,
             words.as_slice(),
             &NoGate,
+            Leftovers::Leave,
         ),
         Err(stop) => Err(stop),
     };

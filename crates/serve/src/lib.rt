@@ -10,5 +10,6 @@ mod serving;
 mod stops;
 
 pub use analysing::analyse;
+pub use answers::Leftovers;
 pub use serving::serve;
 pub use stops::{AnalyseStop, ServeStop, closing};

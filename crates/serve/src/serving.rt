@@ -8,9 +8,9 @@ ghost use Rattle.serve.specs.Requests.{AsksFor, AsksTooMany, BeginsAnswer, OfWho
 ghost use Rattle.serve.specs.RequestReports.{IsOfReport, ReportsInput, TooManyInput};
 
 use crate::stops::ServeStop;
-use answers::{NoReport, report_on};
+use answers::{Deques, Leftovers, NoReport, Team, report_on_shelf};
 use devices::{InputStop, Sink, Source, WriteFailed, read_input, write_parts};
-use pool::Gate;
+use pool::{Gate, StealShelf};
 use reporting::Report;
 use request::{INPUT_LIMIT, InputRefused, Request, WordsStop, read_words, read_workspace};
 use std::alloc::Global;
@@ -25,6 +25,7 @@ fn report_of<R: Threads + Wait + Sync, G: Gate>(
     request: &Request,
     input: Vec<u8>,
     gate: &G,
+    leftovers: Leftovers,
 ) -> Result<Report, ServeStop>
     requires workers { (1 ≤ request.now.workers) × (request.now.workers ≤ 64) }
     ensures ok { IfOk result (ReportsInput (asked_by request.now) input.items) }
@@ -38,14 +39,20 @@ fn report_of<R: Threads + Wait + Sync, G: Gate>(
         Err(InputRefused::Illegal) => return Err(ServeStop::Input),
         Err(InputRefused::NoMemory) => return Err(ServeStop::NoMemory),
     };
-    match report_on(
+    let team = Team {
+        workers: request.workers as usize,
+        shelving: &Deques,
+        gate,
+        leftovers,
+    };
+    let labels = request.labels.as_slice();
+    match report_on_shelf::<R, StealShelf, Deques, G>(
         rt,
         alloc,
         &workspace,
-        request.labels.as_slice(),
-        request.workers as usize,
+        labels,
         request.steps,
-        gate,
+        &team,
     ) {
         Ok(report) => Ok(report),
         Err(NoReport::TooMany) => Err(ServeStop::TooMany),
@@ -58,7 +65,8 @@ fn report_of<R: Threads + Wait + Sync, G: Gate>(
 ///
 /// `words` are those of the command line, the program's name first. `Ok(true)` says that the report has a load fault, a
 /// failed target or a conflict. `rt` is the permission to start threads and to wait; what is asked for is analysed as
-/// [`analyse`](crate::analyse) says.
+/// [`analyse`](crate::analyse) says. `leftovers` says whether the memory of what the report is made of is given back
+/// before it is written.
 ///
 /// # Errors
 ///
@@ -72,6 +80,7 @@ pub fn serve<R, S, K, W, G>(
     writer: &mut K,
     words: &[W],
     gate: &G,
+    leftovers: Leftovers,
 ) -> Result<bool, ServeStop>
 where
     R: Threads + Wait + Sync,
@@ -128,7 +137,7 @@ where
         Err(InputStop::TooLong) => return Err(ServeStop::Input),
         Err(InputStop::NoMemory) => return Err(ServeStop::NoMemory),
     };
-    let report = match report_of(rt, alloc, &request, input, gate) {
+    let report = match report_of(rt, alloc, &request, input, gate, leftovers) {
         Ok(report) => report,
         Err(stop) => return Err(stop),
     };

@@ -3,7 +3,7 @@
 use crate::cases::Case;
 use fakes::tapes::{Failing, Page, Tape};
 use pool::NoGate;
-use serve::{closing, serve};
+use serve::{Leftovers, closing, serve};
 use std::alloc::{AllocError, Global};
 use std::sync::Wait;
 use std::thread::Threads;
@@ -32,7 +32,15 @@ fn differing<R: Threads + Wait + Sync>(
 ) -> Option<&'static str> {
     let mut tape = Tape::new(case.input.as_slice(), PIECE, None);
     let mut page = Page::new(alloc, PIECE, None, Failing::Interrupted);
-    let served = serve(rt, alloc, &mut tape, &mut page, words, &NoGate);
+    let served = serve(
+        rt,
+        alloc,
+        &mut tape,
+        &mut page,
+        words,
+        &NoGate,
+        Leftovers::Free,
+    );
     let (status, line) = closing(&served);
     if page.bytes.as_slice() != case.report.as_bytes() {
         Some("report")

@@ -6,7 +6,7 @@ use made_workspaces::random_workspace;
 use pool::{LockShelf, NoGate};
 use reporting::Report;
 use request::read_workspace;
-use serve::{ServeStop, serve};
+use serve::{Leftovers, ServeStop, serve};
 use std::alloc::{AllocError, Global};
 use std::sync::Wait;
 use std::thread::Threads;
@@ -42,7 +42,15 @@ pub fn request<R: Threads + Wait + Sync>(
     let words = ["bzlan", STEPS_WORD, workers, ALL];
     let mut tape = Tape::new(input.as_bytes(), PIECE, None);
     let mut page = Page::new(alloc, PIECE, None, Failing::Interrupted);
-    let ending = serve(rt, alloc, &mut tape, &mut page, &words, &NoGate);
+    let ending = serve(
+        rt,
+        alloc,
+        &mut tape,
+        &mut page,
+        &words,
+        &NoGate,
+        Leftovers::Free,
+    );
     Served {
         ending,
         report: page.bytes,
@@ -67,6 +75,7 @@ fn at_one_queue<R: Threads + Wait + Sync>(
         workers: 8,
         shelving: &OneQueue { rt },
         gate: &NoGate,
+        leftovers: Leftovers::Free,
     };
     let labels = labels.as_slice();
     let report = report_on_shelf::<R, LockShelf<'_, R>, OneQueue<'_, R>, NoGate>(

@@ -1,7 +1,7 @@
 //! The files of the tests, and requests over memory.
 use fakes::tapes::{Failing, Page, Tape};
 use pool::NoGate;
-use serve::{closing, serve};
+use serve::{Leftovers, closing, serve};
 use std::alloc::{AllocError, Global};
 use std::sync::Wait;
 use std::thread::Threads;
@@ -80,7 +80,15 @@ pub(crate) fn is_served<R: Threads + Wait + Sync + AllocGlobal>(
     let words = split(alloc, words)?;
     let mut tape = Tape::new(input.as_bytes(), 4096, None);
     let mut page = Page::new(alloc, 4096, None, Failing::Interrupted);
-    let served = serve(rt, alloc, &mut tape, &mut page, words.as_slice(), &NoGate);
+    let served = serve(
+        rt,
+        alloc,
+        &mut tape,
+        &mut page,
+        words.as_slice(),
+        &NoGate,
+        Leftovers::Free,
+    );
     let (status, line) = closing(&served);
     let is_read = if line == "bzlan: words refused" {
         tape.calls == 0

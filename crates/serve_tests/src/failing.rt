@@ -2,7 +2,7 @@
 use crate::asked::{ITS_REPORT, ONE, input};
 use fakes::tapes::{Failing, Page, Tape};
 use pool::NoGate;
-use serve::{ServeStop, serve};
+use serve::{Leftovers, ServeStop, serve};
 use std::sync::Wait;
 use std::test::Fail;
 use std::thread::Threads;
@@ -18,7 +18,15 @@ fn ending<R: Threads + Wait + Sync + AllocGlobal>(
     page: &mut Page,
 ) -> (Result<bool, ServeStop>, u64) {
     let mut tape = Tape::new(input.as_bytes(), piece, read);
-    let served = serve(rt, rt.alloc(), &mut tape, page, &WORDS, &NoGate);
+    let served = serve(
+        rt,
+        rt.alloc(),
+        &mut tape,
+        page,
+        &WORDS,
+        &NoGate,
+        Leftovers::Free,
+    );
     (served, tape.calls)
 }
 

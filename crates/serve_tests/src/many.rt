@@ -2,7 +2,7 @@
 use crate::asked::{input, split};
 use fakes::tapes::{Failing, Page, Tape};
 use pool::NoGate;
-use serve::{ServeStop, serve};
+use serve::{Leftovers, ServeStop, serve};
 use std::alloc::AllocError;
 use std::sync::Wait;
 use std::test::Fail;
@@ -37,7 +37,15 @@ fn served<R: Threads + Wait + Sync + AllocGlobal>(
     let words = split(alloc, words.as_str())?;
     let input = input(alloc, FORTY)?;
     let mut tape = Tape::new(input.as_bytes(), 4096, None);
-    Ok(serve(rt, alloc, &mut tape, page, words.as_slice(), &NoGate))
+    Ok(serve(
+        rt,
+        alloc,
+        &mut tape,
+        page,
+        words.as_slice(),
+        &NoGate,
+        Leftovers::Leave,
+    ))
 }
 
 #[test]

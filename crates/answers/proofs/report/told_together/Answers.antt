@@ -4,8 +4,8 @@ use Rattle.pool.proofs.gathered.Gathered.TheSendSync as gathered
 use Rattle.reporting.proofs.Crossing.{outcome_send, outcome_sync}
 use Rattle.answers.proofs.report.told_together.Goals as goal
 
-pub let_go-requires-send-A : goal.let_go-requires-send-A
-let_go-requires-send-A g c κs within = search (gathered.the_send, outcome_send, outcome_sync, std.crosses, sendable) depth 60 fits 20000
+pub of_three-requires-send-A : goal.of_three-requires-send-A
+of_three-requires-send-A g c κs within = search (gathered.the_send, outcome_send, outcome_sync, std.crosses, sendable) depth 60 fits 20000
 
 pub returns : goal.returns
 returns g c = λ workspace asked legal are is found.
