@@ -7,18 +7,27 @@ use std::test::Fail;
 
 fn crosses_threads<T: Send + Sync>(_value: &T) {}
 
+/// Whether a text tells its bytes, and how many they are.
+fn is_of(alloc: Global, bytes: &str) -> Result<bool, AllocError> {
+    let text = Text::new(alloc, bytes)?;
+    crosses_threads(&text);
+    Ok(text.as_str() == bytes && text.len() == bytes.len() && text.is_empty() == bytes.is_empty())
+}
+
+/// Whether texts of the same bytes are equal, a second name and one that was built among them.
+fn are_equal(alloc: Global) -> Result<bool, AllocError> {
+    let text = Text::new(alloc, "a/x.txt")?;
+    let same = text.share()?;
+    let built = Text::from_string(format!(in alloc; "a/{}.txt", "x")?)?;
+    Ok(same == text && built == text)
+}
+
 #[test]
 fn texts_are_their_bytes(rt: HostRuntime) -> Result<(), Fail> {
     let alloc = rt.alloc();
-    let text = Text::new(alloc, "a/x.txt")?;
-    crosses_threads(&text);
-    assert!(rt; text.as_str() == "a/x.txt");
-    assert!(rt; text.len() == 7);
-    assert!(rt; !text.is_empty());
-    let same = text.share()?;
-    assert!(rt; same == text);
-    let built = Text::from_string(format!(in alloc; "a/{}.txt", "x")?)?;
-    assert!(rt; built == text);
+    assert!(rt; is_of(alloc, "a/x.txt")?);
+    assert!(rt; is_of(alloc, "")?);
+    assert!(rt; are_equal(alloc)?);
     Ok(())
 }
 
@@ -46,6 +55,13 @@ fn texts_of_any_length_are_kept(rt: HostRuntime) -> Result<(), Fail> {
     Ok(())
 }
 
+/// How texts of these bytes stand in order.
+fn order_of(alloc: Global, a: &str, b: &str) -> Result<Ordering, AllocError> {
+    let a = Text::new(alloc, a)?;
+    let b = Text::new(alloc, b)?;
+    Ok(a.cmp(&b))
+}
+
 #[test]
 fn texts_are_ordered_by_bytes(rt: HostRuntime) -> Result<(), Fail> {
     let alloc = rt.alloc();
@@ -55,32 +71,38 @@ fn texts_are_ordered_by_bytes(rt: HostRuntime) -> Result<(), Fail> {
         ("a/b", "a", Ordering::Greater),
         ("", "", Ordering::Equal),
     ] {
-        let order = Text::new(alloc, a)?.cmp(&Text::new(alloc, b)?);
-        assert!(rt; order == want, "{a} and {b}");
+        assert!(rt; order_of(alloc, a, b)? == want, "{a} and {b}");
     }
     Ok(())
 }
 
+/// Whether a set that has one text has the other.
+fn has_too(alloc: Global, one: &str, other: &str) -> Result<bool, AllocError> {
+    let mut seen = HashSet::new(alloc);
+    seen.insert(Text::new(alloc, one)?)?;
+    Ok(seen.contains(&Text::new(alloc, other)?))
+}
+
 #[test]
 fn equal_texts_are_one_in_a_set(rt: HostRuntime) -> Result<(), Fail> {
-    let alloc = rt.alloc();
-    let mut seen = HashSet::new(alloc);
-    seen.insert(Text::new(alloc, "x")?)?;
-    assert!(rt; seen.contains(&Text::new(alloc, "x")?));
-    assert!(rt; !seen.contains(&Text::new(alloc, "y")?));
+    assert!(rt; has_too(rt.alloc(), "x", "x")?);
+    assert!(rt; !has_too(rt.alloc(), "x", "y")?);
     Ok(())
+}
+
+/// What a stack of 1 and 2 gives back, one after the other, and what is at its top before and after.
+fn given_back(alloc: Global) -> Result<[Option<usize>; 4], AllocError> {
+    let mut stack = Stack::new(alloc);
+    stack.push(1_usize)?;
+    stack.push(2)?;
+    let top = stack.top();
+    let first = stack.pop();
+    let second = stack.pop();
+    Ok([top, first, second, stack.pop()])
 }
 
 #[test]
 fn stacks_give_back_from_the_top(rt: HostRuntime) -> Result<(), Fail> {
-    let mut stack = Stack::new(rt.alloc());
-    assert!(rt; stack.pop().is_none());
-    stack.push(1_usize)?;
-    stack.push(2)?;
-    assert!(rt; stack.len() == 2);
-    assert!(rt; stack.top() == Some(2));
-    assert!(rt; stack.pop() == Some(2));
-    assert!(rt; stack.pop() == Some(1));
-    assert!(rt; stack.top().is_none());
+    assert!(rt; given_back(rt.alloc())? == [Some(2), Some(2), Some(1), None]);
     Ok(())
 }
