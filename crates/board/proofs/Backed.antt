@@ -1,6 +1,7 @@
 -- What a pass knows stays tied to what it did and saw.
 use Rattle.std.proofs.Common.{◌≡◌, ℕ, zero, suc, ◌+◌, ◌<◌, ◌⊎◌, true, true≢false, List, [], ◌∷◌, length, map, set, get_or, sym, refl, ap, ◌∙◌, subst, arith, get_or-set_other, length-set}
 use Rattle.std.specs.Prelude.{Option, None, Some}
+use Rattle.std.proofs.lemmas.List.{length-map}
 use mathlib.Core.Logic.{dite, ⊎_elim}
 use Rattle.board.proofs.Counts.{no_pos}
 use native.Mathlib.Decide.{ℕ_discrete}
@@ -8,7 +9,7 @@ use Rattle.board.specs.declared.journal.Journal.{Journal}
 use Rattle.board.specs.Journal.{times, edge_times}
 use Rattle.board.specs.Rule.{blank, blanks}
 use Rattle.board.specs.Steps.{head_of, tail_of, first_journal, IsOne}
-use Rattle.board.specs.Views.{MemoryView, known_at, learned, is_known, IsBacked}
+use Rattle.board.specs.Views.{BoardView, PassView, MemoryView, known_at, learned, is_known, IsBacked, IsPassOf}
 
 module _ {V : Type 0} where
   still_given : (l : List (Option V)) (n k : ℕ) (v : V) → is_known (get_or l k None) ≡ true → is_known (get_or (set l n (Some v)) k None) ≡ true
@@ -75,3 +76,20 @@ module _ {V : Type 0} (h : Journal) (m : MemoryView V) (n : ℕ) (b : IsBacked h
 
   pub not_sent : known_at m n ≡ None → (u : ℕ) → edge_times n u h.delivered ≡ 0
   not_sent e u = no_pos (edge_times n u h.delivered) (λ p. not_given (known_at m n) e (b.gave n u p))
+
+pub mapped_at : {X : Type 0} (f : X → ℕ) (xs : List X) (n : ℕ) (x : X) → n < length xs → x ≡ get_or xs n x → get_or (map f xs) n 0 ≡ f x
+mapped_at f [] n x lt e = absurd (omega arith)
+mapped_at f (y ∷ ys) zero x lt e = ap f (sym e)
+mapped_at f (y ∷ ys) (suc n) x lt e = mapped_at f ys n x (omega arith) e
+
+-- a node of the board's plan, as a pass of the board sees it
+module _ {V X : Type 0} (f : X → ℕ) (items : List X) (plan : List (List ℕ)) (b : BoardView) (p : PassView V) (m : MemoryView V) (n : ℕ) (cells : map f items ≡ b.cells) (plans : plan ≡ b.plan) (size : length plan ≡ length items)
+    (own : m.cells ≡ p.memory.cells) (of : IsPassOf b p) (lt : n < length b.plan) where
+  within : n < length items
+  within = let a = ap length plans in omega arith
+
+  pub node_known : length m.cells ≡ length m.known → n < length m.known
+  node_known level = let a = ap length (own ∙ of.1 ∙ sym cells) in let b : length (map f items) ≡ length items = simp length-map in let c = within in omega arith
+
+  pub cell_there : (x : X) → x ≡ get_or items n x → get_or m.cells n 0 ≡ f x
+  cell_there x at = ap (λ (l : List ℕ). get_or l n 0) (own ∙ of.1 ∙ sym cells) ∙ mapped_at f items n x within at

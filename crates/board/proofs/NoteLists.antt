@@ -1,7 +1,7 @@
 -- Lists of notes.
-use Rattle.std.proofs.Common.{◌-◌, ◌/◌, ◌%◌, ◌≤◌, inl, false, true≢false, get_or-set_other, ◌≢◌, ◌≡◌, ℕ, zero, suc, ◌+◌, ◌*◌, ◌<◌, true, List, [], ◌∷◌, length, set, get_or, sym, refl, ap, ◌∙◌, subst, arith}
+use Rattle.std.proofs.Common.{◌-◌, ◌/◌, ◌%◌, ◌≤◌, inl, false, true≢false, get_or-set_other, ◌≢◌, ◌≡◌, ℕ, zero, suc, ◌+◌, ◌*◌, ◌<◌, true, List, [], ◌∷◌, ◌++◌, length, map, set, take, get_or, sym, refl, ap, ◌∙◌, subst, arith}
 use Rattle.std.specs.Prelude.{Option, None, Some}
-use Rattle.std.proofs.lemmas.List.{map-set, length-map, set-get_or}
+use Rattle.std.proofs.lemmas.List.{map-append, map-set, map_more, length-map, set-get_or}
 use Rattle.std.proofs.lemmas.Grind.{get_or-set_at}
 use mathlib.Core.Logic.{dite}
 use native.Mathlib.Decide.{ℕ_discrete}
@@ -45,6 +45,13 @@ module _ {V : Type 0} where
 
   abbrev pub mem : List (Note V) → MemoryView V
   mem ns = record { cells = cells_of ns; known = knowns_of ns }
+
+  pub as_many : (ns : List (Note V)) (m : MemoryView V) → mem ns ≡ m → length ns ≡ length m.known
+  as_many ns m e = let a : length (knowns_of ns) ≡ length ns = simp length-map in sym a ∙ ap (λ (z : MemoryView V). length z.known) e
+
+  -- a node has its note
+  pub note_in : (ns : List (Note V)) (m : MemoryView V) (len n : ℕ) → mem ns ≡ m → len ≡ length ns → n < length m.known → n < len
+  note_in ns m len n e size lt = let a = as_many ns m e in omega arith
 
   inside : (ns : List (Note V)) (m : MemoryView V) (n : ℕ) → mem ns ≡ m → n < length m.known → n < length ns
   inside ns m n e lt = let a : length m.known ≡ length (knowns_of ns) = ap (λ (z : MemoryView V). length z.known) (sym e) in let b : length (knowns_of ns) ≡ length ns = simp length-map in omega arith
@@ -140,7 +147,7 @@ module _ {V : Type 0} where
       (λ z. ap is_known (past_end m.known k (omega arith)))
       (λ nz. sym (t.same k (omega arith)) ∙ down)
 
-  union_none : (a b : Option V) → is_known b ≡ false → Union a b a
+  pub union_none : (a b : Option V) → is_known b ≡ false → Union a b a
   union_none None None e = (tt, tt, λ k. inl k)
   union_none (Some x) None e = (refl, tt, λ k. inl k)
   union_none a (Some y) e = absurd (true≢false e)
@@ -160,3 +167,24 @@ module _ {V : Type 0} where
   merged_one start other was now n here others below above k lt = dite (ℕ_discrete k n)
       (λ e. subst (λ (i : ℕ). Union (known_at start i) (known_at other i) (known_at now i)) (sym e) (subst (λ o. Union o (known_at other n) (known_at now n)) (above n (omega arith)) here))
       (λ ne. subst (Union (known_at start k) (known_at other k)) (sym (others k ne)) (below k (omega arith)))
+
+  -- all nodes are merged
+  pub merged_all : (start other now : MemoryView V) (nodes n : ℕ) → length other.known ≡ length start.known → nodes ≡ length start.known → nodes ≤ n → ((k : ℕ) → k < n → Union (known_at start k) (known_at other k) (known_at now k))
+      → ((k : ℕ) → n ≤ k → known_at now k ≡ known_at start k) → (k : ℕ) → Union (known_at start k) (known_at other k) (known_at now k)
+  merged_all start other now nodes n same size end below above k = dite (ℕ_discrete (n - k) 0)
+      (λ z. subst (Union (known_at start k) (known_at other k)) (sym (above k (omega arith))) (union_none (known_at start k) (known_at other k) (ap is_known (past_end other.known k (omega arith)))))
+      (λ nz. below k (omega arith))
+
+  pub cell_at : (ns : List (Note V)) (m : MemoryView V) (n : ℕ) (old : Note V) → mem ns ≡ m → n < length m.known → old ≡ get_or ns n old → old.cell ≡ get_or m.cells n 0
+  cell_at ns m n old e lt at = sym (cell_is ns n old (inside ns m n e lt) at) ∙ ap (λ (z : MemoryView V). get_or z.cells n 0) e
+
+  pub known_there : (ns : List (Note V)) (m : MemoryView V) (n : ℕ) (old : Note V) → mem ns ≡ m → n < length m.known → old ≡ get_or ns n old → old.known ≡ known_at m n
+  known_there ns m n old e lt at = sym (known_is ns n old (inside ns m n e lt) at) ∙ ap (λ (z : MemoryView V). known_at z n) e
+
+  -- a note that knows nothing, behind the others
+  pub note_more : {X : Type 0} (f : X → ℕ) (old new : List (Note V)) (note : Note V) (xs : List X) (i : ℕ) (x : X) → new ≡ old ++ note ∷ [] → i < length xs → x ≡ get_or xs i x → note.cell ≡ f x → note.known ≡ None
+      → cells_of old ≡ map f (take i xs) → knowns_of old ≡ map (λ _. None) (take i xs) → (cells_of new ≡ map f (take (i + 1) xs)) × (knowns_of new ≡ map (λ _. None) (take (i + 1) xs))
+  note_more f old new note xs i x is lt at cell known cells knowns = (
+    ap cells_of is ∙ map-append (λ n. n.cell) old (note ∷ []) ∙ (λ j. cells j ++ (cell ∙ ap f at) j ∷ []) ∙ sym (map_more f xs i x lt),
+    ap knowns_of is ∙ map-append (λ n. n.known) old (note ∷ []) ∙ (λ j. knowns j ++ known j ∷ []) ∙ sym (map_more (λ _. None) xs i x lt),
+  )

@@ -32,8 +32,8 @@ fn gather(alloc: Global, claims: &[Claim]) -> Result<Vec<Common>, AllocError>
     ensures { IfOk result (λ v. v.items ≡ gathered [] [] claims.now) }
 {
     let mut gatherer = Gatherer {
-        found: Vec::new(alloc),
         path: Text::new(alloc, "")?,
+        found: Vec::new(alloc),
         members: Members::new(alloc),
     };
     for claim in claims {

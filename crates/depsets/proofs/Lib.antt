@@ -1,4 +1,5 @@
 pub mod Keys
+mod Refused
 pub mod Skip
 pub mod Turns
 pub mod TypeLemmas

@@ -20,6 +20,7 @@ use grammar::ahead::{Ahead, Head, Stop, Suffix};
 use grammar::parts::{Arguments, Conditions, Pairs, Part, Row, Several};
 use grammar::{Name, Sign, parts};
 use lexer::{Bracket, unescape};
+use operator_levels::in_a_row;
 use plain::Text;
 use std::alloc::Global;
 
@@ -28,7 +29,6 @@ const LOOSEST: usize = 2;
 
 const NEGATION: usize = 4;
 
-const COMPARISON: usize = 5;
 /// That of `-` before a part.
 const TIGHTEST: usize = 8;
 
@@ -449,13 +449,6 @@ impl<F: for<'t> Fn(Global, &mut Ahead<'_, 't>, usize, Row, usize) -> Result<Part
         parts::signed(self.alloc, Sign::Not, operand, room)
     }
 
-    /// How many operators of a level may follow one another: comparisons are not chained.
-    fn in_a_row(&self, level: usize) -> usize
-        ensures { result ≡ spec.in_a_row (spec.read self.now.turns) self.now.most level }
-    {
-        if level == COMPARISON { 1 } else { self.most }
-    }
-
     /// Goes on with operators of a level behind a part.
     #[cycle(levels)]
     #[tactic(auto, unfolding(grammar::specs::Descent::chain))]
@@ -472,7 +465,7 @@ impl<F: for<'t> Fn(Global, &mut Ahead<'_, 't>, usize, Row, usize) -> Result<Part
         ensures { Reads part_seen (spec.joined (spec.read self.now.turns) self.now.most level room
             (part_seen left.entry) ahead.old) result ahead.new }
     {
-        for _turn in 0..self.in_a_row(level) {
+        for _turn in 0..in_a_row(level, self.most) {
             let Some(operator) = ahead.operator(level) else {
                 return Ok(left);
             };

@@ -12,6 +12,7 @@ pub mod LinesSound
 pub mod OneTree
 pub mod Onto
 pub mod ReadTurns
+pub mod Seen
 pub mod Rows
 pub mod Rungs
 pub mod Sizes

@@ -21,6 +21,20 @@ of-requires g c =
       ap length m.cells ∙ c.last.invariant.2 ∙ sym m.size,
     )
 
+pub gather-requires-clause-other : goal.gather-requires-clause-other
+gather-requires-clause-other g c =
+    let both = All-pop (IsPassOf c.args.self) c.args.passes.items c.pop.new.self.items (Some c.in-Some.last) c.in-Some.ensures.items c.requires.all.1 in (
+      ap (λ (p : PassView g.row.V.Denot). p.table) c.last.view_is ∙ both.1.0 ∙ sym (ap (λ (b : BoardView). b.table) c.self.view_is),
+      c.last.invariant.1,
+    )
+
+pub close_table-left-requires-clause-all : goal.close_table-left-requires-clause-all
+close_table-left-requires-clause-all g c =
+    let V : Type 0 = g.row.V.Denot in
+    let journals : c.gather.new.seat.me.0 ≡ map journal_of c.args.passes.items = c.gather.ensures.1 ∙ (λ i. c.gather_all-seat.ensures.seat.1 i ++ c.last.invariant.0 i)
+    ∙ journals_split c.pop.new.self.items c.args.passes.items c.in-Some.last _ c.in-Some.ensures.items (ap (λ (p : PassView V). p.journal) c.last.view_is) in
+    let a : length (map journal_of c.args.passes.items) ≡ length c.args.passes.items = simp length-map in ap length journals ∙ a ∙ c.requires.all.0 ∙ sym (ap (λ (b : BoardView). b.passes) c.self.view_is)
+
 pub returns-clause-end : goal.returns-clause-end
 returns-clause-end g c =
     let s = c.close_table-left.ensures in let V : Type 0 = g.row.V.Denot in

@@ -1,9 +1,23 @@
 use Rattle.std.proofs.Common.{inl, ap, ◌∙◌, sym, subst, refl, ◌<◌, ◌≡◌}
 use Rattle.std.specs.Prelude.{None, Some}
 use Rattle.board.specs.Journal.{times}
-use Rattle.board.specs.Views.{PassView, known_at, knows, is_known}
-use Rattle.board.proofs.Backed.{backed_learned, level_learned, not_ended, not_sent}
+use Rattle.once_cell.specs.Once.{cell_name}
+use Rattle.board.specs.Views.{BoardView, PassView, known_at, knows, is_known}
+use Rattle.board.proofs.Backed.{node_known, cell_there, backed_learned, level_learned, not_ended, not_sent}
 use Rattle.board.proofs.board.Board.publish.Goals as goal
+
+pub learn-requires-clause-node : goal.learn-requires-clause-node
+learn-requires-clause-node g c =
+    node_known cell_name c.self.inside.cells.items c.self.inside.table.shared.key.plan c.args.self.now c.args.pass.now c.pass.inside.memory c.args.n (ap (λ (b : BoardView). b.cells) c.self.view_is)
+    (ap (λ (b : BoardView). b.plan) c.self.view_is) c.self.invariant.0 (ap (λ (p : PassView g.row.V.Denot). p.memory.cells) c.pass.view_is) c.requires.pass c.requires.node c.pass.invariant.2
+
+pub learn-requires-clause-note : goal.learn-requires-clause-note
+learn-requires-clause-note g c = (
+  cell_there cell_name c.self.inside.cells.items c.self.inside.table.shared.key.plan c.args.self.now c.args.pass.now c.pass.inside.memory c.args.n (ap (λ (b : BoardView). b.cells) c.self.view_is)
+      (ap (λ (b : BoardView). b.plan) c.self.view_is) c.self.invariant.0 (ap (λ (p : PassView g.row.V.Denot). p.memory.cells) c.pass.view_is) c.requires.pass c.requires.node c.index-cell.result.now c.index-cell.ensures
+      ∙ sym (c.set_as.ensures.cell ∙ c.note-note.ensures.0),
+  ap is_known c.in-Ok-set_as.ensures.value.0,
+)
 
 pub invariant_of-pass : goal.invariant_of-pass
 invariant_of-pass g c =

@@ -1,7 +1,13 @@
 use Rattle.std.proofs.Common.{ap, ◌∙◌}
 use Rattle.board.specs.Views.{known_at, is_known}
-use Rattle.board.proofs.NoteLists.{got_none, got_some, flagged, has_room, learned_now, learned_else, learned_keeps}
+use Rattle.board.proofs.NoteLists.{note_in, cell_at, got_none, got_some, flagged, has_room, learned_now, learned_else, learned_keeps}
 use Rattle.board.proofs.memory.Memory.get.Goals as goal
+
+pub index_mut-requires : goal.index_mut-requires
+index_mut-requires g c = note_in c.self.inside.notes.items c.args.self.now c.self.inside.notes.len c.args.n c.self.view_is c.self.inside.notes.ok.0 c.requires.node
+
+pub get_as-requires : goal.get_as-requires
+get_as-requires g c = cell_at c.self.inside.notes.items c.args.self.now c.args.n c.index_mut.result.now c.self.view_is c.requires.node c.index_mut.ensures.value ∙ c.requires.cell
 
 pub raise-requires : goal.raise-requires
 raise-requires g c = has_room c.self.inside.notes.items c.self.inside.flags c.args.self.now c.args.n c.self.view_is c.self.invariant c.requires.node
