@@ -4,29 +4,29 @@
 //! tick a turn. Membership is a look into the dict, a field is looked for by its name, and a call is one of a plain function. There is
 //! no code, no frame and no stack, so what a turn takes longer there is the machine's own share.
 
-use crate::rows::report;
-use anyhow::Result;
+use crate::providers::provider;
+use crate::rows::{begin, report};
 use heap::Heap;
 use numbers::Comparison;
 use operands::{Bindings, Operand};
-use plain::{Shared, Text};
+use plain::Text;
 use state::{
     Arithmetic, Defaults, State, append, calculate, compare, equals, find, item, new_dict,
     new_list, new_tuple, plus, set_item, tick,
 };
 use std::alloc::{AllocError, Global};
+use std::io;
 use std::rt::Clock;
-use std::time::Instant;
-use values::{
-    Broken, ExportName, Exported, Fields, Item, Items, Key, Kind, Leaf, MadeId, Names, Provider,
-    ProviderRef, Seen, Ticks, Value,
-};
+use values::{Broken, Fields, Item, Items, Key, Kind, Leaf, Seen, Ticks, Value};
 
 /// How often each is done.
 const TURNS: i64 = 1_000_000;
 
 /// How many keys the dict has.
 const KEYS: i64 = 64;
+
+/// The field of the instance.
+const FIELD: &str = "x";
 
 /// What a turn does.
 #[derive(Clone, Copy)]
@@ -87,15 +87,6 @@ impl Turn {
     }
 }
 
-/// The values that turns use.
-#[derive(Drop)]
-struct Kept {
-    list: Value,
-    dict: Value,
-    instance: Value,
-    field: Text,
-}
-
 fn number(number: i64) -> Value {
     Value::Key(Key::Number(number))
 }
@@ -110,30 +101,19 @@ fn none() -> Value {
 
 /// A state without cells.
 fn empty<'a>(alloc: Global) -> Result<State<'a>, AllocError> {
+    let owner = Text::new(alloc, "a/f.bzl")?;
+    let globals = Fields::with_capacity(alloc, 0)?;
+    let loaded = Bindings::unbound(alloc, 0)?;
     Ok(State {
         heap: Heap::new(alloc),
         ticks: Ticks::new(u64::MAX),
-        owner: Text::new(alloc, "a/f.bzl")?,
+        owner,
         depsets: 0,
         file: 0,
-        globals: Fields::with_capacity(alloc, 0)?,
-        loaded: Bindings::unbound(alloc, 0)?,
+        globals,
+        loaded,
         defaults: Defaults::new(alloc),
     })
-}
-
-/// A provider of one field.
-fn provider(alloc: Global, field: &Text) -> Result<Shared<Provider>, AllocError> {
-    let mut fields = Names::new(alloc);
-    fields.push(field.share()?)?;
-    let id = Some(MadeId {
-        module: 0,
-        number: 1,
-    });
-    let path = Text::new(alloc, "a/f.bzl")?;
-    let name = ExportName::Global(Text::new(alloc, "P")?);
-    let name = ProviderRef::Exported(Exported { path, name });
-    Shared::new(alloc, Provider { id, name, fields })
 }
 
 /// The list `[1, 2, 3]`.
@@ -145,33 +125,38 @@ fn small_list(alloc: Global, state: &mut State) -> Result<Value, Broken> {
     new_list(state, items)
 }
 
+/// Gives a dict the entry `n: n`.
+fn put(state: &mut State, dict: &Value, n: i64) -> Result<(), Broken> {
+    set_item(state, dict, Item::Key(&Key::Number(n)), number(n))
+}
+
 /// The dict `{k: k for k in range(64)}`.
 fn small_dict(alloc: Global, state: &mut State) -> Result<Value, Broken> {
     let dict = new_dict(alloc, state)?;
     for n in 0..KEYS {
-        let key = number(n);
-        set_item(state, &dict, Item::Value(&key), number(n))?;
+        put(state, &dict, n)?;
     }
     Ok(dict)
 }
 
 /// The instance `P(x = 1)`.
-fn small_instance(alloc: Global, state: &mut State, field: &Text) -> Result<Value, Broken> {
+fn small_instance(alloc: Global, state: &mut State) -> Result<Value, Broken> {
     let mut fields = Fields::with_capacity(alloc, 1)?;
     fields.push(Some(number(1)))?;
-    let provider = provider(alloc, field)?;
+    let provider = provider(alloc, &[FIELD])?;
     state.heap.new_instance(provider, fields)
 }
 
-/// The values that turns use, in a state.
-fn make_values(alloc: Global, state: &mut State) -> Result<Kept, Broken> {
-    let field = Text::new(alloc, "x")?;
-    Ok(Kept {
-        list: small_list(alloc, state)?,
-        dict: small_dict(alloc, state)?,
-        instance: small_instance(alloc, state, &field)?,
-        field,
-    })
+/// The value to which turns do something, in a state.
+fn made(alloc: Global, state: &mut State, what: Turn) -> Result<Value, Broken> {
+    match what {
+        Turn::List | Turn::Index | Turn::Append => small_list(alloc, state),
+        Turn::Dict | Turn::Membership => small_dict(alloc, state),
+        Turn::Field => small_instance(alloc, state),
+        Turn::Nothing | Turn::Arithmetic | Turn::Comparison | Turn::Tuple | Turn::Call => {
+            Ok(none())
+        }
+    }
 }
 
 fn modulo(state: &State, a: &Value, b: i64) -> Result<Value, Broken> {
@@ -214,15 +199,12 @@ fn is_in(state: &State, i: &Value, dict: &Value) -> Result<Value, Broken> {
     Ok(truth(found.is_some()))
 }
 
-fn field(state: &State, instance: &Value, name: &Text) -> Result<Value, Broken> {
+fn field(state: &State, instance: &Value, name: &str) -> Result<Value, Broken> {
     let Seen::Instance(provider, slots) = state.heap.see(instance) else {
         return Err(Broken::Kind(Kind::Name));
     };
     let fields = provider.fields.as_slice();
-    let named = fields
-        .iter()
-        .position(|field| field.as_str() == name.as_str());
-    let Some(place) = named else {
+    let Some(place) = fields.iter().position(|field| field.as_str() == name) else {
         return Err(Broken::Kind(Kind::Name));
     };
     if place >= slots.len() {
@@ -254,12 +236,12 @@ fn successor(alloc: Global, state: &mut State, i: &Value) -> Result<Value, Broke
     plus(alloc, state, Item::Value(i), Item::Value(&one))
 }
 
-/// Does what a turn does, and gives what it makes. It isn't inlined, so that nothing is worked out before the loop.
+/// Does what a turn does to a value, and gives what it makes. It isn't inlined, so that nothing is worked out before the loop.
 #[inline(never)]
 fn take_turn(
     alloc: Global,
     state: &mut State,
-    kept: &Kept,
+    base: &Value,
     what: Turn,
     i: i64,
 ) -> Result<Value, Broken> {
@@ -268,22 +250,22 @@ fn take_turn(
         Turn::Nothing => Ok(none()),
         Turn::Arithmetic => product_and_sum(alloc, state, &i),
         Turn::Comparison => below_or_equal(state, &i),
-        Turn::List => set(state, &kept.list, i, 3),
-        Turn::Dict => set(state, &kept.dict, i, KEYS),
-        Turn::Membership => is_in(state, &i, &kept.dict),
-        Turn::Field => field(state, &kept.instance, &kept.field),
-        Turn::Index => indexed(alloc, state, &kept.list, &i),
-        Turn::Append => append(state, &kept.list, i),
+        Turn::List => set(state, base, i, 3),
+        Turn::Dict => set(state, base, i, KEYS),
+        Turn::Membership => is_in(state, &i, base),
+        Turn::Field => field(state, base, FIELD),
+        Turn::Index => indexed(alloc, state, base, &i),
+        Turn::Append => append(state, base, i),
         Turn::Tuple => pair(alloc, state, i),
         Turn::Call => successor(alloc, state, &i),
     }
 }
 
 /// Does it again and again, and gives how often.
-fn repeat(alloc: Global, state: &mut State, kept: &Kept, what: Turn) -> u64 {
+fn repeat(alloc: Global, state: &mut State, base: &Value, what: Turn) -> u64 {
     let mut done = 0u64;
     for i in 0..TURNS {
-        if tick(state).is_err() || take_turn(alloc, state, kept, what, i).is_err() {
+        if tick(state).is_err() || take_turn(alloc, state, base, what, i).is_err() {
             return done;
         }
         done = done.saturating_add(1);
@@ -291,17 +273,32 @@ fn repeat(alloc: Global, state: &mut State, kept: &Kept, what: Turn) -> u64 {
     done
 }
 
+/// Turns in a state, timed.
+fn time_repeats<R: Print + Clock>(
+    rt: &R,
+    alloc: Global,
+    state: &mut State,
+    base: &Value,
+    (what, timed): (Turn, bool),
+) -> io::Result<()> {
+    let start = begin(rt, timed);
+    let done = repeat(alloc, state, base, what);
+    report(rt, what.name(), done, start)
+}
+
+/// Turns of one kind, in a state of their own.
+fn time_turns<R: Print + Clock>(rt: &R, alloc: Global, what: Turn, timed: bool) -> io::Result<()> {
+    let mut state = empty(alloc)?;
+    match made(alloc, &mut state, what) {
+        Ok(base) => time_repeats(rt, alloc, &mut state, &base, (what, timed)),
+        Err(_) => println!(rt; "no values"),
+    }
+}
+
 /// All turns, each in a state of its own.
-pub fn turns<R: Print + Clock>(rt: &R, alloc: Global, timed: bool) -> Result<()> {
+pub fn turns<R: Print + Clock>(rt: &R, alloc: Global, timed: bool) -> io::Result<()> {
     for what in Turn::ALL {
-        let mut state = empty(alloc)?;
-        let Ok(kept) = make_values(alloc, &mut state) else {
-            println!(rt; "no values")?;
-            return Ok(());
-        };
-        let start = Instant::now(rt)?;
-        let done = repeat(alloc, &mut state, &kept, what);
-        report(rt, what.name(), done, start, timed)?;
+        time_turns(rt, alloc, what, timed)?;
     }
     Ok(())
 }
