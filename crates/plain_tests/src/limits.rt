@@ -3,8 +3,6 @@ use plain::Text;
 use std::alloc::{AllocError, Global};
 use strings::{AsciiText, MOST_BYTES, StringError, StringRefusal, join, split};
 
-const LARGE: StringRefusal = StringRefusal::String(StringError::Large);
-
 /// So many bytes `,`.
 fn commas(alloc: Global, bytes: usize) -> Result<String, AllocError> {
     let mut text = String::with_capacity(alloc, bytes)?;
@@ -19,28 +17,27 @@ fn comma_text(alloc: Global, bytes: usize) -> Result<AsciiText, StringRefusal> {
     AsciiText::from_text(Text::from_string(commas(alloc, bytes)?)?).ok_or(StringRefusal::NoMemory)
 }
 
-/// How many parts the greatest text of commas has, cut at a text.
-fn parts(alloc: Global, separator: &AsciiText) -> Result<usize, StringRefusal> {
+/// How many parts the greatest text of commas has, cut at so many commas.
+fn parts(alloc: Global, separator: usize) -> Result<usize, StringRefusal> {
+    let separator = comma_text(alloc, separator)?;
     let greatest = comma_text(alloc, MOST_BYTES)?;
     let parts = split(alloc, greatest.as_str(), separator.as_str())?;
     Ok(parts.len())
 }
 
-fn cut_at_one(alloc: Global) -> Result<usize, StringRefusal> {
-    let one = comma_text(alloc, 1)?;
-    parts(alloc, &one)
-}
-
-fn cut_at_all(alloc: Global) -> Result<usize, StringRefusal> {
-    let all = comma_text(alloc, MOST_BYTES)?;
-    parts(alloc, &all)
+/// Whether so much is refused as too large.
+fn is_too_large(answer: Result<usize, StringRefusal>) -> bool {
+    matches!(answer, Err(StringRefusal::String(StringError::Large)))
 }
 
 #[test]
 fn texts_and_lists_past_their_limits(rt: HostRuntime) {
-    assert!(rt; comma_text(rt.alloc(), MOST_BYTES + 1).is_err());
-    assert!(rt; cut_at_all(rt.alloc()) == Ok(2));
-    assert!(rt; cut_at_one(rt.alloc()) == Err(LARGE));
+    let alloc = rt.alloc();
+    assert!(rt;
+        comma_text(alloc, MOST_BYTES + 1).is_err()
+            && matches!(parts(alloc, MOST_BYTES), Ok(2))
+            && is_too_large(parts(alloc, 1))
+    );
 }
 
 /// So many names of one text as a list may have.
@@ -65,5 +62,5 @@ fn joins(alloc: Global) -> Result<usize, StringRefusal> {
 
 #[test]
 fn a_join_of_2_to_the_40_bytes_is_refused_at_once(rt: HostRuntime) {
-    assert!(rt; joins(rt.alloc()) == Err(LARGE));
+    assert!(rt; is_too_large(joins(rt.alloc())));
 }

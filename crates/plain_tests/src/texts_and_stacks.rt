@@ -3,56 +3,54 @@ use plain::{Stack, Text};
 use std::alloc::{AllocError, Global};
 use std::cmp::Ordering;
 use std::collections::HashSet;
-use std::test::Fail;
 
 fn crosses_threads<T: Send + Sync>(_value: &T) {}
 
 /// Whether a text tells its bytes, and how many they are.
-fn is_of(alloc: Global, bytes: &str) -> Result<bool, AllocError> {
-    let text = Text::new(alloc, bytes)?;
-    crosses_threads(&text);
-    Ok(text.as_str() == bytes && text.len() == bytes.len() && text.is_empty() == bytes.is_empty())
+fn is_of(text: &Text, bytes: &str) -> bool {
+    crosses_threads(text);
+    text.as_str() == bytes && text.len() == bytes.len() && text.is_empty() == bytes.is_empty()
 }
 
-/// Whether texts of the same bytes are equal, a second name and one that was built among them.
-fn are_equal(alloc: Global) -> Result<bool, AllocError> {
-    let text = Text::new(alloc, "a/x.txt")?;
-    let same = text.share()?;
-    let built = Text::from_string(format!(in alloc; "a/{}.txt", "x")?)?;
-    Ok(same == text && built == text)
+/// Whether one more text is made, is equal to a text and tells its bytes.
+fn is_same(more: Result<Text, AllocError>, text: &Text) -> bool {
+    match more {
+        Ok(more) => more == *text && is_of(&more, text.as_str()),
+        Err(_) => false,
+    }
 }
 
-#[test]
-fn texts_are_their_bytes(rt: HostRuntime) -> Result<(), Fail> {
-    let alloc = rt.alloc();
-    assert!(rt; is_of(alloc, "a/x.txt")?);
-    assert!(rt; is_of(alloc, "")?);
-    assert!(rt; are_equal(alloc)?);
-    Ok(())
+/// The text of a `String` of these bytes, which is built of two.
+fn built(alloc: Global, bytes: &str) -> Result<Text, AllocError> {
+    let (first, second) = bytes.split_at_checked(1).unwrap_or(("", bytes));
+    Text::from_string(format!(in alloc; "{first}{second}")?)
 }
 
 /// Whether a text of these bytes is kept as they are, however it is made and named.
-fn is_kept(alloc: Global, bytes: &str) -> Result<bool, AllocError> {
-    let copied = Text::new(alloc, bytes)?;
-    let moved = Text::from_string(String::from_str(alloc, bytes)?)?;
-    let same = moved.share()?;
-    Ok(copied.as_str() == bytes && moved == copied && same.len() == bytes.len())
+fn is_kept(alloc: Global, bytes: &str) -> bool {
+    match Text::new(alloc, bytes) {
+        Ok(text) => {
+            is_of(&text, bytes)
+                && is_same(text.share(), &text)
+                && is_same(built(alloc, bytes), &text)
+        }
+        Err(_) => false,
+    }
 }
 
-/// Short texts lie beside their count, and longer ones don't.
+/// Texts, a line each. Short ones lie beside their count, and longer ones don't.
+const TEXTS: &str = "
+x
+a/x.txt
+0123456789abcdef0123456789abcde
+0123456789abcdef0123456789abcdef
+0123456789abcdef0123456789abcdefé";
+
 #[test]
-fn texts_of_any_length_are_kept(rt: HostRuntime) -> Result<(), Fail> {
-    let alloc = rt.alloc();
-    for bytes in [
-        "",
-        "x",
-        "0123456789abcdef0123456789abcde",
-        "0123456789abcdef0123456789abcdef",
-        "0123456789abcdef0123456789abcdefé",
-    ] {
-        assert!(rt; is_kept(alloc, bytes)?, "{bytes}");
+fn texts_of_any_length_are_kept(rt: HostRuntime) {
+    for bytes in TEXTS.lines() {
+        assert!(rt; is_kept(rt.alloc(), bytes), "{bytes}");
     }
-    Ok(())
 }
 
 /// How texts of these bytes stand in order.
@@ -62,18 +60,12 @@ fn order_of(alloc: Global, a: &str, b: &str) -> Result<Ordering, AllocError> {
     Ok(a.cmp(&b))
 }
 
-#[test]
-fn texts_are_ordered_by_bytes(rt: HostRuntime) -> Result<(), Fail> {
-    let alloc = rt.alloc();
-    for (a, b, want) in [
-        ("a", "b", Ordering::Less),
-        ("B", "a", Ordering::Less),
-        ("a/b", "a", Ordering::Greater),
-        ("", "", Ordering::Equal),
-    ] {
-        assert!(rt; order_of(alloc, a, b)? == want, "{a} and {b}");
-    }
-    Ok(())
+/// Whether texts stand in the order of their bytes.
+fn are_ordered(alloc: Global) -> bool {
+    matches!(order_of(alloc, "a", "b"), Ok(Ordering::Less))
+        && matches!(order_of(alloc, "B", "a"), Ok(Ordering::Less))
+        && matches!(order_of(alloc, "a/b", "a"), Ok(Ordering::Greater))
+        && matches!(order_of(alloc, "", ""), Ok(Ordering::Equal))
 }
 
 /// Whether a set that has one text has the other.
@@ -83,11 +75,14 @@ fn has_too(alloc: Global, one: &str, other: &str) -> Result<bool, AllocError> {
     Ok(seen.contains(&Text::new(alloc, other)?))
 }
 
+/// Whether equal texts are one in a set, and others are not.
+fn are_one(alloc: Global) -> bool {
+    matches!(has_too(alloc, "x", "x"), Ok(true)) && matches!(has_too(alloc, "x", "y"), Ok(false))
+}
+
 #[test]
-fn equal_texts_are_one_in_a_set(rt: HostRuntime) -> Result<(), Fail> {
-    assert!(rt; has_too(rt.alloc(), "x", "x")?);
-    assert!(rt; !has_too(rt.alloc(), "x", "y")?);
-    Ok(())
+fn texts_are_compared_by_bytes(rt: HostRuntime) {
+    assert!(rt; are_ordered(rt.alloc()) && are_one(rt.alloc()));
 }
 
 /// What a stack of 1 and 2 gives back, one after the other, and what is at its top before and after.
@@ -102,7 +97,10 @@ fn given_back(alloc: Global) -> Result<[Option<usize>; 4], AllocError> {
 }
 
 #[test]
-fn stacks_give_back_from_the_top(rt: HostRuntime) -> Result<(), Fail> {
-    assert!(rt; given_back(rt.alloc())? == [Some(2), Some(2), Some(1), None]);
-    Ok(())
+fn stacks_give_back_from_the_top(rt: HostRuntime) {
+    let is_so = match given_back(rt.alloc()) {
+        Ok(given) => given == [Some(2), Some(2), Some(1), None],
+        Err(_) => false,
+    };
+    assert!(rt; is_so);
 }
