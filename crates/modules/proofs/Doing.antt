@@ -111,7 +111,7 @@ module _ {T M S K : Type 0} (e : Evaluation T M S K) (paths : List Path) (files 
   file_at : (n : ℕ) (d : Result (Read T) (S × ℕ)) → n < length paths → get_or files n d ≡ e.read (path_at paths n)
   file_at n d low = ap (λ fs. get_or fs n d) ready.files_are ∙ get_or-map e.read paths n [] d low
 
-  files_size : length files ≡ length paths
+  pub files_size : length files ≡ length paths
   files_size = ap length ready.files_are ∙ length-map paths e.read
 
   pub deps_size : length f.deps ≡ length paths

@@ -1,9 +1,9 @@
 -- What load statements find, and that why a module failed doesn't matter to them.
-use Rattle.std.proofs.Common.{◌≡◌, ℕ, ◌<◌, inl, inr, true, false, ◌||◌, List, [], ◌∷◌, length, map, get_or, Option, Some, None, Result, Ok, Err, sym, ap, ◌∙◌, arith, refl}
+use Rattle.std.proofs.Common.{◌≡◌, ℕ, ◌+◌, ◌<◌, inl, inr, true, false, ◌||◌, List, [], ◌∷◌, length, map, drop, get_or, Option, Some, None, Result, Ok, Err, sym, ap, ◌∙◌, arith, refl}
 use Rattle.std.specs.Prelude.{IfOk, if◌then◌else◌}
 use Rattle.std.specs.Str.{bytes_eq}
 use Rattle.std.specs.List.{list_any}
-use Rattle.std.proofs.lemmas.List.{get_or_default}
+use Rattle.std.proofs.lemmas.List.{get_or_default, at_drop_more}
 use Rattle.std.proofs.lemmas.Slice.Eq.{bytes_eq-Decides}
 use Rattle.edges.proofs.Tests.{cases_of}
 use Rattle.loading.specs.Loads.{Path, Name, Load, LoadFault, fault_at, names_fault, module_fault, loads_fault, found, first_of}
@@ -99,3 +99,17 @@ module _ {M S K : Type 0} (ps : List Path) (values : List (Option M)) (faults : 
 
   pub seen_nowhere : (q : Path) → listed ps q ≡ false → without_fault (found_in m q) ≡ None
   seen_nowhere q none = ap (λ x. without_fault (found_in x q)) (sym is) ∙ with_is S K q (entry ps values q) ∙ no_entry ps values q none
+
+-- ---- one after the other
+
+module _ {S K M : Type 0} (globals : M → List Name) (path : Path) (at : Path → Option (Result M (LoadFault S K))) (all : List Load) (i : ℕ) where
+  abbrev faults_from : ℕ → Option (LoadFault S K)
+  faults_from k = loads_fault globals path at (drop k all)
+
+  -- a statement that has no fault
+  pub loads_on : (l : Load) (f : Option (LoadFault S K)) → i < length all → l ≡ get_or all i l → f ≡ module_fault globals path l (named_by at l.target) → f ≡ None
+      → loads_fault globals path at all ≡ faults_from i → loads_fault globals path at all ≡ faults_from (i + 1)
+  loads_on l f low is by none had =
+      had ∙ at_drop_more (loads_fault globals path at) all i l low ∙ ap (λ x. loads_fault globals path at (x ∷ drop (i + 1) all)) (sym is)
+      ∙ ap (λ r. first_of (module_fault globals path l r) (faults_from (i + 1))) (named_found globals path at at (λ q. refl) at l.target)
+      ∙ ap (λ r. first_of r (faults_from (i + 1))) (sym by ∙ none)

@@ -3,3 +3,4 @@ pub mod ByNumber
 pub mod Doing
 pub mod Outcomes
 pub mod Founds
+pub mod Longer
