@@ -11,14 +11,14 @@ use Rattle.outcomes.specs.Found.{id_of, owner_of, has_depset}
 use Rattle.outcomes.specs.Workspaces.{outcome_of, graph}
 use Rattle.outcomes.proofs.Together.{outcomes_together}
 use Rattle.reporting.specs.Answers.{Node}
-use Rattle.plain_reports.specs.Laws.{IsToldPlainly}
-use Rattle.plain_reports.proofs.Reports.{workspaces_are_told_plainly}
+use Rattle.workspace_laws.specs.ReportLaws.{IsToldPlainly}
+use Rattle.workspace_laws.proofs.Reports.{workspaces_are_told_plainly}
 use Rattle.loader.specs.Loaded.{AreFilesOf}
-use Rattle.coherent_modules.specs.Found.{in_modules}
-use Rattle.plain_workspaces.specs.Workspaces.{plain_workspace, evaluated}
-use Rattle.plain_workspaces.proofs.Files.{known_same}
-use Rattle.plain_workspaces.proofs.Outcomes.{dependencies_same, outcomes_same}
-use Rattle.plain_workspaces.proofs.Sound.{is_sound, implements_well}
+use Rattle.workspace_laws.specs.Found.{in_modules}
+use Rattle.workspace_laws.specs.Workspaces.{plain_workspace, evaluated}
+use Rattle.workspace_laws.proofs.Files.{known_same}
+use Rattle.workspace_laws.proofs.Outcomes.{dependencies_same, outcomes_same}
+use Rattle.workspace_laws.proofs.Sound.{is_sound, implements_well}
 use Rattle.answers.specs.Laws.{WorkspacesAreCoherent}
 
 module _ (workspace files : List Pair) (limit : ℕ) (legal : IsWorkspace workspace) (are : AreFilesOf workspace files) where

@@ -21,9 +21,9 @@ use Rattle.outcomes.specs.Workspaces.{dependencies, outcome_of}
 use Rattle.pool.specs.Gathered.{GatheredView}
 use Rattle.reporting.specs.Answers.{Node, is_loud, report_text}
 use Rattle.loader.specs.Files.{faults}
-use Rattle.plain_workspaces.specs.Workspaces.{evaluated}
-use Rattle.plain_workspaces.proofs.Files.{faults_same}
-use Rattle.plain_workspaces.proofs.Outcomes.{dependencies_same, outcomes_same}
+use Rattle.workspace_laws.specs.Workspaces.{evaluated}
+use Rattle.workspace_laws.proofs.Files.{faults_same}
+use Rattle.workspace_laws.proofs.Outcomes.{dependencies_same, outcomes_same}
 use Rattle.answers.specs.Answers.{Answer, IsAnswerOf}
 use Rattle.label_order.specs.Ordered.{Entry, AreInOrder}
 use Rattle.answers.specs.Nodes.{AreOutcomesOf, node_of, nodes_of}

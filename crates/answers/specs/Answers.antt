@@ -11,8 +11,8 @@ use Rattle.graph.specs.Reached.{IsReached}
 use Rattle.outcomes.specs.Workspaces.{dependencies, outcome_of}
 use Rattle.reporting.specs.Answers.{Node, report_text, is_loud}
 use Rattle.loader.specs.Loaded.{AreFilesOf}
-use Rattle.plain_workspaces.specs.Files.{faults}
-use Rattle.plain_workspaces.specs.Workspaces.{plain_workspace}
+use Rattle.workspace_laws.specs.Files.{faults}
+use Rattle.workspace_laws.specs.Workspaces.{plain_workspace}
 
 -- the files that fail, and the labels that are reached, each with what becomes of it
 pub record Answer : Type 0 where

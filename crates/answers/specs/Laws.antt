@@ -4,7 +4,7 @@ use Rattle.coherence.specs.Together.{AllCoherent}
 use Rattle.workspace.specs.Workspaces.{IsWorkspace, Pair}
 use Rattle.outcomes.specs.Workspaces.{graph}
 use Rattle.loader.specs.Loaded.{AreFilesOf}
-use Rattle.plain_workspaces.specs.Workspaces.{plain_workspace}
+use Rattle.workspace_laws.specs.Workspaces.{plain_workspace}
 
 -- Of the depsets in modules and of those in what becomes of labels, all together, any two with one id are the same; and what a label
 -- is handed has none with its own text as the owner.

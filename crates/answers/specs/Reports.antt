@@ -8,7 +8,7 @@ use Rattle.outcomes.specs.Workspaces.{dependencies}
 use Rattle.reporting.specs.declared.made.Report.{Report}
 use Rattle.reporting.specs.Reported.{report_bytes}
 use Rattle.loader.specs.Loaded.{AreFilesOf}
-use Rattle.plain_workspaces.specs.Workspaces.{plain_workspace}
+use Rattle.workspace_laws.specs.Workspaces.{plain_workspace}
 use Rattle.answers.specs.Answers.{Answer, IsAnswer, answer_text, is_loud_answer}
 
 -- A report says just what the answer to labels of a workspace is, where each evaluation may use so many ticks.

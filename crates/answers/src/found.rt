@@ -4,7 +4,7 @@ ghost use Rattle.workspace.specs.Labels.{LabelParts};
 ghost use Rattle.graph.specs.Graphs.{IsGraphOf};
 ghost use Rattle.outcomes.specs.Workspaces.{dependencies};
 ghost use Rattle.answers.specs.Nodes.{AreOutcomesOf};
-ghost use Rattle.plain_workspaces.specs.Workspaces.{evaluated};
+ghost use Rattle.workspace_laws.specs.Workspaces.{evaluated};
 
 use crate::label::LabelAnalysis;
 use crate::refused::{NoReport, without_run};
@@ -31,7 +31,7 @@ impl<'a> Analyse<Outcome> for NodeAnalysis<'a> {
     ghost use Rattle.outcomes.specs.Workspaces.{step_of};
     ghost use Rattle.targets.specs.declared.outcome.Outcome.TheVariants.{Failed};
     ghost use Rattle.targets.specs.declared.outcome.TargetFault.TheVariants.{Cycle};
-    ghost use Rattle.plain_workspaces.specs.Workspaces.{evaluated};
+    ghost use Rattle.workspace_laws.specs.Workspaces.{evaluated};
 
     ghost nodes = { λ a. length a.graph.now.labels };
 

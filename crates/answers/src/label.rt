@@ -1,7 +1,7 @@
 //! What becomes of one label.
 ghost use Rattle.std.specs.Prelude.{◌≡◌, IfOk, map};
 ghost use Rattle.outcomes.specs.Workspaces.{step_of};
-ghost use Rattle.plain_workspaces.specs.Workspaces.{evaluated};
+ghost use Rattle.workspace_laws.specs.Workspaces.{evaluated};
 
 use packages::{Named, Targets};
 use std::alloc::{AllocError, Global};

@@ -12,7 +12,7 @@ ghost use Rattle.graph.specs.Same.{same_label};
 ghost use Rattle.outcomes.specs.Workspaces.{dependencies};
 ghost use Rattle.answers.specs.Nodes.{AreOutcomesOf, nodes_of};
 ghost use Rattle.label_order.specs.Ordered.{entry_seen};
-ghost use Rattle.plain_workspaces.specs.Workspaces.{evaluated};
+ghost use Rattle.workspace_laws.specs.Workspaces.{evaluated};
 ghost use Rattle.answers.specs.Reports.{IsTooMany, Reports};
 
 use crate::found::found;

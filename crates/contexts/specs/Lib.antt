@@ -1,3 +1,5 @@
+pub mod ByPlace
+pub mod Placed
 pub mod Works
 pub mod Offered
 pub mod Fields

@@ -3,14 +3,14 @@ ghost use Rattle.std.specs.Prelude.{◌≡◌, Ok, Err, Some, MatchResult, IfOk,
 ghost use Rattle.ticks.specs.Ticking.{Changes, FaultOr};
 ghost use Rattle.operations.specs.Arguments.{given, bound};
 ghost use Rattle.calls.specs.Parameters.{taken, got_from};
-ghost use Rattle.declarations.specs.AttributeCalls.{attribute_parameters, named, attribute_in, attribute_value};
-ghost use Rattle.declarations.specs.AttributeCalls.{attribute_declared, new_attribute};
+ghost use Rattle.declaring.specs.AttributeCalls.{attribute_parameters, named, attribute_in, attribute_value};
+ghost use Rattle.declaring.specs.AttributeCalls.{attribute_declared, new_attribute};
 
+use crate::Declarations;
 use crate::defaults::default_in;
 use crate::names::may_be_doc;
 use crate::restrictions::{allow_files_in, mandatory_in, providers_in, values_in};
 use calls::{Parameter, check_arguments};
-use declarations::Declarations;
 use heap::Heap;
 use making::given_for;
 use operands::Operand;

@@ -4,12 +4,12 @@ ghost use Rattle.std.specs.List.{list_all};
 ghost use Rattle.values.specs.Seeing.{seen, table_entries, item_value};
 ghost use Rattle.targets.specs.Attributes.{is_attribute, are_attributes, is_private};
 ghost use Rattle.targets.specs.RuleCalls.{each_of};
-ghost use Rattle.declarations.specs.RuleMaking.{reference_in, declaration, declaration_in, attribute_entry};
-ghost use Rattle.declarations.specs.RuleMaking.{attributes_shown, attributes_in, if_attributes};
+ghost use Rattle.declaring.specs.RuleMaking.{reference_in, declaration, declaration_in, attribute_entry};
+ghost use Rattle.declaring.specs.RuleMaking.{attributes_shown, attributes_in, if_attributes};
 
+use crate::Declarations;
 use crate::known::Attributes;
 use crate::names::name_of;
-use declarations::Declarations;
 use operands::Operand;
 use operations::State;
 use plain::{Shared, Text};

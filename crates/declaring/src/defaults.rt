@@ -4,7 +4,7 @@ ghost use Rattle.values.specs.Seeing.{seen, group_items};
 ghost use Rattle.values.specs.Shape.{shape};
 ghost use Rattle.values.specs.declared.cells.Cell.{Cell};
 ghost use Rattle.targets.specs.RuleCalls.{each_of};
-ghost use Rattle.declarations.specs.AttributeCalls.{default_in, default_typed, whole_label_in};
+ghost use Rattle.declaring.specs.AttributeCalls.{default_in, default_typed, whole_label_in};
 
 use crate::lists::{whole_label, whole_labels};
 use heap::Heap;

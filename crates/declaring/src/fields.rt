@@ -3,8 +3,8 @@ ghost use Rattle.std.specs.Prelude.{◌≡◌, [], IfOk, option_and_then};
 ghost use Rattle.values.specs.Seeing.{seen, group_items, table_entries, item_value};
 ghost use Rattle.values.specs.Shape.{shape};
 ghost use Rattle.targets.specs.RuleCalls.{each_of};
-ghost use Rattle.declarations.specs.NewNames.{name_in};
-ghost use Rattle.declarations.specs.ProviderCalls.{are_distinct, if_distinct, documented_name, fields_in};
+ghost use Rattle.declaring.specs.NewNames.{name_in};
+ghost use Rattle.declaring.specs.ProviderCalls.{are_distinct, if_distinct, documented_name, fields_in};
 
 use crate::lists::{name_in, names};
 use heap::Heap;

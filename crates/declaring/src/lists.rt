@@ -5,8 +5,8 @@ ghost use Rattle.values.specs.Shape.{shape};
 ghost use Rattle.operations.specs.Reading.{string_in, sequence_in};
 ghost use Rattle.workspace.specs.Labels.{label_of};
 ghost use Rattle.targets.specs.RuleCalls.{each_of};
-ghost use Rattle.declarations.specs.AttributeCalls.{key_of_kind, provider_in, all_providers, whole_label_in};
-ghost use Rattle.declarations.specs.NewNames.{name_in};
+ghost use Rattle.declaring.specs.AttributeCalls.{key_of_kind, provider_in, all_providers, whole_label_in};
+ghost use Rattle.declaring.specs.NewNames.{name_in};
 
 use crate::names::name_of;
 use heap::Heap;

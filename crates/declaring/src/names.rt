@@ -2,7 +2,7 @@
 ghost use Rattle.std.specs.Prelude.{◌≡◌, option_copied};
 ghost use Rattle.lexer.specs.Names.{spells_name};
 ghost use Rattle.values.specs.Seeing.{seen};
-ghost use Rattle.declarations.specs.NewNames.{name_in, is_doc, may_be_doc};
+ghost use Rattle.declaring.specs.NewNames.{name_in, is_doc, may_be_doc};
 
 use heap::Heap;
 use operands::Operand;

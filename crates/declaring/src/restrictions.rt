@@ -4,8 +4,8 @@ ghost use Rattle.values.specs.Seeing.{seen, group_items};
 ghost use Rattle.values.specs.Shape.{shape};
 ghost use Rattle.operations.specs.Reading.{string_in};
 ghost use Rattle.targets.specs.RuleCalls.{each_of};
-ghost use Rattle.declarations.specs.AttributeCalls.{truth_in, mandatory_in, values_in, provider_lists};
-ghost use Rattle.declarations.specs.AttributeCalls.{providers_in, files_shown, allow_files_in};
+ghost use Rattle.declaring.specs.AttributeCalls.{truth_in, mandatory_in, values_in, provider_lists};
+ghost use Rattle.declaring.specs.AttributeCalls.{providers_in, files_shown, allow_files_in};
 
 use crate::lists::{keys, lists_of_providers, providers, strings};
 use heap::Heap;

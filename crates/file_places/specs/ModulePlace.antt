@@ -14,10 +14,10 @@ use Rattle.language.specs.Place.{Does, Place}
 use Rattle.language.specs.declared.whole.Whole.{Whole}
 use Rattle.targets.specs.declared.attributes.Attribute.{Attribute}
 use Rattle.evaluation.specs.declared.made.Made.{Made}
-use Rattle.declarations.specs.declared.table.Declarations.{Declarations}
-use Rattle.declarations.specs.AttributeCalls.{new_attribute}
-use Rattle.declarations.specs.ProviderCalls.{new_provider}
-use Rattle.declarations.specs.RuleMaking.{new_rule}
+use Rattle.declaring.specs.declared.table.Declarations.{Declarations}
+use Rattle.declaring.specs.AttributeCalls.{new_attribute}
+use Rattle.declaring.specs.ProviderCalls.{new_provider}
+use Rattle.declaring.specs.RuleMaking.{new_rule}
 use Rattle.file_places.specs.Methods.{declared_kind, has_method}
 
 -- what is declared is kept beside the state, which stays

@@ -2,7 +2,7 @@
 ghost use Rattle.std.specs.Prelude.{◌≡◌};
 ghost use Rattle.file_places.specs.ModulePlace.{made_of};
 
-use declarations::Declarations;
+use declaring::Declarations;
 use evaluation::Made;
 
 /// What a module made: what it declared, by the same numbers.

@@ -6,8 +6,7 @@ ghost use Rattle.places.specs.Answers.{Says};
 ghost use Rattle.file_places.specs.ModulePlace.{declared, attribute_call, built_in_call};
 
 use crate::methods::{declared_kind, has_method};
-use declarations::Declarations;
-use declaring::{Attributes, new_attribute, new_provider, new_rule};
+use declaring::{Attributes, Declarations, new_attribute, new_provider, new_rule};
 use field_names::FieldName;
 use language::Whole;
 use operands::Operand;

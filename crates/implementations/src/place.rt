@@ -7,7 +7,7 @@ ghost use Rattle.contexts.specs.Actions.{method_named};
 ghost use Rattle.implementations.specs.Implementations.{implementation_place, call_method, object_method, action_call, worked};
 
 use crate::methods::{action_named, attr_refused, has_method, refused};
-use contexts::{ActionMethod, Work};
+use contexts::{ActionMethod, FileLists, TargetContext, Work, field, item, offers};
 use field_names::FieldName;
 use language::Whole;
 use operands::Operand;
@@ -15,7 +15,6 @@ use operations::Arguments;
 use places::{Place, Works};
 use std::alloc::Global;
 use target_actions::Mnemonics;
-use target_fields::{FileLists, TargetContext, field, item, offers};
 use values::{Broken, Item, Kind, Leaf, Object, Value};
 use workspace::Label;
 

@@ -1,3 +1,4 @@
+pub mod MadeBefore
 pub mod Places
 pub mod Files
 pub mod Loaded

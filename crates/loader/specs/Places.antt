@@ -3,12 +3,12 @@
 use Rattle.std.specs.Prelude.{List, []}
 use Rattle.workspace.specs.FileKinds.{package_of}
 use Rattle.loading.specs.Loads.{Path}
-use Rattle.declarations.specs.declared.table.Declarations.{Declarations}
+use Rattle.declaring.specs.declared.table.Declarations.{Declarations}
 use Rattle.rule_calls.specs.Packages.{Declared}
 use Rattle.file_places.specs.ModulePlace.{module_place, made_of}
 use Rattle.file_places.specs.BuildPlace.{build_place}
 use Rattle.evaluation.specs.Runs.{OfModule, OfBuild}
-use Rattle.linking.specs.MadeBefore.{attribute_at, rule_of}
+use Rattle.loader.specs.MadeBefore.{attribute_at, rule_of}
 
 -- ---- modules
 

@@ -1,11 +1,11 @@
 //! How the files of a workspace are read and evaluated.
 ghost use Rattle.std.specs.Prelude.{◌≡◌, [], IfOk};
 
+use crate::Before;
 use crate::modular::run_module;
 use evaluation::Module;
 use language_calls::DefaultInfo;
 use lexer::FaultKind;
-use linking::Before;
 use loading::{Ending, FileRead};
 use modules::{Evaluate, Known};
 use plain::Text;

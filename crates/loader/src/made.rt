@@ -1,9 +1,9 @@
 //! What the modules that are known declared.
-ghost use Rattle.linking.specs.MadeBefore.{attribute_at, rule_of};
+ghost use Rattle.loader.specs.MadeBefore.{attribute_at, rule_of};
 
+use crate::{Files, KnownModules, attribute_at};
 use declaring::Attributes;
 use file_places::Rules;
-use linking::{Files, KnownModules, attribute_at};
 use plain::{Shared, Text};
 use targets::{Attribute, Rule};
 use values::MadeId;
@@ -15,7 +15,7 @@ pub struct KnownMade<'a, 'b, K> {
 }
 
 impl<'a, 'b, K: KnownModules> Attributes for KnownMade<'a, 'b, K> {
-    ghost use Rattle.linking.specs.MadeBefore.{attribute_at};
+    ghost use Rattle.loader.specs.MadeBefore.{attribute_at};
 
     ghost declared = { λ m. attribute_at (K.known m.files.now.known.now) };
 
@@ -25,7 +25,7 @@ impl<'a, 'b, K: KnownModules> Attributes for KnownMade<'a, 'b, K> {
 }
 
 impl<'a, 'b, K: KnownModules> Rules for KnownMade<'a, 'b, K> {
-    ghost use Rattle.linking.specs.MadeBefore.{rule_of};
+    ghost use Rattle.loader.specs.MadeBefore.{rule_of};
 
     ghost rules = { λ m. rule_of m.files.now.paths.now (K.known m.files.now.known.now) };
 

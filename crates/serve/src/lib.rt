@@ -2,7 +2,8 @@
 //! status.
 //!
 //! [`serve`] reads, analyses and writes, over any reader and writer; [`analyse`] is the analysis
-//! alone, of a workspace in memory; [`closing`] says how the program ends.
+//! alone, of a workspace in memory, and [`report_on_shelf`] that by a [`Team`] of workers at any shelf;
+//! [`closing`] says how the program ends.
 #![tactic(auto)]
 
 mod analysing;
@@ -10,6 +11,6 @@ mod serving;
 mod stops;
 
 pub use analysing::analyse;
-pub use answers::Leftovers;
+pub use answers::{Leftovers, OneQueue, Team, report_on_shelf};
 pub use serving::serve;
 pub use stops::{AnalyseStop, ServeStop, closing};

@@ -1,12 +1,11 @@
 //! Requests over memory.
 
-use answers::{OneQueue, Team, report_on_shelf};
 use fakes::tapes::{Failing, Page, Tape};
 use made_workspaces::random_workspace;
 use pool::{LockShelf, NoGate};
 use reporting::Report;
 use request::read_workspace;
-use serve::{Leftovers, ServeStop, serve};
+use serve::{Leftovers, OneQueue, ServeStop, Team, report_on_shelf, serve};
 use std::alloc::{AllocError, Global};
 use std::sync::Wait;
 use std::thread::Threads;

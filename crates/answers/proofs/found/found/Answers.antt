@@ -7,7 +7,7 @@ use Rattle.loader.specs.Loaded.{LoadedView}
 use Rattle.targets.specs.declared.outcome.Outcome.TheVariants.{Failed}
 use Rattle.targets.specs.declared.outcome.TargetFault.TheVariants.{Cycle}
 use Rattle.packages.proofs.Names.{are_listed}
-use Rattle.plain_workspaces.specs.Workspaces.{evaluated}
+use Rattle.workspace_laws.specs.Workspaces.{evaluated}
 use Rattle.answers.proofs.Crossing.{crosses}
 use Rattle.answers.proofs.Labelled.{outcomes_found}
 use Rattle.answers.proofs.found.found.Goals as goal

@@ -1,7 +1,7 @@
 use Rattle.std.proofs.Common.{◌≡◌, ◌+◌, None, Some, drop, sym, ap, ◌∙◌}
 use Rattle.values.specs.Seeing.{table_entries, item_value}
 use Rattle.targets.specs.RuleCalls.{each_of}
-use Rattle.declarations.specs.RuleMaking.{attribute_entry}
+use Rattle.declaring.specs.RuleMaking.{attribute_entry}
 use Rattle.targets.proofs.Reading.{behind, read, unread}
 use Rattle.declaring.proofs.attributes_of_rules.named_attributes.Goals as goal
 

@@ -1,7 +1,7 @@
 use Rattle.std.proofs.Common.{◌≡◌, IfOk, sym, subst}
 use Rattle.values.specs.Seeing.{seen}
 use Rattle.leaves.specs.declared.leaf.AttributeKind.{AttributeKind}
-use Rattle.declarations.specs.AttributeCalls.{default_typed}
+use Rattle.declaring.specs.AttributeCalls.{default_typed}
 use Rattle.declaring.proofs.defaults.default_typed.Goals as goal
 
 pub returns-in-String : goal.returns-in-String

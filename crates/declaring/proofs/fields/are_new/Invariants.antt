@@ -1,5 +1,5 @@
 use Rattle.std.proofs.Common.{◌≡◌, true, take}
-use Rattle.declarations.specs.ProviderCalls.{are_distinct}
+use Rattle.declaring.specs.ProviderCalls.{are_distinct}
 use Rattle.declaring.proofs.fields.are_new.Given as goal
 
 abbrev pub invariant-loop-name : goal.invariant-loop-name

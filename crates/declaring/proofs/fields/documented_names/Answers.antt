@@ -1,7 +1,7 @@
 use Rattle.std.proofs.Common.{◌≡◌, ◌+◌, None, Some, drop, sym, ap, ◌∙◌}
 use Rattle.values.specs.Seeing.{table_entries, item_value}
 use Rattle.targets.specs.RuleCalls.{each_of}
-use Rattle.declarations.specs.ProviderCalls.{documented_name}
+use Rattle.declaring.specs.ProviderCalls.{documented_name}
 use Rattle.targets.proofs.Reading.{behind, read, unread}
 use Rattle.declaring.proofs.fields.documented_names.Goals as goal
 

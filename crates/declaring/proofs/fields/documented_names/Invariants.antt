@@ -1,7 +1,7 @@
 use Rattle.std.proofs.Common.{◌≡◌, drop}
 use Rattle.values.specs.Seeing.{table_entries}
 use Rattle.targets.specs.RuleCalls.{each_of}
-use Rattle.declarations.specs.ProviderCalls.{documented_name}
+use Rattle.declaring.specs.ProviderCalls.{documented_name}
 use Rattle.targets.proofs.Reading.{behind}
 use Rattle.declaring.proofs.fields.documented_names.Given as goal
 

@@ -3,7 +3,7 @@ use Rattle.values.specs.Shape.{Shape, shape}
 use Rattle.values.specs.Seeing.{group_items, item_value}
 use Rattle.values.specs.declared.value.Value.{Value}
 use Rattle.targets.specs.RuleCalls.{each_of}
-use Rattle.declarations.specs.AttributeCalls.{key_of_kind}
+use Rattle.declaring.specs.AttributeCalls.{key_of_kind}
 use Rattle.targets.proofs.Reading.{behind, read, unread}
 use Rattle.declaring.proofs.lists.keys.Goals as goal
 

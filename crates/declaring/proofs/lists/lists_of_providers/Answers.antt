@@ -5,7 +5,7 @@ use Rattle.values.specs.declared.value.Value.{Value}
 use Rattle.targets.specs.RuleCalls.{each_of}
 use Rattle.std.specs.Prelude.{option_and_then}
 use Rattle.operations.specs.Reading.{sequence_in}
-use Rattle.declarations.specs.AttributeCalls.{all_providers}
+use Rattle.declaring.specs.AttributeCalls.{all_providers}
 use Rattle.targets.proofs.Reading.{behind, read, unread}
 use Rattle.declaring.proofs.lists.lists_of_providers.Goals as goal
 

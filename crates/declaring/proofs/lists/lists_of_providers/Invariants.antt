@@ -4,7 +4,7 @@ use Rattle.values.specs.Shape.{shape}
 use Rattle.std.specs.Prelude.{option_and_then}
 use Rattle.operations.specs.Reading.{sequence_in}
 use Rattle.targets.specs.RuleCalls.{each_of}
-use Rattle.declarations.specs.AttributeCalls.{all_providers}
+use Rattle.declaring.specs.AttributeCalls.{all_providers}
 use Rattle.targets.proofs.Reading.{behind}
 use Rattle.declaring.proofs.lists.lists_of_providers.Given as goal
 

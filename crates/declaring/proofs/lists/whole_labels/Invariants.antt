@@ -2,7 +2,7 @@ use Rattle.std.proofs.Common.{◌≡◌, drop}
 use Rattle.values.specs.Seeing.{group_items}
 use Rattle.values.specs.Shape.{shape}
 use Rattle.targets.specs.RuleCalls.{each_of}
-use Rattle.declarations.specs.AttributeCalls.{whole_label_in}
+use Rattle.declaring.specs.AttributeCalls.{whole_label_in}
 use Rattle.targets.proofs.Reading.{behind}
 use Rattle.declaring.proofs.lists.whole_labels.Given as goal
 

@@ -1,7 +1,7 @@
 use Rattle.std.proofs.Common.{◌∙◌, Ok, refl, sym, ap}
 use Rattle.evaluation.specs.Runs.{run_build}
 use Rattle.evaluation.specs.Workspaces.{linked_files}
-use Rattle.linking.specs.MadeBefore.{rule_of}
+use Rattle.loader.specs.MadeBefore.{rule_of}
 use Rattle.file_places.specs.BuildPlace.{build_place}
 use Rattle.rule_calls.specs.Packages.{Declared}
 use Rattle.loader.specs.Places.{of_build}

@@ -1,5 +1,5 @@
 use Rattle.std.proofs.Common.{◌≡◌, ◌∙◌, IfOk, ap, subst}
-use Rattle.declarations.specs.declared.table.Declarations.{Declarations}
+use Rattle.declaring.specs.declared.table.Declarations.{Declarations}
 use Rattle.language.specs.declared.whole.Whole.{Whole}
 use Rattle.evaluation.specs.Runs.{module_ended}
 use Rattle.file_places.specs.ModulePlace.{made_of}

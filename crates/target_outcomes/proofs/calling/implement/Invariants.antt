@@ -1,5 +1,5 @@
 use Rattle.analysis.specs.Seen.{dependencies_seen}
-use Rattle.target_fields.specs.ByPlace.{files_at}
+use Rattle.contexts.specs.ByPlace.{files_at}
 use Rattle.target_outcomes.proofs.calling.implement.Given as goal
 
 -- `ctx.files` of this target

@@ -1,5 +1,0 @@
-use Rattle.coherent_targets.proofs.Implemented.{calls_keep_coherence}
-use Rattle.coherent_targets.proofs.laws.implementations_keep_coherence.Goals as goal
-
-pub returns : goal.returns
-returns c = calls_keep_coherence

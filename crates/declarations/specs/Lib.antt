@@ -1,4 +1,0 @@
-pub mod NewNames
-pub mod AttributeCalls
-pub mod ProviderCalls
-pub mod RuleMaking

@@ -1,4 +1,0 @@
-pub mod Given
-pub mod Numbers
-pub mod Places
-pub mod Ended

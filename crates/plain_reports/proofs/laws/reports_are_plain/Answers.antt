@@ -1,5 +1,0 @@
-use Rattle.plain_reports.proofs.Reports.{texts_are_plain, workspaces_are_told_plainly}
-use Rattle.plain_reports.proofs.laws.reports_are_plain.Goals as goal
-
-pub returns : goal.returns
-returns c = record { texts = texts_are_plain; workspaces = workspaces_are_told_plainly }

@@ -1,6 +1,0 @@
-use Rattle.std.proofs.Common.{◌≡◌, ◌++◌, drop, map}
-use Rattle.contexts.specs.Fields.{element_tree}
-use Rattle.target_fields.proofs.listings.put_elements.Given as goal
-
-abbrev pub invariant-loop-place : goal.invariant-loop-place
-invariant-loop-place l = l.trees.items ++ map element_tree (drop l.place l.elements) ≡ l.fn.trees.items ++ map element_tree l.elements

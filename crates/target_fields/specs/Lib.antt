@@ -1,2 +1,0 @@
-pub mod ByPlace
-pub mod Placed

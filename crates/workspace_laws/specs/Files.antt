@@ -1,0 +1,42 @@
+-- What the files of a workspace come to by plain listings: modules, `BUILD` files, and those that fail (Bazel documentation, "Build
+-- phases", the loading phase; docs/PROFILE.md, "Loading").
+use Rattle.std.specs.Prelude.{ℕ, List, [], Some, Result, if◌then◌else◌}
+use Rattle.std.specs.List.{flat_map}
+use Rattle.lexer.specs.declared.fault.FaultKind.{FaultKind}
+use Rattle.ticks.specs.declared.ticks.Kind.{Kind}
+use Rattle.workspace.specs.FileKinds.{is_build_file, is_module}
+use Rattle.workspace.specs.Workspaces.{Pair, paths_of}
+use Rattle.loading.specs.Loads.{Path, LoadFault}
+use Rattle.loading.specs.Modules.{Sources, value, any_module, build_of}
+use Rattle.modules.specs.Modules.{fault_in}
+use Rattle.modules.specs.declared.sorting.FileFault.{FileFault}
+use Rattle.targets.specs.declared.target.Target.{Target}
+use Rattle.evaluation.specs.declared.handed.Module.{Module}
+use Rattle.evaluation.specs.Evaluated.{Known}
+use Rattle.evaluation.specs.Workspaces.{linked_files}
+use Rattle.loader.specs.Files as usual
+use Rattle.loader.specs.Places.{of_module, of_build}
+use Rattle.workspace_laws.specs.Runs.{run_module, run_build}
+
+-- the files of a workspace, in ascending order of their paths, and how many ticks each evaluation may use
+module _ (files : List Pair) (limit : ℕ) where
+  abbrev pub loads : Sources ℕ Module FaultKind Kind
+  loads = record (usual.loads files limit) { run = run_module limit (linked_files files) (paths_of files) of_module }
+
+  -- the modules that have no fault
+  abbrev pub known : Known
+  known path = value (any_module loads path)
+
+  -- what the BUILD file at a path declares, or why it fails
+  abbrev pub build_at : Path → Result (List Target) (LoadFault FaultKind Kind)
+  build_at path = build_of loads (run_build limit (linked_files files) (paths_of files) (of_build (paths_of files))) path
+
+  -- a file that fails, and why; of a source file there is nothing to tell
+  abbrev pub fault_at : Path → List (FileFault FaultKind Kind)
+  fault_at path =
+      if is_module path then fault_in path (any_module loads path) else
+      (if is_build_file path then fault_in path (Some (build_at path)) else [])
+
+  -- all that fail, in the order of their paths
+  abbrev pub faults : List (FileFault FaultKind Kind)
+  faults = flat_map fault_at (paths_of files)

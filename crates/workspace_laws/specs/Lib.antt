@@ -1,0 +1,10 @@
+pub mod Same
+pub mod Found
+pub mod ModuleLaws
+pub mod TargetLaws
+pub mod Runs
+pub mod Places
+pub mod Files
+pub mod Workspaces
+pub mod PlainLaws
+pub mod ReportLaws
