@@ -6,7 +6,6 @@ use Rattle.depsets.specs.Flat.{Among}
 use Rattle.depsets.specs.Listed.{walked, flat}
 use Rattle.actions.specs.Ascending.{Each}
 use Rattle.actions.specs.declared.action.Action.{Action}
-use Rattle.claims.specs.Conflicts.{conflicts_of}
 use Rattle.claims.specs.Owned.{Owned}
 use Rattle.claims.specs.Same.{compared}
 use Rattle.one_tree.specs.Found.{Set, in_outcome}
