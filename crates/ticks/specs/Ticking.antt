@@ -1,5 +1,5 @@
 -- Ticks, visits, and how a call's answer agrees with what a definition gives.
-use Rattle.std.specs.Prelude.{◌≡◌, ℕ, zero, suc, ◌+◌, Result, Ok, Err, MatchResult, if◌then◌else◌, nat_lt, ◌≤◌, Bool, true, false}
+use Rattle.std.specs.Prelude.{◌≡◌, ℕ, zero, suc, ◌+◌, Result, Ok, Err, MatchResult, if◌then◌else◌, nat_lt, ◌≤◌, ◌<◌, Bool, true, false}
 use Rattle.ticks.specs.declared.ticks.Kind.{Kind}
 use Rattle.ticks.specs.declared.ticks.Kind.TheVariants.{Steps, Deep}
 use Rattle.ticks.specs.declared.ticks.Broken.{Broken}
@@ -23,13 +23,14 @@ abbrev pub entered : ℕ → Count → Result Count Kind
 entered zero c = after_tick (ticked c) (λ d. Err Deep)
 entered (suc n) c = ticked c
 
--- so many at once, where so many are left; else none
+-- so many at once
 abbrev pub spent : ℕ → Count → Count
 spent n c = record c { used = c.used + n }
 
+-- so many are used at once exactly where so many are left; else none is
 abbrev pub Spends : Count → ℕ → Bool → Count → Type 0
 Spends before n true now = (before.used + n ≤ before.limit) × (now ≡ spent n before)
-Spends before n false now = now ≡ before
+Spends before n false now = (before.limit < before.used + n) × (now ≡ before)
 
 -- a value with the ticks, or a fault
 abbrev pub Ticking : Type 0 → Type 0

@@ -142,7 +142,7 @@ noted-fits e t n c noted whole levels ticks =
 
 pub at-once : (r : Bool) (n : ℕ) (e : Extent) (before now : Count) → e.is_whole ≡ true → e.levels ≤ n → Spends before e.values r now → AtOnce r n e before now
 at-once true n e before now whole levels h = λ t noted. noted-fits e t n before noted whole levels h.0 ∙ ap Ok (sym h.1)
-at-once false n e before now whole levels h = h
+at-once false n e before now whole levels h = h.1
 
 -- what came of trying
 pub not-at-once : (r : Bool) (n : ℕ) (e : Extent) (before now : Count) → r ≡ false → AtOnce r n e before now → now ≡ before
