@@ -9,6 +9,7 @@ ghost use Rattle.call_stack.specs.ActiveView.{ids_seen};
 
 use frames::{Frame, FunctionId, Stack};
 use operands::Operand;
+use plain::push_last;
 use std::alloc::{AllocError, Global};
 use std::marker::Model;
 use std::mem::replace;
@@ -37,6 +38,12 @@ fn is_among(function: FunctionId, functions: &[FunctionId]) -> bool
     ensures { result ≡ list_any (λ g. same_function (id_seen function) (id_seen g)) functions.now }
 {
     functions.iter().any(|other| function == *other)
+}
+
+/// A frame in which nothing is. It is wide, and most calls find one that has ended, so it isn't made where they stand.
+#[inline(never)]
+fn new_frame<'a, T: Drop>(alloc: Global) -> Result<Box<Frame<'a, T>>, AllocError> {
+    Ok(Box::new(alloc, Frame::new(alloc))?)
 }
 
 impl<'a, T: Drop> Active<'a, T> {
@@ -72,8 +79,7 @@ impl<'a, T: Drop> Active<'a, T> {
     pub(crate) fn enter(&mut self, function: FunctionId) -> Result<(), AllocError>
         ensures { IfOk result (λ _. self.new ≡ function ∷ self.old) }
     {
-        self.functions.push(function)?;
-        Ok(())
+        push_last(&mut self.functions, function)
     }
 
     /// The innermost one is left.
@@ -91,7 +97,7 @@ impl<'a, T: Drop> Active<'a, T> {
     {
         match self.ended.pop() {
             Some(frame) => Ok(frame),
-            None => Ok(Box::new(alloc, Frame::new(alloc))?),
+            None => new_frame(alloc),
         }
     }
 

@@ -25,7 +25,7 @@ pub fn make_list<'a, W: Operate<'a>>(
         state.old result
         f.new state.new }
 {
-    let mut items = Stack::new(world.alloc());
+    let mut items = Stack::with_capacity(world.alloc(), count.min(f.values.len()))?;
     if !take(count, &mut f.values, &mut items)? {
         return Ok(Step::Stuck);
     }
@@ -52,7 +52,7 @@ pub fn make_tuple<'a, W: Operate<'a>>(
         state.old result
         f.new state.new }
 {
-    let mut items = Stack::new(world.alloc());
+    let mut items = Stack::with_capacity(world.alloc(), count.min(f.values.len()))?;
     if !take(count, &mut f.values, &mut items)? {
         return Ok(Step::Stuck);
     }

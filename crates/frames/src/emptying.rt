@@ -1,6 +1,8 @@
 //! Lists that are used again.
 
-ghost use Rattle.std.specs.Prelude.{◌≡◌, []};
+ghost use Rattle.std.specs.Prelude.{◌≡◌, ◌++◌, ◌∷◌, [], IfOk};
+
+use std::alloc::AllocError;
 
 /// For so many items the memory is kept where a list is used again.
 const KEPT: usize = 1024;
@@ -16,6 +18,27 @@ pub(crate) fn empty<T: Drop>(items: &mut Vec<T>)
     if items.capacity() > KEPT {
         shrink(items);
     }
+}
+
+/// Puts an item last. Where there is room for it, as there mostly is, that is done where the call stands.
+#[inline(always)]
+pub(crate) fn put_last<T: Drop>(items: &mut Vec<T>, item: T) -> Result<(), AllocError>
+    ensures { IfOk result (λ _. items.new.items ≡ items.old.items ++ item ∷ []) }
+{
+    if items.len() < items.capacity() {
+        items.push_reserved(item);
+        Ok(())
+    } else {
+        put_in_more(items, item)
+    }
+}
+
+#[inline(never)]
+fn put_in_more<T: Drop>(items: &mut Vec<T>, item: T) -> Result<(), AllocError>
+    ensures { IfOk result (λ _. items.new.items ≡ items.old.items ++ item ∷ []) }
+{
+    items.push(item)?;
+    Ok(())
 }
 
 #[inline(never)]

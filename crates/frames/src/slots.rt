@@ -4,7 +4,7 @@ ghost use Rattle.std.specs.Prelude.{◌≡◌, ◌<◌, ◌-◌, [], ◌∷◌, 
 ghost use Rattle.meaning.specs.Outcome.{put, cleared};
 ghost use Rattle.values.specs.declared.value.Value as held;
 
-use crate::emptying::empty;
+use crate::emptying::{empty, put_last};
 use operands::Operand;
 use std::alloc::{AllocError, Global};
 use std::marker::Model;
@@ -78,8 +78,7 @@ impl<'a> Slots<'a> {
     pub fn push(&mut self, value: Option<Operand<'a>>) -> Result<(), AllocError>
         ensures { IfOk result (λ _. self.new ≡ self.old ++ value.entry ∷ []) }
     {
-        self.items.push(value)?;
-        Ok(())
+        put_last(&mut self.items, value)
     }
 
     /// A slot that is there gets a value, or is emptied.

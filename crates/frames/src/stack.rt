@@ -2,7 +2,7 @@
 
 ghost use Rattle.std.specs.Prelude.{◌≡◌, List, [], ◌∷◌, length, reverse, IfOk, MatchOption};
 
-use crate::emptying::empty;
+use crate::emptying::{empty, put_last};
 use std::alloc::{AllocError, Global};
 use std::marker::Model;
 
@@ -61,8 +61,7 @@ impl<T> Stack<T> {
         T: Drop,
         ensures { IfOk result (λ _. self.new ≡ item ∷ self.old) }
     {
-        self.items.push(item)?;
-        Ok(())
+        put_last(&mut self.items, item)
     }
 
     /// Takes the item off the top.
