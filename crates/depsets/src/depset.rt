@@ -104,6 +104,15 @@ struct Node {
     children: Vec<Depset>,
     levels: u32,
     element_type: Option<ElementType>,
+    room: Room,
+}
+
+/// For how many ids and items a listing takes memory at its beginning. It is a guess, of which no contract speaks: what a child has
+/// that has most, and what the others have of their own. So it is no more than the links and elements along one way down.
+#[derive(Clone, Copy)]
+pub(crate) struct Room {
+    pub(crate) ids: u32,
+    pub(crate) items: u32,
 }
 
 impl Model for Depset {
@@ -164,6 +173,7 @@ impl Depset {
             Ok(direct) => direct,
             Err(_) => return Err(DepsetError::NoMemory),
         };
+        let room = room_over(direct.as_slice(), children.as_slice());
         let node = Node {
             id: DigestedId::new(id),
             order,
@@ -171,6 +181,7 @@ impl Depset {
             children,
             levels: below + 1,
             element_type,
+            room,
         };
         match Arc::new(alloc, node) {
             Ok(node) => Ok(Depset { node }),
@@ -221,6 +232,11 @@ impl Depset {
         self.node.children.as_slice()
     }
 
+    /// For how much a listing takes memory at its beginning.
+    pub(crate) fn room(&self) -> Room {
+        self.node.room
+    }
+
     /// How many levels it has: one without children has one.
     pub fn levels(&self) -> u32
         ensures levels { result ≡ depth self.now }
@@ -254,6 +270,30 @@ fn digested(alloc: Global, elements: Vec<Element>) -> Result<Vec<DigestedElement
         all.push(DigestedElement::new(element))?;
     }
     Ok(all)
+}
+
+/// The room for a depset of these elements over these children.
+fn room_over(direct: &[DigestedElement], children: &[Depset]) -> Room {
+    let mut most = Room { ids: 0, items: 0 };
+    let mut own = count(direct.len());
+    for child in children {
+        let room = child.room();
+        most.ids = most.ids.max(room.ids);
+        most.items = most.items.max(room.items);
+        own = own.saturating_add(count(child.direct().len()));
+    }
+    Room {
+        ids: most
+            .ids
+            .saturating_add(count(children.len()))
+            .saturating_add(1),
+        items: most.items.saturating_add(own),
+    }
+}
+
+/// So many, or the greatest number.
+fn count(items: usize) -> u32 {
+    u32::try_from(items).unwrap_or(u32::MAX)
 }
 
 /// The type of these elements, as far as they have one.

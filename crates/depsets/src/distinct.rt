@@ -1,5 +1,5 @@
 //! Items that lie elsewhere, each once.
-ghost use Rattle.std.specs.Prelude.{◌≡◌, ◌<◌, [], Some, OnOk, length, slice_get};
+ghost use Rattle.std.specs.Prelude.{◌≡◌, ◌<◌, [], Some, IfOk, OnOk, length, slice_get};
 ghost use Rattle.depsets.specs.Keys.{has, keep};
 
 use crate::Element;
@@ -26,13 +26,12 @@ impl<'a, T: Eq + Hash> Model for Distinct<'a, T> {
 }
 
 impl<'a, T: Eq + Hash> Distinct<'a, T> {
-    /// No item.
-    pub(crate) fn new(alloc: Global) -> Self
-        ensures { result ≡ [] }
+    /// No item, with memory for so many.
+    pub(crate) fn with_room(alloc: Global, items: u32) -> Result<Self, AllocError>
+        ensures { IfOk result (λ d. d ≡ []) }
     {
-        Distinct {
-            items: IndexSet::new(alloc),
-        }
+        let items = IndexSet::with_capacity(alloc, items as usize)?;
+        Ok(Distinct { items })
     }
 
     /// Whether an equal item is among them.

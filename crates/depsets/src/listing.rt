@@ -5,10 +5,10 @@
 //! it has left before. An id is marked when its depset is left, and not when it is entered: then the ids
 //! that are marked and the items that were taken are both 'the first occurrences so far', and skipping
 //! adds nothing to either. Every link and element is read through a `Cursor`, which counts each read.
-ghost use Rattle.std.specs.Prelude.{◌≡◌, ◌+◌, ◌<◌, ◌≤◌, ℕ, List, IfOk, OnOk, IfSome, length, slice_get, Some, Err};
+ghost use Rattle.std.specs.Prelude.{◌≡◌, ◌+◌, ◌<◌, ◌≤◌, ℕ, List, IfOk, OnOk, IfSome, length, slice_get, Some, Err, false};
 ghost use Rattle.depsets.specs.Rose.{children, label, node, roses};
 ghost use Rattle.depsets.specs.Walker.{walk_of};
-ghost use Rattle.depsets.specs.Keys.{keep};
+ghost use Rattle.depsets.specs.Keys.{has, keep};
 ghost use Rattle.depsets.specs.Elements.{same_element};
 ghost use Rattle.depsets.specs.Listed.{visited, visited_all, inside, took, same_id, flat, work, walked, walked_steps, IsCoherent};
 
@@ -83,9 +83,12 @@ impl Depset {
         ensures items { IfOk result (λ l. l.items ≡ walked self.now) }
         ensures steps { IfOk result (λ l. l.steps ≡ walked_steps self.now) }
     {
+        let room = self.room();
+        let seen = Distinct::with_room(alloc, room.ids)?;
+        let taken = Distinct::with_room(alloc, room.items)?;
         let mut walker = Walker {
-            seen: Distinct::new(alloc),
-            items: Distinct::new(alloc),
+            seen,
+            items: taken,
             cursor: Cursor { steps: 1 },
         };
         walker.visit(self, self.order().is_preorder())?;
@@ -171,14 +174,25 @@ impl<'a> Walker<'a> {
         Ok(())
     }
 
-    /// Visits the depset, unless its id was seen.
+    /// Visits the depset, unless its id was seen. Most links lead to one that was, which is found where the call stands.
     #[cycle(walk)]
+    #[inline(always)]
     fn visit(&mut self, d: &'a Depset, preorder: bool) -> Result<(), AllocError>
         ensures { OnOk result (walk_of self.new ≡ visited preorder d.now (walk_of self.old)) }
     {
         if self.seen.contains(d.digested_id()) {
             return Ok(());
         }
+        self.visit_new(d, preorder)
+    }
+
+    /// Visits a depset whose id wasn't seen.
+    #[cycle(walk)]
+    #[inline(never)]
+    fn visit_new(&mut self, d: &'a Depset, preorder: bool) -> Result<(), AllocError>
+        requires { has same_id self.old.seen (label d.now).id ≡ false }
+        ensures { OnOk result (walk_of self.new ≡ visited preorder d.now (walk_of self.old)) }
+    {
         self.visit_inside(d, preorder)?;
         self.seen.put(d.digested_id())?;
         Ok(())

@@ -18,13 +18,13 @@ ends d pre seen items w p q r h = h ∙ λ j. visited (r j) d (record { seen = p
 pub returns-clause-items : goal.returns-clause-items
 returns-clause-items c =
     let d = c.args.self.now in
-    let e = ends d c.is_preorder.result c.new.result c.new-2.result (walk_of c.visit.new.self) c.new.ensures c.new-2.ensures
+    let e = ends d c.is_preorder.result c.in_ok-seen.seen c.in_ok-taken.taken (walk_of c.visit.new.self) c.in_ok-seen.ensures c.in_ok-taken.ensures
     (c.is_preorder.ensures ∙ ap is_preorder c.order.ensures) c.in_ok-visit.ensures in
     c.of.ensures ∙ ap (λ w. w.items) e
 
 pub returns-clause-steps : goal.returns-clause-steps
 returns-clause-steps c =
     let d = c.args.self.now in
-    let e = ends d c.is_preorder.result c.new.result c.new-2.result (walk_of c.visit.new.self) c.new.ensures c.new-2.ensures
+    let e = ends d c.is_preorder.result c.in_ok-seen.seen c.in_ok-taken.taken (walk_of c.visit.new.self) c.in_ok-seen.ensures c.in_ok-taken.ensures
     (c.is_preorder.ensures ∙ ap is_preorder c.order.ensures) c.in_ok-visit.ensures in
     ap (λ w. w.steps) e

@@ -1,4 +1,4 @@
-use Rattle.std.proofs.Common.{◌≡◌, sym, ap, ◌∙◌, refl, arith, cond, subst, slice_get, Some, false}
+use Rattle.std.proofs.Common.{◌≡◌, sym, ap, ◌∙◌, refl, arith, cond, subst, slice_get, Some}
 use Rattle.depsets.specs.Rose.{label, child_lighter}
 use Rattle.depsets.specs.Walker.{walk_of}
 use Rattle.depsets.specs.Keys.{keep, has}
@@ -15,17 +15,20 @@ visit_children-visit-requires t c =
     (subst (λ l. slice_get l c.loop-i.i ≡ Some c.in_ok-child.child.now) c.children-children.ensures c.in_ok-child.ensures.item) in
     (omega (arith, c.decreases, h), tt)
 
-pub visit-returns : goal.visit-returns
-visit-returns t c =
+pub visit-visit_new-requires : goal.visit-visit_new-requires
+visit-visit_new-requires t c =
+    (omega (arith, c.decreases), ap (has same_id c.args.self.now.seen) (sym c.digested_id.ensures) ∙ sym c.contains.ensures ∙ c.if-contains.false)
+
+pub visit_new-returns : goal.visit_new-returns
+visit_new-returns t c =
     let s = walk_of c.args.self.now in
     let d = c.args.d.now in
     let put = λ (r : Walk Id Element). let w : Walk Id Element = record { seen = keep same_id r.seen (label d).id; items = r.items; steps = r.steps } in w in
     let m = walk_of c.visit_inside.new.self in
-    let seen = c.in_ok-put.ensures ∙ ap (keep same_id m.seen) c.digested_id-2.ensures in
-    let unseen : has same_id s.seen (label d).id ≡ false = ap (has same_id s.seen) (sym c.digested_id.ensures) ∙ sym c.contains.ensures ∙ c.if-contains.false in
+    let seen = c.in_ok-put.ensures ∙ ap (keep same_id m.seen) c.digested_id.ensures in
     (λ j. record { seen = seen j; items = m.items; steps = m.steps })
     ∙ ap put c.in_ok-visit_inside.ensures
-    ∙ sym (visited_is c.args.preorder d s ∙ ap (λ b. cond b s (put (inside c.args.preorder d s))) unseen)
+    ∙ sym (visited_is c.args.preorder d s ∙ ap (λ b. cond b s (put (inside c.args.preorder d s))) c.requires)
 
 pub visit_children-loop-i-preserved : goal.visit_children-loop-i-preserved
 visit_children-loop-i-preserved t c =

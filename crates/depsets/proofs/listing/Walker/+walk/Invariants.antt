@@ -10,10 +10,13 @@ invariant-visit_children-loop-i l =
     ≡ visited_all l.preorder l.children (walk_of l.initial.self)
 
 abbrev pub decreases-visit : goal.decreases-visit
-decreases-visit l = 3 * weight l.d.now + 2
+decreases-visit l = 4 * weight l.d.now + 3
+
+abbrev pub decreases-visit_new : goal.decreases-visit_new
+decreases-visit_new l = 4 * weight l.d.now + 2
 
 abbrev pub decreases-visit_inside : goal.decreases-visit_inside
-decreases-visit_inside l = 3 * weight l.d.now + 1
+decreases-visit_inside l = 4 * weight l.d.now + 1
 
 abbrev pub decreases-visit_children : goal.decreases-visit_children
-decreases-visit_children l = 3 * weight l.d.now
+decreases-visit_children l = 4 * weight l.d.now
