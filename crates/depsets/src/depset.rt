@@ -108,7 +108,7 @@ struct Node {
 }
 
 /// For how many ids and items a listing takes memory at its beginning. It is a guess, of which no contract speaks: what a child has
-/// that has most, and what the others have of their own. So it is no more than the links and elements along one way down.
+/// that has most, and one for each other child. So it is no more than the links and elements along one way down.
 #[derive(Clone, Copy)]
 pub(crate) struct Room {
     pub(crate) ids: u32,
@@ -272,22 +272,21 @@ fn digested(alloc: Global, elements: Vec<Element>) -> Result<Vec<DigestedElement
     Ok(all)
 }
 
-/// The room for a depset of these elements over these children.
+/// The room for a depset of these elements over these children: each child but the one that has most counts as one.
 fn room_over(direct: &[DigestedElement], children: &[Depset]) -> Room {
     let mut most = Room { ids: 0, items: 0 };
-    let mut own = count(direct.len());
     for child in children {
         let room = child.room();
         most.ids = most.ids.max(room.ids);
         most.items = most.items.max(room.items);
-        own = own.saturating_add(count(child.direct().len()));
     }
+    let others = count(children.len()).saturating_sub(1);
     Room {
-        ids: most
-            .ids
-            .saturating_add(count(children.len()))
-            .saturating_add(1),
-        items: most.items.saturating_add(own),
+        ids: most.ids.saturating_add(others).saturating_add(1),
+        items: most
+            .items
+            .saturating_add(others)
+            .saturating_add(count(direct.len())),
     }
 }
 
