@@ -186,7 +186,7 @@ impl<'a> Walker<'a> {
         self.visit_new(d, preorder)
     }
 
-    /// Visits a depset whose id wasn't seen.
+    /// Visits a depset whose id wasn't seen. A level of a depset takes one call, of this function.
     #[cycle(walk)]
     #[inline(never)]
     fn visit_new(&mut self, d: &'a Depset, preorder: bool) -> Result<(), AllocError>
@@ -200,6 +200,7 @@ impl<'a> Walker<'a> {
 
     /// Takes the elements of the depset and visits its children, in the order asked.
     #[cycle(walk)]
+    #[inline(always)]
     fn visit_inside(&mut self, d: &'a Depset, preorder: bool) -> Result<(), AllocError>
         ensures { OnOk result (walk_of self.new ≡ inside preorder d.now (walk_of self.old)) }
     {
@@ -213,6 +214,7 @@ impl<'a> Walker<'a> {
 
     /// Visits each child in turn.
     #[cycle(walk)]
+    #[inline(always)]
     fn visit_children(&mut self, d: &'a Depset, preorder: bool) -> Result<(), AllocError>
         ensures { OnOk result (walk_of self.new
             ≡ visited_all preorder (children d.now) (walk_of self.old)) }
