@@ -107,8 +107,11 @@ struct Node {
     room: Room,
 }
 
-/// For how many ids and items a listing takes memory at its beginning. It is a guess, of which no contract speaks: what a child has
-/// that has most, and one for each other child. So it is no more than the links and elements along one way down.
+/// The greatest room: a depset can have one child a million times, and its listing takes no memory for that.
+const GREATEST_ROOM: u32 = 4096;
+
+/// For how many ids and items a listing takes memory at its beginning, 4,096 at most. It is a guess, of which no contract speaks: the
+/// depset, its own elements, what a child has that has most, and one for each other child.
 #[derive(Clone, Copy)]
 pub(crate) struct Room {
     pub(crate) ids: u32,
@@ -281,12 +284,12 @@ fn room_over(direct: &[DigestedElement], children: &[Depset]) -> Room {
         most.items = most.items.max(room.items);
     }
     let others = count(children.len()).saturating_sub(1);
+    let ids = most.ids.saturating_add(others).saturating_add(1);
+    let items = most.items.saturating_add(others);
+    let items = items.saturating_add(count(direct.len()));
     Room {
-        ids: most.ids.saturating_add(others).saturating_add(1),
-        items: most
-            .items
-            .saturating_add(others)
-            .saturating_add(count(direct.len())),
+        ids: ids.min(GREATEST_ROOM),
+        items: items.min(GREATEST_ROOM),
     }
 }
 

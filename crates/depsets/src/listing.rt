@@ -36,7 +36,7 @@ pub enum ListError {
     /// The listing has more than 1,048,576 items.
     #[error("a list has at most 1,048,576 items")]
     Large,
-    /// Memory for the items was refused, or the steps passed the greatest number.
+    /// Memory was refused, or the steps passed the greatest number.
     #[error("no memory")]
     NoMemory,
 }
@@ -50,7 +50,7 @@ impl Depset {
     ///
     /// # Errors
     ///
-    /// `AllocError` where memory for the items was refused, or where the steps pass the greatest `u64`.
+    /// `AllocError` where memory was refused, or where the steps pass the greatest `u64`.
     pub fn list_whole(&self, alloc: Global) -> Result<Listing<'_>, AllocError>
         ensures walk { IfOk result (λ l. l.items ≡ walked self.now) }
         ensures items { IfOk result (λ l. IsCoherent self.now → l.items ≡ flat self.now) }
@@ -174,7 +174,7 @@ impl<'a> Walker<'a> {
         Ok(())
     }
 
-    /// Visits the depset, unless its id was seen. Most links lead to one that was, which is found where the call stands.
+    /// Visits the depset, unless its id was seen. Where parts are shared most links lead to one that was, which is found in the loop.
     #[cycle(walk)]
     #[inline(always)]
     fn visit(&mut self, d: &'a Depset, preorder: bool) -> Result<(), AllocError>

@@ -20,7 +20,7 @@ pub(crate) fn empty<T: Drop>(items: &mut Vec<T>)
     }
 }
 
-/// Puts an item last. Where there is room for it, as there mostly is, that is done where the call stands.
+/// Puts an item last, as `plain::push_last`; but what is done without room for it, which is rare, stands apart.
 #[inline(always)]
 pub(crate) fn put_last<T: Drop>(items: &mut Vec<T>, item: T) -> Result<(), AllocError>
     ensures { IfOk result (λ _. items.new.items ≡ items.old.items ++ item ∷ []) }
@@ -29,12 +29,12 @@ pub(crate) fn put_last<T: Drop>(items: &mut Vec<T>, item: T) -> Result<(), Alloc
         items.push_reserved(item);
         Ok(())
     } else {
-        put_in_more(items, item)
+        put_without_room(items, item)
     }
 }
 
 #[inline(never)]
-fn put_in_more<T: Drop>(items: &mut Vec<T>, item: T) -> Result<(), AllocError>
+fn put_without_room<T: Drop>(items: &mut Vec<T>, item: T) -> Result<(), AllocError>
     ensures { IfOk result (λ _. items.new.items ≡ items.old.items ++ item ∷ []) }
 {
     items.push(item)?;
