@@ -1,8 +1,6 @@
 //! Lists that are used again.
 
-ghost use Rattle.std.specs.Prelude.{◌≡◌, ◌++◌, ◌∷◌, [], IfOk};
-
-use std::alloc::AllocError;
+ghost use Rattle.std.specs.Prelude.{◌≡◌, []};
 
 /// For so many items the memory is kept where a list is used again.
 const KEPT: usize = 1024;
@@ -18,27 +16,6 @@ pub(crate) fn empty<T: Drop>(items: &mut Vec<T>)
     if items.capacity() > KEPT {
         shrink(items);
     }
-}
-
-/// Puts an item last, as `plain::push_last`; but what is done without room for it, which is rare, stands apart.
-#[inline(always)]
-pub(crate) fn put_last<T: Drop>(items: &mut Vec<T>, item: T) -> Result<(), AllocError>
-    ensures { IfOk result (λ _. items.new.items ≡ items.old.items ++ item ∷ []) }
-{
-    if items.len() < items.capacity() {
-        items.push_reserved(item);
-        Ok(())
-    } else {
-        put_without_room(items, item)
-    }
-}
-
-#[inline(never)]
-fn put_without_room<T: Drop>(items: &mut Vec<T>, item: T) -> Result<(), AllocError>
-    ensures { IfOk result (λ _. items.new.items ≡ items.old.items ++ item ∷ []) }
-{
-    items.push(item)?;
-    Ok(())
 }
 
 #[inline(never)]

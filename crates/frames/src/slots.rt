@@ -4,8 +4,9 @@ ghost use Rattle.std.specs.Prelude.{◌≡◌, ◌<◌, ◌-◌, [], ◌∷◌, 
 ghost use Rattle.meaning.specs.Outcome.{put, cleared};
 ghost use Rattle.values.specs.declared.value.Value as held;
 
-use crate::emptying::{empty, put_last};
+use crate::emptying::empty;
 use operands::Operand;
+use plain::push_last;
 use std::alloc::{AllocError, Global};
 use std::marker::Model;
 
@@ -78,7 +79,7 @@ impl<'a> Slots<'a> {
     pub fn push(&mut self, value: Option<Operand<'a>>) -> Result<(), AllocError>
         ensures { IfOk result (λ _. self.new ≡ self.old ++ value.entry ∷ []) }
     {
-        put_last(&mut self.items, value)
+        push_last(&mut self.items, value)
     }
 
     /// A slot that is there gets a value, or is emptied.

@@ -2,7 +2,8 @@
 
 ghost use Rattle.std.specs.Prelude.{◌≡◌, List, [], ◌∷◌, length, reverse, IfOk, MatchOption};
 
-use crate::emptying::{empty, put_last};
+use crate::emptying::empty;
+use plain::push_last;
 use std::alloc::{AllocError, Global};
 use std::marker::Model;
 
@@ -61,7 +62,7 @@ impl<T> Stack<T> {
         T: Drop,
         ensures { IfOk result (λ _. self.new ≡ item ∷ self.old) }
     {
-        put_last(&mut self.items, item)
+        push_last(&mut self.items, item)
     }
 
     /// Takes the item off the top.

@@ -11,8 +11,17 @@ pub fn push_last<T: Drop>(items: &mut Vec<T>, item: T) -> Result<(), AllocError>
 {
     if items.len() < items.capacity() {
         items.push_reserved(item);
-    } else {
-        items.push(item)?;
+        return Ok(());
     }
+    push_without_room(items, item)
+}
+
+/// Puts an item last where there is no room for it. That is rare, so it stands apart.
+#[inline(never)]
+fn push_without_room<T: Drop>(items: &mut Vec<T>, item: T) -> Result<(), AllocError>
+    ensures ok { OnOk result (items.new.items ≡ items.old.items ++ item ∷ []) }
+    ensures err { OnErr result (items.new.items ≡ items.old.items) }
+{
+    items.push(item)?;
     Ok(())
 }

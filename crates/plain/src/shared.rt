@@ -26,6 +26,7 @@ impl<T> Model for Shared<T> {
 
 impl<T> Shared<T> {
     /// The value.
+    #[inline(always)]
     pub fn get(&self) -> &T
         ensures { result.now ≡ self.now }
     {

@@ -56,6 +56,7 @@ impl Text {
     }
 
     /// Its bytes, as a `str`.
+    #[inline(always)]
     pub fn as_str(&self) -> &str
         ensures { result.now ≡ self.now }
     {
@@ -98,6 +99,7 @@ impl PartialEq for Text {
 
     ghost laws = { partial_equiv_from_equiv nat_list_eq_equiv };
 
+    #[inline(always)]
     fn eq(&self, other: &Text) -> bool {
         self.as_str() == other.as_str()
     }

@@ -45,6 +45,7 @@ impl TextBytes {
     }
 
     /// As a `str`.
+    #[inline(always)]
     pub(crate) fn as_str(&self) -> &str
         ensures { result.now ≡ bytes_of self.now }
     {
