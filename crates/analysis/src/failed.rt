@@ -1,24 +1,13 @@
 //! Dependencies that failed.
 ghost use Rattle.std.specs.Prelude.{◌≡◌, ◌++◌, ◌∷◌, [], IfOk, OnOk};
-ghost use Rattle.targets.specs.Steps.{is_failed, failed_labels};
+ghost use Rattle.targets.specs.Steps.{failed_labels};
 ghost use Rattle.analysis.specs.Seen.{dependency_seen, dependencies_seen};
 
 use crate::dependency::Dependency;
 use plain::Shared;
 use std::alloc::{AllocError, Global};
-use targets::{Outcome, Sequence};
+use targets::Sequence;
 use workspace::Label;
-
-/// Whether an outcome is a failure.
-fn is_failed(outcome: &Outcome) -> bool
-    ensures { result ≡ is_failed outcome.now }
-{
-    match outcome {
-        Outcome::Source(_) => false,
-        Outcome::Done(_, _) => false,
-        Outcome::Failed(_) => true,
-    }
-}
 
 /// The labels of the dependencies that failed, in order.
 pub fn failed_labels(
@@ -42,7 +31,7 @@ fn note_failed(
     ensures { OnOk result (failed.new ≡ failed.old
         ++ failed_labels (dependencies_seen (dependency.now ∷ []))) }
 {
-    if is_failed(dependency.outcome) {
+    if dependency.outcome.is_failed() {
         failed.push(dependency.label.share()?)?;
     }
     Ok(())

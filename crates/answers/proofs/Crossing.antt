@@ -8,7 +8,7 @@ use Rattle.loader.proofs.Crossing.{loaded_sync}
 use Rattle.packages.proofs.Crossing.{package_sync}
 use Rattle.packages.specs.contracts.all_targets.Targets as Targets
 use Rattle.graph.proofs.graph.Graph.TheSendSync as graph
-use Rattle.reporting.proofs.Crossing.{outcome_send, outcome_sync}
+use Rattle.targets.proofs.Crossing.{outcome_send, outcome_sync}
 
 pub targets_sync : IsSync Targets.the_row
 targets_sync = search (loaded_sync, package_sync, failing.the_field_sync, text.the_sync, std.crosses, sendable) depth 60 fits 20000

@@ -38,6 +38,7 @@ impl Shelving<StealShelf> for Deques {
 /// One queue under a lock, for which workers wait.
 #[derive(Clone, Copy)]
 pub struct OneQueue<'r, R> {
+    /// What makes a worker wait for the lock, and wakes it.
     pub rt: &'r R,
 }
 

@@ -5,6 +5,9 @@
 //! the functions that can be called are linked ([`Linked`]). Each instruction that calls a function, makes one or can end one
 //! is a function here, exact against what the machine of crate `meaning` does; those that touch one frame alone are crate
 //! `frames`, and the loop over instructions is crate `machine`.
+//!
+//! Errors: [`frames::Stop`] has the kind of a fault with its file and line, or says that memory was refused; `AllocError`
+//! says the latter alone. What runs and the state are open then, and the run ends.
 #![tactic(auto)]
 
 mod active;

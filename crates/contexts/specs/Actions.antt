@@ -30,6 +30,7 @@ use Rattle.contexts.specs.declared.method.ActionMethod.{ActionMethod}
 use Rattle.contexts.specs.declared.method.ActionMethod.TheVariants as method
 use Rattle.contexts.specs.declared.work.Work.{Work}
 
+-- the method of `ctx.actions` of this name, if there is one
 abbrev pub method_named : List ℕ → Option ActionMethod
 method_named x =
     if bytes_eq x (codes "declare_file") then Some method.DeclareFile else
@@ -44,6 +45,7 @@ Working = Result (Value × Work) Kind
 
 -- ---- ctx.actions.declare_file(name)
 
+-- the label of this name in the package of another label
 abbrev pub below : LabelParts → List ℕ → LabelParts
 below l name = record l { name = name }
 
@@ -51,6 +53,7 @@ below l name = record l { name = name }
 abbrev pub file_named : LabelParts → List ℕ → FileRef
 file_named l name = record { path = label_path (below l name); owner = label_text l }
 
+-- the work with one declared File more
 abbrev pub with_file : Work → FileRef → Work
 with_file w f = record w { files = w.files ++ f ∷ [] }
 
@@ -61,15 +64,18 @@ declared l w name =
     if is_among (file_named l name) w.files then Err fault.Key else
     Ok (value.Leaf (plain.File (file_named l name)), with_file w (file_named l name))
 
+-- a call of it, for the target of a label; a name that is no string is `type`
 abbrev pub declare_file : LabelParts → List Cell → Given → Work → Working
 declare_file l h g w = then_give (argument (codes "name") g) (λ v. of_type (string_in (shape h v)) (declared l w))
 
 -- ---- an action more: an output that isn't among the declared Files is `place`, as each File is whose owner is another label;
 -- and one that stands there twice is `key`
 
+-- the work with one registered action more
 abbrev pub with_action : Work → Action → Work
 with_action w a = record w { actions = w.actions ++ a ∷ [] }
 
+-- the action is registered, and the call gives None
 abbrev pub registered : Work → Action → Working
 registered w a =
     if not (list_all (λ f. is_among f w.files) a.outputs) then Err fault.Place else
@@ -78,29 +84,36 @@ registered w a =
 
 -- ---- ctx.actions.write(output, content)
 
+-- the File that a leaf is, if it is one
 abbrev pub leaf_file : Leaf → Option FileRef
 leaf_file (plain.File f) = Some f
 leaf_file _ = None
 
+-- the File that a value is, if it is one
 abbrev pub file_in : Shape → Option FileRef
 file_in (atom l) = leaf_file l
 file_in _ = None
 
+-- both have to be given, by position or by name
 abbrev pub write_parameters : List Parameter
 write_parameters = wanted (codes "output") ∷ wanted (codes "content") ∷ []
 
+-- the action that writes these bytes to a File; it has no inputs and no words
 abbrev pub file_write : FileRef → List ℕ → Action
 file_write f content =
     record { mnemonic = codes "FileWrite"; outputs = f ∷ []; inputs = inputs.Files []; words = []; content = Some content }
 
+-- `type` where the output is no File or the content is no string, and else the action is registered
 abbrev pub written : Work → Option FileRef → Option (List ℕ) → Working
 written w (Some f) (Some t) = registered w (file_write f t)
 written w _ _ = Err fault.Wrong
 
+-- what a call of `write` does with what its two parameters got
 abbrev pub write_with : List Cell → Work → Bound → Working
 write_with h w (Some f ∷ Some t ∷ []) = written w (file_in (shape h f)) (string_in (shape h t))
 write_with h w _ = Err fault.Arity
 
+-- a call of `write`
 abbrev pub write : List Cell → Given → Work → Working
 write h g w = then_give (bound write_parameters g) (write_with h w)
 
@@ -110,6 +123,7 @@ write h g w = then_give (bound write_parameters g) (write_with h w)
 abbrev pub needed : List ℕ → Parameter
 needed x = record { name = x; by_name = true; may_miss = false }
 
+-- the parameters of both methods, which differ in one word: `executable` or `command`
 abbrev pub run_parameters : List ℕ → List Parameter
 run_parameters word =
     needed (codes "outputs") ∷ needed word ∷ named_only (codes "inputs") ∷ named_only (codes "arguments") ∷ named_only (codes "mnemonic") ∷ []
@@ -125,19 +139,23 @@ abbrev pub leaf_path : Leaf → Option (List ℕ)
 leaf_path (plain.File f) = Some f.path
 leaf_path _ = None
 
+-- the first word of the action that `executable` gives, if it is one of these
 abbrev pub executable_in : Shape → Option (List ℕ)
 executable_in (key (index.Text t)) = Some t
 executable_in (atom l) = leaf_path l
 executable_in _ = None
 
+-- Files as the inputs of an action, or the fault of reading them
 abbrev pub files_from : Result (List FileRef) Kind → Result Inputs Kind
 files_from (Ok fs) = Ok (inputs.Files fs)
 files_from (Err k) = Err k
 
+-- a depset as the inputs of an action, or the fault of reading it
 abbrev pub depset_from : Result (Rose Own) Kind → Result Inputs Kind
 depset_from (Ok d) = Ok (inputs.Depset d)
 depset_from (Err k) = Err k
 
+-- the inputs that a leaf gives: a depset that is empty or of Files, and else `type`
 abbrev pub leaf_inputs : Leaf → Result Inputs Kind
 leaf_inputs (plain.Depset d) = depset_from (only_files d)
 leaf_inputs _ = Err fault.Wrong
@@ -148,6 +166,7 @@ shown_inputs h (items j xs) = files_from (all_in file_in h xs)
 shown_inputs h (atom l) = leaf_inputs l
 shown_inputs h _ = Err fault.Wrong
 
+-- what `inputs` gives; where it isn't given there are none
 abbrev pub inputs_in : List Cell → Option Value → Result Inputs Kind
 inputs_in h None = Ok (inputs.Files [])
 inputs_in h (Some v) = shown_inputs h (shape h v)
@@ -156,12 +175,15 @@ inputs_in h (Some v) = shown_inputs h (shape h v)
 abbrev pub is_letter : ℕ → Bool
 is_letter b = (nat_le 65 b && nat_le b 90) || (nat_le 97 b && nat_le b 122)
 
+-- whether a text is made of letters alone, of one at least
 abbrev pub is_mnemonic : List ℕ → Bool
 is_mnemonic t = not (nat_eq (length t) 0) && list_all is_letter t
 
+-- the text, if it may be a mnemonic
 abbrev pub if_mnemonic : List ℕ → Option (List ℕ)
 if_mnemonic t = if is_mnemonic t then Some t else None
 
+-- what `mnemonic` gives: `Action` where it isn't given, and `type` where it is no such string
 abbrev pub mnemonic_in : List Cell → Option Value → Result (List ℕ) Kind
 mnemonic_in h None = Ok (codes "Action")
 mnemonic_in h (Some v) = of_type (option_and_then if_mnemonic (string_in (shape h v))) Ok
@@ -170,10 +192,12 @@ mnemonic_in h (Some v) = of_type (option_and_then if_mnemonic (string_in (shape 
 abbrev pub with_strings : List Cell → List Value → List (List ℕ) → Result (List (List ℕ)) Kind
 with_strings h vs words = gathered (λ v ws. put_last ws (string_in (shape h v))) vs words
 
+-- what `arguments` gives, after the first word; what is no sequence of strings is `type`
 abbrev pub words_in : List Cell → List ℕ → Option Value → Result (List (List ℕ)) Kind
 words_in h word None = Ok (word ∷ [])
 words_in h word (Some v) = of_type (sequence_in (shape h v)) (λ vs. with_strings h vs (word ∷ []))
 
+-- the action of these outputs, inputs, words and mnemonic; it writes no content of its own
 abbrev pub action_with : List FileRef → Inputs → List (List ℕ) → List ℕ → Action
 action_with outputs from words mnemonic =
     record { mnemonic = mnemonic; outputs = outputs; inputs = from; words = words; content = None }
@@ -185,23 +209,28 @@ action_of h outputs word from arguments mnemonic =
     then_give (words_in h t arguments) (λ ws. then_give (mnemonic_in h mnemonic) (λ m.
     Ok (action_with fs is ws m))))))
 
+-- what a call of either method does with what its parameters got
 abbrev pub run_with : (Shape → Option (List ℕ)) → List Cell → Work → Bound → Working
 run_with word_in h w (Some outputs ∷ Some word ∷ from ∷ arguments ∷ mnemonic ∷ []) =
     then_give (some_outputs (sequence_in (shape h outputs))) (λ vs.
     then_give (action_of h vs (word_in (shape h word)) from arguments mnemonic) (registered w))
 run_with word_in h w _ = Err fault.Arity
 
+-- a call of either method, by the word of its own and by what that may be
 abbrev pub run_of : List ℕ → (Shape → Option (List ℕ)) → List Cell → Given → Work → Working
 run_of word word_in h g w = then_give (bound (run_parameters word) g) (run_with word_in h w)
 
+-- a call of `run`
 abbrev pub run : List Cell → Given → Work → Working
 run h g w = run_of (codes "executable") executable_in h g w
 
+-- a call of `run_shell`, whose command is a string
 abbrev pub run_shell : List Cell → Given → Work → Working
 run_shell h g w = run_of (codes "command") string_in h g w
 
 -- ---- a call of a method
 
+-- what each method does, for the target of a label
 abbrev pub method_call : LabelParts → ActionMethod → List Cell → Given → Work → Working
 method_call l method.DeclareFile h g w = declare_file l h g w
 method_call l method.Write h g w = write h g w

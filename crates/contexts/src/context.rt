@@ -29,8 +29,11 @@ use workspace::Label;
 /// `ctx.files` that were read. In the type of these, `I` stands for the target.
 #[derive(Drop)]
 pub struct TargetContext<'a, I: FileLists> {
+    /// The target's label.
     pub label: &'a Label,
+    /// The target.
     pub target: &'a Target,
+    /// Its dependencies with their outcomes.
     pub dependencies: Dependencies<'a>,
     own_label: Value,
     attributes: Option<AttributeValues<'a>>,

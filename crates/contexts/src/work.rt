@@ -13,7 +13,9 @@ use targets::Actions;
 /// The Files that an implementation has declared and the actions that it has registered, both in order.
 #[derive(Drop)]
 pub struct Work {
+    /// The Files that were declared.
     pub files: DeclaredFiles,
+    /// The actions that were registered.
     pub actions: Actions,
 }
 

@@ -1,30 +1,7 @@
--- Outcomes may cross threads.
-use denote.Param.Send.{IsSend, IsSync, sendable}
+-- Frozen values and outcomes may cross threads.
+use denote.Param.Send.{sendable}
 use Rattle.std.proofs.Crossing as std
-use Rattle.depsets.proofs.element.FileRef.TheSendSync as file
 use Rattle.values.proofs.Crossing.{frozen_send, frozen_sync}
-use Rattle.actions.proofs.Crossing.{action_send, action_sync}
-use Rattle.crossing_tests.proofs.outcome.TargetFault.TheSendSync as fault
-use Rattle.crossing_tests.specs.contracts.outcome.Actions as Actions
-use Rattle.crossing_tests.specs.contracts.outcome.Providers as Providers
-use Rattle.crossing_tests.specs.contracts.outcome.Outcome as Outcome
+use Rattle.targets.proofs.Crossing.{outcome_send, outcome_sync}
 
-pub providers_send : IsSend Providers.the_row
-providers_send = search (frozen_send, std.crosses, sendable) depth 60 fits 20000
-
-pub providers_sync : IsSync Providers.the_row
-providers_sync = search (frozen_sync, std.crosses, sendable) depth 60 fits 20000
-
-pub actions_send : IsSend Actions.the_row
-actions_send = search (action_send, std.crosses, sendable) depth 60 fits 20000
-
-pub actions_sync : IsSync Actions.the_row
-actions_sync = search (action_sync, std.crosses, sendable) depth 60 fits 20000
-
-pub outcome_send : IsSend Outcome.the_row
-outcome_send = search (file.the_send, file.the_sync, providers_send, actions_send, fault.the_field_send, std.crosses, sendable) depth 60 fits 20000
-
-pub outcome_sync : IsSync Outcome.the_row
-outcome_sync = search (file.the_send, file.the_sync, providers_sync, actions_sync, fault.the_field_sync, std.crosses, sendable) depth 60 fits 20000
-
-pub ruleset crosses = (frozen_send, frozen_sync, action_send, action_sync, outcome_send, outcome_sync, std.crosses, sendable)
+pub ruleset crosses = (frozen_send, frozen_sync, outcome_send, outcome_sync, std.crosses, sendable)

@@ -1,15 +1,13 @@
-//! What workers hand to each other may cross threads: frozen values, lists of them, actions, and an outcome of a node.
+//! What workers hand to each other may cross threads: frozen values, lists of them, actions, and what becomes of a label.
 //!
 //! Each function here asks of one type that it is `Send`, `Sync` and `Drop`; that the crate is proved is the test. The
 //! facts stand in a file `proofs/Crossing.antt` beside each type: of a type that leads back to itself the prover's own
 //! search doesn't find them.
 #![tactic(auto)]
 
-mod outcome;
-
 use actions::Action;
 use board::Board;
-pub use outcome::{Actions, Outcome, Providers, TargetFault};
+use targets::{Outcome, TargetFault};
 use values::{Frozen, Leaf};
 
 fn crosses<T: Send + Sync + Drop>(_value: &T) {}
@@ -39,12 +37,12 @@ pub fn fault_crosses(fault: &TargetFault) {
     crosses(fault);
 }
 
-/// What becomes of a node.
+/// What becomes of a label.
 pub fn outcome_crosses(outcome: &Outcome) {
     crosses(outcome);
 }
 
-/// The board that has the outcomes of all nodes.
+/// The board that has what becomes of all labels.
 pub fn board_crosses(board: &Board<Outcome>) {
     crosses(board);
 }

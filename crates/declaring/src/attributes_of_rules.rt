@@ -2,7 +2,7 @@
 ghost use Rattle.std.specs.Prelude.{◌≡◌, IfOk, option_copied, option_and_then};
 ghost use Rattle.std.specs.List.{list_all};
 ghost use Rattle.values.specs.Seeing.{seen, table_entries, item_value};
-ghost use Rattle.targets.specs.Attributes.{is_attribute, are_attributes, is_private};
+ghost use Rattle.targets.specs.Attributes.{is_attribute, are_attributes};
 ghost use Rattle.targets.specs.RuleCalls.{each_of};
 ghost use Rattle.declaring.specs.RuleMaking.{reference_in, declaration, declaration_in, attribute_entry};
 ghost use Rattle.declaring.specs.RuleMaking.{attributes_shown, attributes_in, if_attributes};
@@ -14,7 +14,7 @@ use operands::Operand;
 use operations::State;
 use plain::{Shared, Text};
 use std::alloc::{AllocError, Global};
-use targets::{Attribute, NamedAttribute, Sequence};
+use targets::{Attribute, NamedAttribute, Sequence, is_private};
 use values::{AttributeRef, Item, Key, Leaf, Seen, Table, Value};
 
 /// What a module sees of declarations while it is evaluated: its own, and those of the modules before it.
@@ -173,14 +173,4 @@ fn is_attribute(named: &NamedAttribute) -> bool
         return false;
     }
     !is_private(named.name.as_str()) || named.attribute.get().default.is_some()
-}
-
-/// Whether an attribute of this name is private.
-fn is_private(name: &str) -> bool
-    ensures { result ≡ is_private name.now }
-{
-    match name.as_bytes() {
-        [first, ..] => *first == b'_',
-        [] => false,
-    }
 }

@@ -64,12 +64,15 @@ pub record OfTarget (W : Type 0) : Type 0 where
 
 -- ---- The state before anything was done: of a file, no name of its top level is bound, and no function has defaults.
 
+-- the program of a file without names and statements
 abbrev pub no_program : Program
 no_program = record { globals = []; loaded = 0; slots = 0; steps = no_steps }
 
+-- the program of the file of this number; it is empty where there is no such file
 abbrev pub program_at : Files → ℕ → Program
 program_at files n = unwrap_or (slice_get files n) no_program
 
+-- of a file, by the limit of its ticks, its path, its number and its program
 abbrev pub state_of_file : ℕ → Path → ℕ → Program → State
 state_of_file limit path n p =
     record {
@@ -117,9 +120,11 @@ all_frozen h globals defaults c =
 
 -- ---- What a module comes to.
 
+-- the names that a module's globals give to what the module made
 abbrev pub naming_of : Path → ℕ → List Name → List (Option FrozenTree) → Made → Naming
 naming_of path n names gs made = names_given (unnamed path n made) names gs
 
+-- what a module is: each provider and each rule in its globals and defaults bears its name
 abbrev pub module_named : Naming → List Name → List (Option FrozenTree) → List (Option Value) →
     List (List FrozenTree) → Made → Module
 module_named ns names gs loaded ds made =
@@ -137,6 +142,7 @@ abbrev pub if_named : Naming → List Name → List (Option FrozenTree) → List
 if_named ns names gs loaded ds made =
     if all_named ns then Ok (module_named ns names gs loaded ds made) else Err Unnamed
 
+-- the module, if freezing ended without a fault; such a fault stands at line 0
 abbrev pub module_of_frozen : Path → ℕ → List Name → List (Option Value) → Made →
     Ticking (List (Option FrozenTree) × List (List FrozenTree)) → Result Module (Ending Kind)
 module_of_frozen path n names loaded made (Err k) = Err (Faulted (record { kind = k; path = path; line = 0 }))
@@ -157,6 +163,7 @@ module _ (limit : ℕ) (files : Files) (paths : List Path) where
   placed f = record { kind = f.kind; path = path_at paths f.file; line = f.line }
 
   module _ {W : Type 0} (own : OfModule W) where
+    -- what becomes of a module once its top level has ended
     abbrev pub module_after : Path → ℕ → Final (Whole W) Value Kind → Result Module (Ending Kind)
     module_after path n (Err f) = Err (Faulted (placed f))
     module_after path n (Ok r) =
@@ -170,6 +177,7 @@ module _ (limit : ℕ) (files : Files) (paths : List Path) where
         (record { state = state_of_file limit path n (program_at files n); work = own.first }))
 
   module _ {W : Type 0} (own : OfBuild W) where
+    -- what becomes of a BUILD file once its top level has ended
     abbrev pub targets_after : Final (Whole W) Value Kind → Result (List Target) (Placed Kind)
     targets_after (Err f) = Err (placed f)
     targets_after (Ok r) = Ok (own.declared r.1.work)
@@ -183,6 +191,7 @@ module _ (limit : ℕ) (files : Files) (paths : List Path) where
         (record { state = state_of_file limit path n (program_at files n); work = own.first path }))
 
   module _ {W : Type 0} (own : OfTarget W) where
+    -- a fault at a place, as an outcome has it
     abbrev pub fault_placed : Placed Kind → outcome.Fault
     fault_placed f = record { kind = f.kind; path = f.path; line = f.line }
 
@@ -195,15 +204,18 @@ module _ (limit : ℕ) (files : Files) (paths : List Path) where
           line = unwrap_or (def_line files (function_id f.id)) 0;
         }
 
+    -- what an implementation gives, by its frozen result; a fault of freezing stands at the `def`
     abbrev pub implemented_with : FunctionRef → W → Ticking FrozenTree → Result outcome.Implemented outcome.Fault
     implemented_with f w (Err k) = Err (at_def f k)
     implemented_with f w (Ok r) = Ok (record { result = r.0; files = own.files w; actions = own.actions w })
 
+    -- what an implementation gives once its call has ended: its result is frozen
     abbrev pub target_after : FunctionRef → Final (Whole W) Value Kind → Result outcome.Implemented outcome.Fault
     target_after f (Err e) = Err (fault_placed (placed e))
     target_after f (Ok r) =
         implemented_with f r.1.work (freeze_at VISITED_LEVELS r.1.state.heap r.0 r.1.state.ticks)
 
+    -- the arguments of the call: `ctx`, by position
     abbrev pub with_context : Arguments Value
     with_context = record { items = value.Leaf (plain.Object object.Context) ∷ []; named = [] }
 

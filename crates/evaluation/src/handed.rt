@@ -58,6 +58,7 @@ pub struct Module {
     pub loaded: Fields,
     /// The frozen defaults of its functions, by the function's number and by parameter.
     pub defaults: Defaults,
+    /// The providers, rules and attributes that it made.
     pub made: Made,
 }
 

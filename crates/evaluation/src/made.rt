@@ -8,6 +8,8 @@ use targets::{Attribute, Rule, Sequence};
 pub struct Made {
     /// How many providers. Their fields stand in their values.
     pub providers: u32,
+    /// The rules, by number.
     pub rules: Sequence<Shared<Rule>>,
+    /// The attributes, by number.
     pub attributes: Sequence<Shared<Attribute>>,
 }

@@ -31,7 +31,7 @@ pub(crate) fn made_id(function: FunctionId) -> Option<MadeId>
 }
 
 /// The numbers of a function that a value keeps.
-pub(crate) fn function_id(id: MadeId) -> FunctionId
+pub fn function_id(id: MadeId) -> FunctionId
     ensures { id_seen result ≡ function_id id }
 {
     FunctionId {

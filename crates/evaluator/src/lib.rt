@@ -16,5 +16,6 @@ mod stacks;
 mod turns;
 mod world;
 
+pub use functions::function_id;
 pub use left::Left;
 pub use world::World;

@@ -22,9 +22,13 @@ use values::{Broken, Item, Kind, Leaf, Value};
 /// The linked files and the place of an evaluation. Its operations are those of the language.
 #[derive(Drop)]
 pub struct World<'a, L, P> {
+    /// Where memory is taken from.
     pub alloc: Global,
+    /// The files that are linked.
     pub linked: &'a L,
+    /// The module, `BUILD` file or implementation that is evaluated.
     pub place: &'a P,
+    /// The provider `DefaultInfo`.
     pub default_info: &'a DefaultInfo,
 }
 

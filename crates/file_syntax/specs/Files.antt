@@ -1,4 +1,5 @@
 -- The tree of a file, from its bytes, and the fault of a file that has none.
+-- (docs/PROFILE.md, "Passes"; this project's own choice.)
 use Rattle.std.specs.Prelude.{◌≡◌, ℕ, List, map, Option, Some, None, Result, Ok, Err}
 use Rattle.lexer.specs.declared.fault.FaultKind.TheVariants as kind
 use Rattle.lexer.specs.declared.fault.SyntaxFault.{SyntaxFault}

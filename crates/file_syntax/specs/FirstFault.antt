@@ -1,4 +1,5 @@
 -- The fault of a text that has no tree: the first of the five passes that finds one, and the first line where it does.
+-- (docs/PROFILE.md, "Passes"; this project's own choice.)
 use Rattle.std.specs.Prelude.{◌≡◌, ℕ, List, map, Some, Err}
 use Rattle.lexer.specs.declared.fault.FaultKind.TheVariants as pass
 use Rattle.lexer.specs.declared.fault.SyntaxFault.{SyntaxFault}

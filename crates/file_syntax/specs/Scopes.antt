@@ -1,8 +1,8 @@
 -- The rules of scopes, and the first line that breaks one.
 --
 -- That a file is refused before it runs where it breaks one, and the line at which it is, are this project's own choice;
--- the rules are the Starlark specification's ("Name binding and variables", "Function definitions", "Call expressions"),
--- but that no predeclared name is bound again and that nothing is added to a name of the top level.
+-- the rules are the Starlark specification's ("Name binding and variables", "Function definitions", "Function and method
+-- calls"), but that no predeclared name is bound again and that nothing is added to a name of the top level.
 use Rattle.std.specs.Prelude.{ℕ, Bool, true, false, not, ◌&&◌, List, [], ◌∷◌, ◌++◌, map, Option, Some, None, is_some, is_none}
 use Rattle.std.specs.List.{list_all}
 use Rattle.grammar.specs.Bare.{Tree, named, numeral, quoted, tuple, listing, dict, choice, operates, turned, selects, subscript, invokes, each, each_entry, Trees, no_trees, more_trees, Entries, no_entries, more_entries, Keywords, no_keywords, more_keywords, Rest, done, for_each, only_if}

@@ -15,7 +15,9 @@ use std::alloc::Global;
 /// A function written in Starlark: the number of its file among those that are linked, and its own number there.
 #[derive(Clone, Copy, PartialEq, Eq, Debug)]
 pub struct FunctionId {
+    /// The number of its file among those that are linked.
     pub file: usize,
+    /// Its own number there, from 1 on in the order of the text; 0 is the file's top level.
     pub number: usize,
 }
 
@@ -29,9 +31,13 @@ pub enum Callee<'a> {
 /// A walk that is open: what is walked, the items that are left, where its next turn begins, and where it goes on at its end.
 #[derive(Drop)]
 pub struct Walk<'a, T> {
+    /// What is walked.
     pub of: Operand<'a>,
+    /// The items that are left.
     pub items: T,
+    /// The place of the instruction where its next turn begins.
     pub head: usize,
+    /// The place of the instruction where it goes on at its end.
     pub end: usize,
 }
 
@@ -39,12 +45,19 @@ pub struct Walk<'a, T> {
 /// the innermost of which stands apart.
 #[derive(Drop)]
 pub struct Frame<'a, T> {
+    /// The function that runs.
     pub function: FunctionId,
+    /// The place of its next instruction.
     pub place: usize,
+    /// Its slots, by number.
     pub slots: Slots<'a>,
+    /// Its operands.
     pub values: Stack<Operand<'a>>,
+    /// What it will call.
     pub callees: Stack<Callee<'a>>,
+    /// The innermost open walk, if there is one.
     pub walk: Option<Walk<'a, T>>,
+    /// The open walks around that one.
     pub outer: Stack<Walk<'a, T>>,
 }
 

@@ -1,4 +1,4 @@
--- The graph of what is reached from labels.
+-- The graph of what is reached from labels. (docs/PROFILE.md, "Dependencies and nodes".)
 use Rattle.std.specs.Prelude.{◌≡◌, ◌↔◌, ℕ, ◌<◌, List, length, map}
 use Rattle.workspace.specs.Labels.{LabelParts}
 use Rattle.edges.specs.Walks.{Cyclic}

@@ -1,4 +1,4 @@
--- What is reached along dependencies.
+-- What is reached along dependencies. (docs/PROFILE.md, "Dependencies and nodes".)
 use Rattle.std.specs.Prelude.{◌↔◌, ℕ, ◌<◌, Bool, List, length, Contains}
 use Rattle.std.specs.List.{IsDistinct}
 use Rattle.edges.specs.Walks.{Leads}

@@ -1,4 +1,5 @@
 -- The record of operations over which files have their meaning: the operations on the state of an evaluation.
+-- (docs/PROFILE.md, "Operators" and "Predeclared names".)
 use Rattle.std.specs.Prelude.{ℕ, pos, Bool, true, false, not, List, map, Option, Some, None, option_map, Result, Ok, Err, if◌then◌else◌}
 use Rattle.numbers.specs.declared.order.Comparison.TheVariants as op
 use Rattle.grammar.specs.Tree.{Operator, either, both, equal, not_equal, less, greater, less_equal, greater_equal, within, not_within, add, subtract, multiply, divide, remainder, Sign, negation, opposite}
@@ -57,9 +58,11 @@ predeclared_value name.RuleFunction = value.Leaf (plain.BuiltIn built_in.Rule)
 predeclared_value name.AttrModule = value.Leaf (plain.Object object.Attr)
 predeclared_value name.DefaultInfo = value.Leaf (plain.Provider default_info)
 
+-- the answer of a test, as True or False
 abbrev pub as_truth : Op Bool → Op Value
 as_truth f s = then_do (f s) (λ b t. Ok (truth b, t))
 
+-- the opposite of a test's answer, as True or False
 abbrev pub as_opposite : Op Bool → Op Value
 as_opposite f s = then_do (f s) (λ b t. Ok (truth (not b), t))
 
@@ -81,7 +84,7 @@ binary_of remainder a b s = calculate arithmetic.Modulo a b s
 binary_of either a b s = Err kind.Wrong
 binary_of both a b s = Err kind.Wrong
 
--- the target that a value is, if it is one
+-- the target that a leaf is, if it is one
 abbrev pub leaf_target : Leaf → Option ℕ
 leaf_target (plain.Target n) = Some n
 leaf_target _ = None
@@ -91,6 +94,7 @@ abbrev pub leaf_of : Value → Option Leaf
 leaf_of (value.Leaf l) = Some l
 leaf_of _ = None
 
+-- the target that a value is, if it is one
 abbrev pub target_of : Value → Option ℕ
 target_of (value.Leaf l) = leaf_target l
 target_of _ = None
@@ -101,23 +105,29 @@ place_leaf (plain.Target n) = Some (plain.Target n)
 place_leaf (plain.Object o) = Some (plain.Object o)
 place_leaf _ = None
 
+-- the same, of a value
 abbrev pub of_place : Value → Option Leaf
 of_place (value.Leaf l) = place_leaf l
 of_place _ = None
 
+-- the arguments of a call, with their names and their values apart
 abbrev pub given_of : meant.Arguments Value → Given
 given_of a = record { items = a.items; names = map (λ n. n.0) a.named; values = map (λ n. n.1) a.named }
 
+-- the function of this number in a module
 abbrev pub function_id : MadeId → meant.FunctionId
 function_id id = record { file = id.«module»; number = id.number }
 
+-- and the other way round
 abbrev pub made_id : meant.FunctionId → MadeId
 made_id f = record { «module» = f.file; number = f.number }
 
+-- an answer as True or False, or its fault
 abbrev pub in_truth : Result Bool Kind → Result Value Kind
 in_truth (Ok b) = Ok (truth b)
 in_truth (Err k) = Err k
 
+-- the opposite of an answer, or its fault
 abbrev pub in_opposite : Result Bool Kind → Result Value Kind
 in_opposite (Ok b) = Ok (truth (not b))
 in_opposite (Err k) = Err k
@@ -129,27 +139,33 @@ module _ {W : Type 0} (world : Linked) (place : Place W) where
   with_target not_within p t (Some n) w = kept (in_opposite (place.offers n p w)) w
   with_target o a b _ w = of_state (binary_of o a b) w
 
+  -- `t[P]` of a target is its place's, and the item of any other value is the language's
   abbrev pub item_of : Value → Value → Option ℕ → Does W Value
   item_of t i (Some n) w = kept (place.item n i w) w
   item_of b i None w = of_state (item b i) w
 
+  -- a field of a target or of an object is its place's, and that of any other value is the language's
   abbrev pub field_of : Value → List ℕ → Option Leaf → Does W Value
   field_of v x (Some l) w = kept (place.field l x w) w
   field_of v x None w = of_state (field v x) w
 
+  -- what `v.x(..)` calls, by what was found as `x`: that value, or that method of `v`
   abbrev pub as_callee : Value → List ℕ → Found → meant.Callee Value
   as_callee v x (plainly u) = meant.plain u
   as_callee v x (with_method m) = meant.method v x
 
+  -- the value of a field is called, unless there is a fault
   abbrev pub plain_callee : Result Value Kind → Result (meant.Callee Value) Kind
   plain_callee (Ok v) = Ok (meant.plain v)
   plain_callee (Err k) = Err k
 
+  -- what `v.x(..)` calls; where `v` is a target or an object, its place says it
   abbrev pub find_of : Value → List ℕ → Option Leaf → Does W (meant.Callee Value)
   find_of v x (Some l) w =
       if place.has_method l x then Ok (meant.method v x, w) else kept (plain_callee (place.field l x w)) w
   find_of v x None w = of_state (λ s. then_do (find v x s) (λ f t. Ok (as_callee v x f, t))) w
 
+  -- the call of a built-in that the language knows, and else one of the place
   abbrev pub or_place : Leaf → Given → Option (Op Value) → Does W Value
   or_place l g (Some f) w = of_state f w
   or_place l g None w = place.call l g w
@@ -161,6 +177,7 @@ module _ {W : Type 0} (world : Linked) (place : Place W) where
   leaf_call (plain.Rule r) g w = place.call (plain.Rule r) g w
   leaf_call _ g w = Err kind.Wrong
 
+  -- a call of a value; what can't be called is `type`
   abbrev pub value_call : Value → Given → Does W Value
   value_call (value.Leaf l) g w = leaf_call l g w
   value_call _ g w = Err kind.Wrong
@@ -170,14 +187,17 @@ module _ {W : Type 0} (world : Linked) (place : Place W) where
   place_method (Some l) x g w = place.method l x g w
   place_method None x g w = Err kind.Name
 
+  -- a method that the language knows, and else one of the place
   abbrev pub method_or_place : Option Method → Value → List ℕ → Given → Does W Value
   method_or_place (Some m) v x g w = of_state (method_call m v g) w
   method_or_place None v x g w = place_method (of_place v) x g w
 
+  -- a call of a value, or of a method of a value
   abbrev pub call_of : meant.Callee Value → Given → Does W Value
   call_of (meant.plain v) g w = value_call v g w
   call_of (meant.method v x) g w = method_or_place (shape_method (shape w.state.heap v) x) v x g w
 
+  -- `not v` and `-v`
   abbrev pub sign_of : Sign → Value → Does W Value
   sign_of negation v w = Ok (truth (not (truth_of w.state v)), w)
   sign_of opposite v w = of_state (negative v) w

@@ -3,11 +3,11 @@ ghost use Rattle.std.specs.Prelude.{◌≡◌, IfOk, option_and_then, option_cop
 ghost use Rattle.evaluation.specs.Worlds.{load_path, module_numbered, path_at};
 ghost use Rattle.loader.specs.MadeBefore.{attribute_at, rule_of};
 
-use crate::asking::load_path;
 use crate::known::KnownModules;
 use evaluation::Module;
 use places::Link;
 use plain::{Shared, Text};
+use sources::load_path;
 use std::alloc::{AllocError, Global};
 use targets::{Attribute, Rule};
 use values::{Item, MadeId, Value};

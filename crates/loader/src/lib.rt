@@ -8,7 +8,6 @@
 //! of the linked files ([`Files`]): values of names, defaults of functions, what loads ask for, and what modules declared.
 #![tactic(auto)]
 
-mod asking;
 mod building;
 mod evaluating;
 mod files;

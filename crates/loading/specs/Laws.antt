@@ -1,4 +1,4 @@
--- What the definition of modules means, in the field's words.
+-- What the definition of modules means, in the field's words. (docs/PROFILE.md, "Loading".)
 use Rattle.std.specs.Prelude.{◌≡◌, ◌↔◌, false, Contains, Some, IsTrue}
 use Rattle.edges.specs.Walks.{OnCycle}
 use Rattle.loading.specs.Loads.{Path}

@@ -18,8 +18,11 @@ pub enum LoadFaultKind<S, K> {
 /// A kind of fault, and the place where it stands: a file's path and a line, from 1, or 0 where no line has it.
 #[derive(Drop)]
 pub struct Placed<K> {
+    /// What is wrong.
     pub kind: K,
+    /// The path of the file.
     pub path: Text,
+    /// From 1; 0 stands for a module as a whole, as where it is frozen.
     pub line: u64,
 }
 

@@ -163,7 +163,7 @@ pub fn given_for<'a, 'v>(
 }
 
 /// The value at a place, if there is one.
-fn value_at<'a, 'v>(values: &'a [Operand<'v>], place: Option<usize>) -> Option<&'a Operand<'v>>
+pub fn value_at<'a, 'v>(values: &'a [Operand<'v>], place: Option<usize>) -> Option<&'a Operand<'v>>
     ensures { option_copied result ≡ at_place values.now place }
 {
     match place {
@@ -266,7 +266,7 @@ fn are_files(value: &Seen<'_>) -> bool
 }
 
 /// Whether a depset is empty or of Files.
-fn has_only_files(depset: &Depset) -> bool
+pub fn has_only_files(depset: &Depset) -> bool
     ensures { result ≡ all_of_type ElementType.File (elements depset.now) }
 {
     match depset.element_type() {

@@ -1,4 +1,4 @@
--- The compiled code does what its files mean.
+-- The compiled code does what its files mean. (This project's own.)
 use Rattle.std.specs.Prelude.{◌≡◌, ◌≢◌, ℕ, suc, [], Option, Some, None, replicate}
 use Rattle.meaning.specs.Operations.{FunctionId, Callee, Arguments, wrong_type, Operations}
 use Rattle.meaning.specs.Outcome.{Final}
@@ -10,7 +10,7 @@ use Rattle.meaning.specs.Performing.{ends, gets_stuck, run_from}
 use Rattle.meaning.specs.StatementCode.{code_of}
 
 module _ {S V K : Type 0} (ops : Operations S V K) (codes : Codes) where
-  -- how the machine begins: a value is called at a line of a file,
+  -- how the machine begins where a value is called at a line of a file
   abbrev pub call_start : ℕ → ℕ → Callee V → Arguments V → S → Next S V K
   call_start file at g given s = start ops codes (outside file at) g given [] s
 
@@ -19,7 +19,7 @@ module _ {S V K : Type 0} (ops : Operations S V K) (codes : Codes) where
   function_from f given s (Some n) =
       starts ops codes (outside f.file n) f given [] s (code_at codes f)
 
-  -- a function is called at the line of its `def`,
+  -- how it begins where a function is called at the line of its `def`
   abbrev pub function_start : FunctionId → Arguments V → S → Next S V K
   function_start f given s = function_from f given s (code_line codes f)
 
@@ -28,7 +28,7 @@ module _ {S V K : Type 0} (ops : Operations S V K) (codes : Codes) where
   top_from file s (Some d) =
       continuing (frame_of (record { file = file; number = 0 }) (replicate d.slots None)) [] [] s
 
-  -- or the top level of a file is run
+  -- how it begins where the top level of a file is run
   abbrev pub top_start : ℕ → S → Next S V K
   top_start file s = top_from file s (code_at codes (record { file = file; number = 0 }))
 

@@ -1,4 +1,4 @@
--- How many instructions a run makes: each run of compiled code ends.
+-- How many instructions a run makes: each run of compiled code ends. (This project's own.)
 use Rattle.std.specs.Prelude.{◌≡◌, ℕ, zero, suc, ⊤, refl}
 use mathlib.Core.Path.{ap}
 use mathlib.Core.HLevel.{Σ_prop_path, ⊥_prop, Unit-prop}

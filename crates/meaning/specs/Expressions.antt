@@ -63,7 +63,7 @@ module _ {S V K : Type 0} (ops : Operations S V K) where
   forget None = pure tt
   forget (Some own) = λ l s. done tt (cleared (own.end - own.first) own.first l) s
 
-  -- an operator, of what gives its left and its right side (Starlark specification, "Or and and", "Binary operators")
+  -- an operator, of what gives its left and its right side (Starlark specification, "`or` and `and`", "Binary operators")
   abbrev pub joined : Way → Operator → Here → Effect S V K V → Effect S V K V → Effect S V K V
   joined while_true o here m n = m >>= λ x. truth x >>= λ t. if t then n else pure x
   joined while_false o here m n = m >>= λ x. truth x >>= λ t. if t then pure x else n
@@ -80,7 +80,7 @@ module _ {S V K : Type 0} (ops : Operations S V K) where
   turns here f (v ∷ vs) = act here ops.tick >>= λ _. f v >>= λ _. turns here f vs
 
   module _ (invoke : Invoke S V K) where
-    -- a call, after its arguments: those by position, then those by name (Starlark specification, "Call expressions")
+    -- a call, after its arguments: those by position, then those by name (Starlark specification, "Function and method calls")
     abbrev pub calling : Here → Callee V → Effect S V K (List V) → Effect S V K (List V) →
         List Name → Effect S V K V
     calling here g items behind names =

@@ -1,4 +1,4 @@
--- The functions of files, by their numbers, and the lines of their `def`s.
+-- The functions of files, by their numbers, and the lines of their `def`s. (Starlark specification, "Function definitions".)
 use Rattle.std.specs.Prelude.{ℕ, List, [], ◌∷◌, map, Option, Some, None, slice_get, unwrap_or}
 use Rattle.program_tree.specs.Names.{Name}
 use Rattle.program_tree.specs.Resolved.{Statement, define, Steps, no_steps, step, Program}

@@ -6,7 +6,7 @@ use Rattle.depsets.specs.Rose.{roses, label}
 use Rattle.depsets.specs.declared.depset.Id.{Id}
 use Rattle.depsets.specs.declared.depset.Order.{Order}
 use Rattle.depsets.specs.declared.element.Element.{Element}
-use Rattle.printing.specs.Texts.{IsCoherentTree, IsCoherentBranch, AreCoherent, AreCoherentPairs, AreCoherentSlots, IsCoherentLeaf}
+use Rattle.printing.specs.TreeTexts.{IsCoherentTree, IsCoherentBranch, AreCoherent, AreCoherentPairs, AreCoherentSlots, IsCoherentLeaf}
 use Rattle.values.specs.Tree.{Trees, Pairs, Slots, key as key_tree, leaf, branch, list, tuple, dict, instance, none as no_trees, more as more_trees, stop, pair, end, missing, given}
 use Rattle.values.specs.View.{FrozenTree, FrozenBranch}
 use Rattle.values.specs.declared.cells.Cell.{Cell}

@@ -4,7 +4,7 @@ use Rattle.depsets.specs.Flat.{Among}
 use Rattle.depsets.specs.Listed.{IsCoherent}
 use Rattle.depsets.specs.declared.depset.Order.{Order}
 use Rattle.depsets.specs.declared.element.Element.{Element}
-use Rattle.printing.specs.Texts.{IsCoherentTree}
+use Rattle.printing.specs.TreeTexts.{IsCoherentTree}
 use Rattle.ticks.specs.Ticking.{Count}
 use Rattle.heap.specs.Laws.{Change, append, extend, set_index, set_key, heap_after}
 use Rattle.values.specs.View.{FrozenTree}

@@ -79,7 +79,7 @@ optional x = record { name = x; by_name = false; may_miss = true }
 abbrev pub named_only : List ℕ → Parameter
 named_only x = record { name = x; by_name = true; may_miss = true }
 
--- what a call does with one argument,
+-- what a call of one parameter does with its argument
 abbrev pub one : {A : Type 0} → (Value → Result A Kind) → Bound → Result A Kind
 one f (Some v ∷ []) = f v
 one f _ = Err Arity

@@ -1,4 +1,4 @@
--- Equality and membership. (Starlark's specification, "Comparisons" and "Membership"; ticks, and which values can't be
+-- Equality and membership. (Starlark's specification, "Comparisons" and "Membership tests"; ticks, and which values can't be
 -- compared, are this project's own.)
 use Rattle.std.specs.Prelude.{Bool, true, false, List, [], ◌∷◌, Result, Ok, Err, if◌then◌else◌}
 use Rattle.ticks.specs.Ticking.{Count, Ticking, then_on, with_count}

@@ -1,5 +1,5 @@
--- What is asked of strings, and of what else has members. (Starlark's specification, "Membership" and "Built-in methods"; ticks,
--- and which values have members, are this project's own.)
+-- What is asked of strings, and of what else has members. (Starlark's specification, "Membership tests" and "Built-in
+-- methods"; ticks, and which values have members, are this project's own.)
 use Rattle.std.specs.Prelude.{ℕ, Bool, List, [], ◌∷◌, map, Option, Some, None, Result, Ok, Err}
 use Rattle.strings.specs.Affixes.{begins, ends}
 use Rattle.strings.specs.Parts.{is_part}

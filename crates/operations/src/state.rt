@@ -16,6 +16,7 @@ use values::{Fields, Items, Ticks};
 pub struct State<'a> {
     /// The cells that names share.
     pub heap: Heap,
+    /// The ticks that were used, of their limit.
     pub ticks: Ticks,
     /// The path of the file, or the label of the target, that is evaluated.
     pub owner: Text,

@@ -1,4 +1,4 @@
--- What holds of all outcomes of a workspace.
+-- What holds of all outcomes of a workspace. (Bazel documentation, "Dependencies"; coherence is this project's own.)
 use Rattle.std.specs.Prelude.{◌≡◌, true, map}
 use Rattle.edges.specs.Outcomes.{AreOutcomes}
 use Rattle.coherence.specs.Together.{AllCoherent, Fits}

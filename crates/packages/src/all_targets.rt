@@ -70,23 +70,12 @@ pub(crate) enum Declaration<'a> {
     NoPackage,
 }
 
-/// The path of the file that a label names.
-fn path_of(alloc: Global, label: &Label) -> Result<Text, AllocError>
-    ensures { IfOk result (λ t. t ≡ label_path label.now) }
-{
-    if label.package().is_empty() {
-        Text::new(alloc, label.name())
-    } else {
-        Text::from_string(format!(in alloc; "{}/{}", label.package(), label.name())?)
-    }
-}
-
 /// Whether a workspace has a file of a label's path.
 fn is_file(alloc: Global, files: &LoadedFiles, label: &Label) -> Result<bool, AllocError>
     ensures { let path = label_path label.now in
         IfOk result (λ b. b ≡ list_any (bytes_eq path) (paths_of files.now.files)) }
 {
-    let path = path_of(alloc, label)?;
+    let path = label.path(alloc)?;
     Ok(files.sources().number(&path).is_some())
 }
 

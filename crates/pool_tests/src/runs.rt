@@ -18,6 +18,9 @@ use std::test::Fail;
 use std::thread;
 use std::thread::Threads;
 
+/// A graph as it was made, which a test hands on and doesn't hold.
+type Made = Result<Option<Numbered>, AllocError>;
+
 /// On which shelf the workers of a test run.
 #[derive(Clone, Copy, PartialEq, Eq)]
 pub(crate) enum Kind {
@@ -145,8 +148,8 @@ pub(crate) fn has(graph: &Numbered, gathered: Option<Gathered<u64>>, wanted: &[u
     true
 }
 
-/// Whether the graph has these outcomes by 1, 2 and 64 workers, on each shelf.
-fn found_by_all<R: Threads + Wait + Sync>(
+/// Whether a graph has these outcomes by 1, 2 and 64 workers, on each shelf.
+fn are_found<R: Threads + Wait + Sync>(
     rt: &R,
     alloc: Global,
     graph: &Numbered,
@@ -166,32 +169,39 @@ fn found_by_all<R: Threads + Wait + Sync>(
     true
 }
 
+/// The same of a graph as it was made.
+fn found_by_all<R: Threads + Wait + Sync>(
+    rt: &R,
+    alloc: Global,
+    graph: Made,
+    wanted: &[u64],
+) -> bool {
+    match graph {
+        Ok(Some(graph)) => are_found(rt, alloc, &graph, wanted),
+        _ => false,
+    }
+}
+
 #[test]
 fn the_diamond_by_1_2_and_64_workers(rt: HostRuntime) -> Result<(), Fail> {
     let alloc = rt.alloc();
-    let Some(graph) = diamond(alloc)? else {
-        panic!(rt; "no graph")
-    };
-    assert!(rt; found_by_all(&rt, alloc, &graph, &[0, 1, 2, 7]));
+    assert!(rt; found_by_all(&rt, alloc, diamond(alloc), &[0, 1, 2, 7]));
     Ok(())
 }
 
 #[test]
 fn a_chain_of_16(rt: HostRuntime) -> Result<(), Fail> {
     let alloc = rt.alloc();
-    let Some(graph) = chain(alloc, 16)? else {
-        panic!(rt; "no graph")
-    };
     let wanted = [
         0, 1, 5, 18, 58, 179, 543, 1636, 4916, 14757, 44281, 132854, 398574, 1195735, 3587219,
         10761672,
     ];
-    assert!(rt; found_by_all(&rt, alloc, &graph, &wanted));
+    assert!(rt; found_by_all(&rt, alloc, chain(alloc, 16), &wanted));
     Ok(())
 }
 
 /// Node 0, eight nodes that depend on it, and node 9 that depends on these.
-fn fan(alloc: Global) -> Result<Option<Numbered>, AllocError> {
+fn fan(alloc: Global) -> Made {
     let one: &[usize] = &[0];
     let rows: [&[usize]; 10] = [
         &[],
@@ -211,59 +221,82 @@ fn fan(alloc: Global) -> Result<Option<Numbered>, AllocError> {
 #[test]
 fn one_first_node_that_opens_into_eight(rt: HostRuntime) -> Result<(), Fail> {
     let alloc = rt.alloc();
-    let Some(graph) = fan(alloc)? else {
-        panic!(rt; "no graph")
-    };
-    assert!(rt; found_by_all(&rt, alloc, &graph, &[0, 1, 2, 3, 4, 5, 6, 7, 8, 19]));
-    assert!(rt; meet(&rt, alloc, &graph, 8, 1, 8));
+    assert!(rt; found_by_all(&rt, alloc, fan(alloc), &[0, 1, 2, 3, 4, 5, 6, 7, 8, 19]));
+    assert!(rt; meet(&rt, alloc, fan(alloc), 8, 1, 8));
     Ok(())
 }
 
 #[test]
 fn one_node(rt: HostRuntime) -> Result<(), Fail> {
     let alloc = rt.alloc();
-    let Some(graph) = apart(alloc, 1)? else {
-        panic!(rt; "no graph")
-    };
-    assert!(rt; found_by_all(&rt, alloc, &graph, &[0]));
+    assert!(rt; found_by_all(&rt, alloc, apart(alloc, 1), &[0]));
     Ok(())
 }
 
 #[test]
 fn the_empty_graph(rt: HostRuntime) -> Result<(), Fail> {
     let alloc = rt.alloc();
-    let Some(graph) = apart(alloc, 0)? else {
-        panic!(rt; "no graph")
-    };
-    assert!(rt; found_by_all(&rt, alloc, &graph, &[]));
+    assert!(rt; found_by_all(&rt, alloc, apart(alloc, 0), &[]));
     Ok(())
 }
 
-/// Whether two nodes of five are not cyclic, and these alone are entered and left, once, on each shelf.
+/// Whether the nodes of the diamond are entered and left once, by eight workers on a shelf.
+fn each_runs_once<R: Threads + Wait + Sync>(
+    rt: &R,
+    alloc: Global,
+    kind: Kind,
+) -> Result<bool, AllocError> {
+    let Some(graph) = diamond(alloc)? else {
+        return Ok(false);
+    };
+    let gate = Counting::of(alloc, 4)?;
+    let gathered = mix(rt, alloc, &graph, (kind, 8), &gate);
+    Ok(has(&graph, gathered, &[0, 1, 2, 7]) && gate.once())
+}
+
+#[test]
+fn each_node_is_entered_and_left_once(rt: HostRuntime) -> Result<(), Fail> {
+    let alloc = rt.alloc();
+    for kind in KINDS {
+        assert!(rt; each_runs_once(&rt, alloc, kind)?);
+    }
+    Ok(())
+}
+
+/// 1 and 2 depend on each other, 3 on these and on 0, and 4 on 0.
+fn with_a_cycle(alloc: Global) -> Made {
+    let rows: [&[usize]; 5] = [&[], &[2], &[1], &[0, 1], &[0]];
+    small(alloc, &rows)
+}
+
+/// Whether two nodes of these five are not cyclic, and they alone are entered and left, once, on a shelf.
 fn two_alone_run<R: Threads + Wait + Sync>(
     rt: &R,
     alloc: Global,
-    graph: &Numbered,
+    kind: Kind,
 ) -> Result<bool, AllocError> {
-    for kind in KINDS {
-        let gate = Counting::of(alloc, 5)?;
-        if mix(rt, alloc, graph, (kind, 8), &gate).is_none() || !gate.once_below(2) {
-            return Ok(false);
-        }
-    }
-    Ok(graph.edges.acyclic() == 2)
+    let Some(graph) = with_a_cycle(alloc)? else {
+        return Ok(false);
+    };
+    let gate = Counting::of(alloc, 5)?;
+    let gathered = mix(rt, alloc, &graph, (kind, 8), &gate);
+    Ok(gathered.is_some() && gate.once_below(2) && graph.edges.acyclic() == 2)
 }
 
 #[test]
 fn cyclic_nodes_have_their_outcome_without_a_worker(rt: HostRuntime) -> Result<(), Fail> {
     let alloc = rt.alloc();
-    // 1 and 2 depend on each other, 3 on these and on 0, and 4 on 0.
-    let rows: [&[usize]; 5] = [&[], &[2], &[1], &[0, 1], &[0]];
-    let Some(graph) = small(alloc, &rows)? else {
-        panic!(rt; "no graph")
-    };
-    assert!(rt; found_by_all(&rt, alloc, &graph, &[0, CYCLE, CYCLE, CYCLE, 4]));
-    assert!(rt; two_alone_run(&rt, alloc, &graph)?);
+    assert!(rt;
+        found_by_all(
+            &rt,
+            alloc,
+            with_a_cycle(alloc),
+            &[0, CYCLE, CYCLE, CYCLE, 4]
+        )
+    );
+    for kind in KINDS {
+        assert!(rt; two_alone_run(&rt, alloc, kind)?);
+    }
     Ok(())
 }
 
@@ -271,10 +304,7 @@ fn cyclic_nodes_have_their_outcome_without_a_worker(rt: HostRuntime) -> Result<(
 fn a_node_that_depends_on_itself_is_cyclic(rt: HostRuntime) -> Result<(), Fail> {
     let alloc = rt.alloc();
     let rows: [&[usize]; 1] = [&[0]];
-    let Some(graph) = small(alloc, &rows)? else {
-        panic!(rt; "no graph")
-    };
-    assert!(rt; found_by_all(&rt, alloc, &graph, &[CYCLE]));
+    assert!(rt; found_by_all(&rt, alloc, small(alloc, &rows), &[CYCLE]));
     Ok(())
 }
 
@@ -282,12 +312,15 @@ fn a_node_that_depends_on_itself_is_cyclic(rt: HostRuntime) -> Result<(), Fail> 
 fn meet<R: Threads + Wait + Sync>(
     rt: &R,
     alloc: Global,
-    graph: &Numbered,
+    graph: Made,
     workers: usize,
     low: usize,
     high: usize,
 ) -> bool {
-    meet_behind(rt, alloc, graph, workers, (low, high), &NoGate)
+    match graph {
+        Ok(Some(graph)) => meet_behind(rt, alloc, &graph, workers, (low, high), &NoGate),
+        _ => false,
+    }
 }
 
 /// The same, where each worker comes to another gate first.
@@ -333,54 +366,38 @@ impl Gate for Pause {
 }
 
 /// Nodes 0 and 1, and eight nodes that depend on node 0.
-fn two_and_fan(alloc: Global) -> Result<Option<Numbered>, AllocError> {
+fn two_and_fan(alloc: Global) -> Made {
     let one: &[usize] = &[0];
     let rows: [&[usize]; 10] = [&[], &[], one, one, one, one, one, one, one, one];
     small(alloc, &rows)
 }
 
+/// Whether these eight nodes are all at work at one time, on each shelf, after a pause at node 0.
+fn meet_after_a_pause<R: Threads + Wait + Sync>(rt: &R, alloc: Global) -> bool {
+    match two_and_fan(alloc) {
+        Ok(Some(graph)) => meet_behind(rt, alloc, &graph, 8, (2, 9), &Pause),
+        _ => false,
+    }
+}
+
 #[test]
 fn workers_that_sleep_are_all_woken(rt: HostRuntime) -> Result<(), Fail> {
-    let alloc = rt.alloc();
-    let Some(graph) = two_and_fan(alloc)? else {
-        panic!(rt; "no graph")
-    };
-    assert!(rt; meet_behind(&rt, alloc, &graph, 8, (2, 9), &Pause));
+    assert!(rt; meet_after_a_pause(&rt, rt.alloc()));
     Ok(())
 }
 
 #[test]
 fn two_workers_are_at_work_at_once(rt: HostRuntime) -> Result<(), Fail> {
     let alloc = rt.alloc();
-    let (Some(two), Some(graph)) = (apart(alloc, 2)?, diamond(alloc)?) else {
-        panic!(rt; "no graph")
-    };
-    assert!(rt; meet(&rt, alloc, &two, 2, 0, 1));
-    assert!(rt; meet(&rt, alloc, &graph, 2, 1, 2));
+    assert!(rt; meet(&rt, alloc, apart(alloc, 2), 2, 0, 1));
+    assert!(rt; meet(&rt, alloc, diamond(alloc), 2, 1, 2));
     Ok(())
 }
 
 #[test]
 fn eight_workers_are_at_work_at_once(rt: HostRuntime) -> Result<(), Fail> {
     let alloc = rt.alloc();
-    let Some(eight) = apart(alloc, 8)? else {
-        panic!(rt; "no graph")
-    };
-    assert!(rt; meet(&rt, alloc, &eight, 8, 0, 7));
-    Ok(())
-}
-
-#[test]
-fn each_node_is_entered_and_left_once(rt: HostRuntime) -> Result<(), Fail> {
-    let alloc = rt.alloc();
-    let Some(graph) = diamond(alloc)? else {
-        panic!(rt; "no graph")
-    };
-    for kind in KINDS {
-        let gate = Counting::of(alloc, 4)?;
-        let gathered = mix(&rt, alloc, &graph, (kind, 8), &gate);
-        assert!(rt; has(&graph, gathered, &[0, 1, 2, 7]) && gate.once());
-    }
+    assert!(rt; meet(&rt, alloc, apart(alloc, 8), 8, 0, 7));
     Ok(())
 }
 
@@ -403,16 +420,13 @@ fn refuse<G: Gate, R: Threads + Wait + Sync>(
     run_by(rt, alloc, &graph.edges, &refusing, by, gate)
 }
 
-/// Whether so many workers for whom there is no memory at one node say so, on each shelf.
-fn are_refused<R: Threads + Wait + Sync>(
-    rt: &R,
-    alloc: Global,
-    graph: &Numbered,
-    workers: usize,
-    at: usize,
-) -> bool {
+/// Whether so many workers for whom there is no memory at one node of the diamond say so, on each shelf.
+fn are_refused<R: Threads + Wait + Sync>(rt: &R, alloc: Global, workers: usize, at: usize) -> bool {
+    let Ok(Some(graph)) = diamond(alloc) else {
+        return false;
+    };
     for kind in KINDS {
-        match refuse(rt, alloc, graph, (kind, workers), at, &NoGate) {
+        match refuse(rt, alloc, &graph, (kind, workers), at, &NoGate) {
             Some(Err(Refused::NoMemory)) => {}
             _ => return false,
         }
@@ -423,31 +437,32 @@ fn are_refused<R: Threads + Wait + Sync>(
 #[test]
 fn a_worker_without_memory_ends_the_run(rt: HostRuntime) -> Result<(), Fail> {
     let alloc = rt.alloc();
-    let Some(graph) = diamond(alloc)? else {
-        panic!(rt; "no graph")
-    };
-    assert!(rt; are_refused(&rt, alloc, &graph, 1, 0));
-    assert!(rt; are_refused(&rt, alloc, &graph, 2, 2));
-    assert!(rt; are_refused(&rt, alloc, &graph, 64, 3));
+    assert!(rt; are_refused(&rt, alloc, 1, 0));
+    assert!(rt; are_refused(&rt, alloc, 2, 2));
+    assert!(rt; are_refused(&rt, alloc, 64, 3));
     Ok(())
+}
+
+/// Whether four workers, each at a node of its own when node 2 is refused, all end. That node stays left, so only the halt
+/// ends the others.
+fn all_are_halted<R: Threads + Wait + Sync>(rt: &R, alloc: Global) -> bool {
+    let Ok(Some(four)) = apart(alloc, 4) else {
+        return false;
+    };
+    let gate = Meeting::of(0, 3, 4);
+    let answer = refuse(rt, alloc, &four, (Kind::Steal, 4), 2, &gate);
+    matches!(answer, Some(Err(Refused::NoMemory))) && gate.met()
 }
 
 #[test]
 fn the_halt_reaches_workers_that_were_refused_nothing(rt: HostRuntime) -> Result<(), Fail> {
-    let alloc = rt.alloc();
-    let Some(four) = apart(alloc, 4)? else {
-        panic!(rt; "no graph")
-    };
-    // Each worker is at a node of its own when node 2 is refused; this one stays left, so that only
-    // the halt ends the others.
-    let gate = Meeting::of(0, 3, 4);
-    let answer = refuse(&rt, alloc, &four, (Kind::Steal, 4), 2, &gate);
-    assert!(rt; matches!(answer, Some(Err(Refused::NoMemory))) && gate.met());
+    assert!(rt; all_are_halted(&rt, rt.alloc()));
     Ok(())
 }
 
 /// At how many ends numbers are asked for, where 64 ends are handed to a run of the graph.
-fn ends_in_use<R: Threads + Wait + Sync>(rt: &R, alloc: Global, graph: &Numbered) -> Option<u64> {
+fn ends_in_use<R: Threads + Wait + Sync>(rt: &R, alloc: Global, graph: Made) -> Option<u64> {
+    let graph = graph.ok()??;
     let nodes = graph.edges.nodes();
     let mixing = Mixing {
         names: graph.origin.as_slice(),
@@ -470,33 +485,27 @@ fn ends_in_use<R: Threads + Wait + Sync>(rt: &R, alloc: Global, graph: &Numbered
 fn no_more_workers_start_than_there_are_nodes_to_run(rt: HostRuntime) -> Result<(), Fail> {
     let alloc = rt.alloc();
     let rows: [&[usize]; 6] = [&[], &[], &[], &[4], &[3], &[4]];
-    let (Some(none), Some(three)) = (apart(alloc, 0)?, small(alloc, &rows)?) else {
-        panic!(rt; "no graph")
-    };
-    assert!(rt; ends_in_use(&rt, alloc, &none).is_some_and(|n| n <= 1));
-    assert!(rt; ends_in_use(&rt, alloc, &three).is_some_and(|n| n <= 3));
+    assert!(rt; ends_in_use(&rt, alloc, apart(alloc, 0)).is_some_and(|n| n <= 1));
+    assert!(rt; ends_in_use(&rt, alloc, small(alloc, &rows)).is_some_and(|n| n <= 3));
     Ok(())
 }
 
 #[test]
 fn one_worker_alone_runs_a_chain(rt: HostRuntime) -> Result<(), Fail> {
     let alloc = rt.alloc();
-    let Some(graph) = chain(alloc, 16)? else {
-        panic!(rt; "no graph")
-    };
-    assert!(rt; ends_in_use(&rt, alloc, &graph) == Some(1));
+    assert!(rt; ends_in_use(&rt, alloc, chain(alloc, 16)) == Some(1));
     Ok(())
 }
 
-/// A run of two workers whose ends have a fault at one number, and whether the watch over them finds
+/// A run of two workers over the diamond whose ends have a fault at one number, and whether the watch over them finds
 /// it fine. Where the number is lost, the watch waits for few turns alone.
 fn with_fault<R: Threads + Wait + Sync>(
     rt: &R,
     alloc: Global,
-    graph: &Numbered,
     at: usize,
     fault: Fault,
 ) -> Option<(Option<Refused>, bool)> {
+    let graph = diamond(alloc).ok()??;
     let nodes = graph.edges.nodes();
     let mixing = Mixing {
         names: graph.origin.as_slice(),
@@ -517,13 +526,9 @@ fn with_fault<R: Threads + Wait + Sync>(
 
 #[test]
 fn a_number_that_a_shelf_loses_is_seen_and_hangs_no_run(rt: HostRuntime) -> Result<(), Fail> {
-    let alloc = rt.alloc();
-    let Some(graph) = diamond(alloc)? else {
-        panic!(rt; "no graph")
-    };
     // Node 0 is lost before the workers begin, node 1 by a worker while the other has node 2.
     for at in [0, 1, 3] {
-        let found = with_fault(&rt, alloc, &graph, at, Fault::Loses);
+        let found = with_fault(&rt, rt.alloc(), at, Fault::Loses);
         assert!(rt; found == Some((None, false)), "{at}");
     }
     Ok(())
@@ -531,12 +536,8 @@ fn a_number_that_a_shelf_loses_is_seen_and_hangs_no_run(rt: HostRuntime) -> Resu
 
 #[test]
 fn a_shelf_without_memory_ends_the_run(rt: HostRuntime) -> Result<(), Fail> {
-    let alloc = rt.alloc();
-    let Some(graph) = diamond(alloc)? else {
-        panic!(rt; "no graph")
-    };
     for at in [0, 1, 3] {
-        let found = with_fault(&rt, alloc, &graph, at, Fault::Refuses);
+        let found = with_fault(&rt, rt.alloc(), at, Fault::Refuses);
         assert!(rt; found == Some((Some(Refused::NoMemory), true)), "{at}");
     }
     Ok(())

@@ -1,4 +1,2 @@
-pub mod TextLemmas
 pub mod TreeTextLemmas
 pub mod ReprLemmas
-mod QuotedLemmas

@@ -7,7 +7,7 @@ use Rattle.depsets.specs.Listed.{walked, flat}
 use Rattle.ticks.specs.Ticking.{Count, Ticking, ticked, then_on, after_tick, with_count, entered, FaultOr}
 use Rattle.values.specs.Visits.{all_of}
 use Rattle.values.specs.Shape.{Shape, key, shape}
-use Rattle.printing.specs.Texts.{separator, joined_from, quoted, leaf_text}
+use Rattle.leaf_texts.specs.Texts.{separator, joined_from, quoted, leaf_text}
 use Rattle.printing.specs.Repr.{has_text, commas, enclosed, printed, printed_entry, print_at, fits, appended, itself, string_key, string_in, whole_at}
 use Rattle.leaves.specs.declared.leaf.Leaf.{Leaf}
 use Rattle.leaves.specs.declared.leaf.Leaf.TheVariants as plain

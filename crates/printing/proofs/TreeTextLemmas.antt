@@ -10,13 +10,14 @@ use Rattle.depsets.specs.Listed.{walked, flat}
 use Rattle.depsets.specs.declared.element.Element.{Element}
 use Rattle.values.specs.Tree.{Trees, Pairs, Slots, key as key_tree, leaf, branch, list, tuple, dict, instance, none, more, stop, pair, end, missing, given, trees, pairs, slots, weight, weights, pair_weights, slot_weights}
 use Rattle.values.specs.View.{FrozenTree, FrozenBranch}
-use Rattle.printing.specs.Texts.{separator, joined_from, joined, how_many, tuple_end, entry_head, field_head, provider_text, leaf_text, depset_text, text_by, branch_text_by, texts_by, pair_texts_by, field_texts_by, text_of, IsCoherentLeaf, IsCoherentTree, IsCoherentBranch, AreCoherent, AreCoherentPairs, AreCoherentSlots}
+use Rattle.leaf_texts.specs.Texts.{separator, joined_from, joined, tuple_end, entry_head, field_head, provider_text, leaf_text, depset_text}
+use Rattle.printing.specs.TreeTexts.{how_many, text_by, branch_text_by, texts_by, pair_texts_by, field_texts_by, text_of, IsCoherentLeaf, IsCoherentTree, IsCoherentBranch, AreCoherent, AreCoherentPairs, AreCoherentSlots}
 use Rattle.leaves.specs.declared.leaf.Leaf.{Leaf}
 use Rattle.leaves.specs.declared.leaf.Leaf.TheVariants as plain
 use Rattle.keys.specs.declared.key.Key.{Key}
 use Rattle.leaves.specs.declared.leaf.Provider.{Provider}
 use Rattle.values.proofs.SeeLemmas.{pairs-short}
-use Rattle.printing.proofs.TextLemmas.{parts-next, parts-end}
+use Rattle.leaf_texts.proofs.TextLemmas.{parts-next, parts-end}
 
 pub weight_at : (ts : List FrozenTree) (i : ℕ) (t : FrozenTree) → slice_get ts i ≡ Some t → weight t ≤ weights (trees ts)
 weight_at [] i t p = absurd (cc)

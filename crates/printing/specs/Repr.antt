@@ -5,7 +5,7 @@ use Rattle.depsets.specs.Listed.{flat}
 use Rattle.ticks.specs.Ticking.{Count, Ticking, after_tick, then_on, with_count, entered, FaultOr}
 use Rattle.values.specs.Visits.{all_of}
 use Rattle.values.specs.Shape.{Shape, key, atom, items, entries, fields, nothing, shape}
-use Rattle.printing.specs.Texts.{joined, leaf_text, key_text, entry_head, tuple_end}
+use Rattle.leaf_texts.specs.Texts.{joined, leaf_text, key_text, entry_head, tuple_end}
 use Rattle.leaves.specs.declared.leaf.Leaf.{Leaf}
 use Rattle.leaves.specs.declared.leaf.Leaf.TheVariants as plain
 use Rattle.keys.specs.declared.key.Key.{Key}

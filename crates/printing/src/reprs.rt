@@ -7,11 +7,11 @@ ghost use Rattle.depsets.specs.Listed.{flat};
 ghost use Rattle.ticks.specs.Ticking.{FaultOr, after_tick, with_count, entered};
 ghost use Rattle.values.specs.Visits.{all_of};
 ghost use Rattle.values.specs.Seeing.{seen, item_value, group_items, table_entries};
-ghost use Rattle.printing.specs.Texts.{separator, leaf_text, key_text, entry_head};
+ghost use Rattle.leaf_texts.specs.Texts.{separator, leaf_text, key_text, entry_head};
 ghost use Rattle.printing.specs.Repr.{has_text, printed_leaf, printed_entry, opening, closing, commas, enclosed, printed, print_at, fits, string_in, string_key, whole_at, repr_of, Prints};
 
-use crate::texts::{end_of_tuple, put_key, put_leaf, put_separator};
 use heap::Heap;
+use leaf_texts::{end_of_tuple, put_key, put_leaf, put_separator};
 use plain::Text;
 use std::alloc::{AllocError, Global};
 use values::{Broken, Group, Item, Key, Kind, Leaf, Seen, Table, Ticks, VISITED_LEVELS};

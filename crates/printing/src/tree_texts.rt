@@ -3,10 +3,11 @@ ghost use Rattle.std.specs.Prelude.{◌≡◌, ◌<◌, ◌++◌, Some, length, 
 ghost use Rattle.depsets.specs.Listed.{walked};
 ghost use Rattle.values.specs.Tree.{trees, pairs, slots};
 ghost use Rattle.values.specs.View.{tree_of, node_branch};
-ghost use Rattle.printing.specs.Texts.{joined, entry_head, text_by, branch_text_by, texts_by, pair_texts_by, field_texts_by, text_of, IsCoherentTree};
+ghost use Rattle.leaf_texts.specs.Texts.{joined, entry_head};
+ghost use Rattle.printing.specs.TreeTexts.{text_by, branch_text_by, texts_by, pair_texts_by, field_texts_by, text_of, IsCoherentTree};
 
-use crate::texts::{end_of_tuple, put_field_head, put_key, put_leaf, put_provider, put_separator};
 use indexmap::IndexSet;
+use leaf_texts::{end_of_tuple, put_field_head, put_key, put_leaf, put_provider, put_separator};
 use plain::Text;
 use std::alloc::{AllocError, Global};
 use values::{Frozen, Held, Key, Node, key_at, tree_at};

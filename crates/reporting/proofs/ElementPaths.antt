@@ -4,8 +4,8 @@ use Rattle.depsets.proofs.Turns.{drop_at}
 use Rattle.depsets.specs.declared.element.Element.{Element}
 use Rattle.depsets.specs.declared.element.Element.TheVariants.{Text, Number, Truth, Label, File}
 use Rattle.depsets.specs.declared.element.FileRef.{FileRef}
-use Rattle.printing.specs.Texts.{joined_from, quoted, separator}
-use Rattle.printing.proofs.TextLemmas.{parts-next}
+use Rattle.leaf_texts.specs.Texts.{joined_from, quoted, separator}
+use Rattle.leaf_texts.proofs.TextLemmas.{parts-next}
 use Rattle.claims.specs.Same.{element_paths}
 
 module _ (es : List Element) (i : ℕ) (e : Element) (h : slice_get es i ≡ Some e) where

@@ -15,7 +15,8 @@ use Rattle.leaves.specs.declared.leaf.Leaf.{Leaf}
 use Rattle.leaves.specs.declared.leaf.Provider.{Provider}
 use Rattle.ticks.specs.declared.ticks.Kind.{Kind}
 use Rattle.ticks.specs.declared.ticks.Kind.TheVariants as kind
-use Rattle.printing.specs.Texts.{field_head, joined, provider_text, quoted, text_by}
+use Rattle.leaf_texts.specs.Texts.{field_head, joined, provider_text, quoted}
+use Rattle.printing.specs.TreeTexts.{text_by}
 use Rattle.actions.specs.declared.action.Action.{Action}
 use Rattle.claims.specs.Same.{input_paths, path_of}
 use Rattle.claims.specs.declared.clashes.Conflict.{Conflict}

@@ -1,4 +1,4 @@
--- The text of a report.
+-- The text of a report. (docs/REPORT.md; this project's own.)
 use Rattle.std.specs.Prelude.{ℕ, List}
 use Rattle.reporting.specs.Seen.{text_of}
 use Rattle.reporting.specs.declared.made.Report.{Report}

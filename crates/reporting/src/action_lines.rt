@@ -8,8 +8,8 @@ use crate::conflict_lines::put_spaced;
 use crate::strings_in::{put_element_list, put_file_list, put_text_list};
 use actions::{Action, Inputs, Words};
 use claims::Telling;
+use leaf_texts::put_quoted;
 use plain::Text;
-use printing::put_quoted;
 use std::alloc::{AllocError, Global};
 
 /// Appends the mnemonic of an action and its outputs.

@@ -2,8 +2,8 @@
 ghost use Rattle.std.specs.Prelude.{◌≡◌, ◌++◌, string_bytes, OnOk};
 ghost use Rattle.reporting.specs.Lines.{evaluation_text, place_text};
 
+use leaf_texts::put_quoted;
 use plain::Text;
-use printing::put_quoted;
 use std::alloc::AllocError;
 use std::fmt::Write;
 use values::Kind;

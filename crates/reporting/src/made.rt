@@ -17,7 +17,6 @@ use lexer::FaultKind;
 use modules::FileFault;
 use std::alloc::{AllocError, Global};
 use std::thread::Threads;
-use targets::Outcome;
 use values::Kind;
 
 /// The text of a report, and whether it is loud: whether it tells of a file that failed, a target that failed or a conflict.
@@ -25,6 +24,7 @@ use values::Kind;
 pub struct Report {
     /// Parts of the text, which stand one after the other.
     pub parts: Vec<String>,
+    /// Whether it tells of a file that failed, a target that failed or a conflict.
     pub loud: bool,
 }
 
@@ -74,22 +74,11 @@ fn put_conflicts(out: &mut String, conflicts: &[Conflict]) -> Result<(), AllocEr
     Ok(())
 }
 
-/// Whether an outcome is a failure.
-fn is_failure(outcome: &Outcome) -> bool
-    ensures { result ≡ is_failed outcome.now }
-{
-    match outcome {
-        Outcome::Source(_) => false,
-        Outcome::Done(_, _) => false,
-        Outcome::Failed(_) => true,
-    }
-}
-
 /// Whether a node is a target that failed.
 fn is_failed(node: &Node<'_>) -> bool
     ensures { result ≡ is_failed (node_seen node.now).outcome }
 {
-    is_failure(node.outcome)
+    node.outcome.is_failed()
 }
 
 /// Whether one of the nodes is a target that failed, of the nodes where they lie.

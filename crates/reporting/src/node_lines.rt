@@ -19,7 +19,9 @@ const PART: usize = 256;
 /// A label, and what becomes of it.
 #[derive(Clone, Copy)]
 pub struct Node<'a> {
+    /// The label.
     pub label: &'a Label,
+    /// What becomes of it.
     pub outcome: &'a Outcome,
 }
 

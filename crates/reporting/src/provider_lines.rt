@@ -6,8 +6,9 @@ ghost use Rattle.values.specs.Tree.{slots};
 ghost use Rattle.values.specs.View.{node_branch};
 ghost use Rattle.reporting.specs.Lines.{fields_text, field_text, given_text, instance_line, provider_line};
 
+use leaf_texts::{put_field_head, put_provider};
 use plain::Text;
-use printing::{put_field_head, put_provider, put_tree};
+use printing::put_tree;
 use std::alloc::{AllocError, Global};
 use values::{Frozen, Held, Node};
 

@@ -1,13 +1,13 @@
 //! Lists of strings.
 ghost use Rattle.std.specs.Prelude.{◌≡◌, ◌++◌, map, string_bytes, OnOk};
 ghost use Rattle.std.specs.List.{flat_map};
-ghost use Rattle.printing.specs.Texts.{joined, quoted, separator};
+ghost use Rattle.leaf_texts.specs.Texts.{joined, quoted, separator};
 ghost use Rattle.claims.specs.Same.{element_paths, path_of};
 ghost use Rattle.reporting.specs.Lines.{strings_text};
 
 use depsets::{Element, Elements, FileRef};
+use leaf_texts::{put_quoted, put_separator};
 use plain::{Shared, Text};
-use printing::{put_quoted, put_separator};
 use std::alloc::AllocError;
 
 /// Appends the string at a place of a list.

@@ -3,10 +3,9 @@ ghost use Rattle.std.specs.Prelude.{◌≡◌, Some, None, IfOk, length, option_
 ghost use Rattle.values.specs.Seeing.{item_value};
 ghost use Rattle.values.specs.Shape.{value_of};
 ghost use Rattle.operations.specs.Arguments.{given};
-ghost use Rattle.operations.specs.Items.{at_place};
 ghost use Rattle.targets.specs.RuleCalls.{given_as, unless_none};
 
-use making::FirstPlaces;
+use making::{FirstPlaces, value_at};
 use operands::Operand;
 use operations::Arguments;
 use plain::Text;
@@ -70,16 +69,6 @@ impl<'a, 'v> ByName<'a, 'v> {
             Some(value) => unless_none(value),
             None => None,
         }
-    }
-}
-
-/// The value at a place, if there is one.
-fn value_at<'a, 'v>(values: &'a [Operand<'v>], place: Option<usize>) -> Option<&'a Operand<'v>>
-    ensures { option_copied result ≡ at_place values.now place }
-{
-    match place {
-        Some(place) => values.get(place),
-        None => None,
     }
 }
 

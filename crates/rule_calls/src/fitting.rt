@@ -1,12 +1,11 @@
 //! Whether what a call of a rule gives fits the rule's attributes.
 ghost use Rattle.std.specs.Prelude.{◌≡◌};
 ghost use Rattle.std.specs.List.{list_any, list_all};
-ghost use Rattle.targets.specs.Attributes.{is_private};
 ghost use Rattle.targets.specs.RuleCalls.{may_name, is_missed, fits};
 
 use plain::Text;
 use rule_arguments::ByName;
-use targets::{NamedAttribute, Rule, RuleAttributes};
+use targets::{NamedAttribute, Rule, RuleAttributes, is_private};
 
 /// Whether there is no position, each name is one that a call may give, and `name` and each mandatory attribute are
 /// given.
@@ -48,16 +47,6 @@ fn may_name(attributes: &RuleAttributes, name: &Text) -> bool
         return false;
     }
     attributes.has(name)
-}
-
-/// Whether an attribute of this name is private.
-fn is_private(name: &str) -> bool
-    ensures { result ≡ is_private name.now }
-{
-    match name.as_bytes() {
-        [first, ..] => *first == b'_',
-        [] => false,
-    }
 }
 
 /// Whether a mandatory attribute isn't given.

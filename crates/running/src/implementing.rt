@@ -6,7 +6,6 @@ ghost use Rattle.meaning.specs.StatementCode.{code_of};
 ghost use Rattle.language.specs.Language.{language, function_id};
 ghost use Rattle.call_stack.specs.LinkedView.{codes_of};
 ghost use Rattle.call_stack.specs.CallView.{arguments_seen};
-ghost use Rattle.frames.specs.Answers.{id_seen};
 ghost use Rattle.evaluation.specs.Runs.{state_of_target};
 ghost use Rattle.running.specs.Ran.{ran};
 ghost use Rattle.running.specs.Target.{context_alone};
@@ -14,7 +13,8 @@ ghost use Rattle.running.specs.Target.{context_alone};
 use crate::beginning::first_of_target;
 use crate::setting::Setting;
 use crate::top::run;
-use frames::{FunctionId, Stack};
+use evaluator::function_id;
+use frames::Stack;
 use language::Whole;
 use loading::Placed;
 use machine::{Arguments, Start};
@@ -23,16 +23,6 @@ use places::{Link, Place};
 use std::alloc::{AllocError, Global};
 use values::{Kind, Leaf, MadeId, Object, Value};
 use workspace::Label;
-
-/// A function's number among all.
-fn function_id(id: MadeId) -> FunctionId
-    ensures { id_seen result ≡ function_id id }
-{
-    FunctionId {
-        file: id.module as usize,
-        number: id.number as usize,
-    }
-}
 
 /// `ctx` alone.
 fn with_context(alloc: Global) -> Result<Arguments<'static>, AllocError>

@@ -14,4 +14,4 @@ mod top;
 pub use ending::end_run;
 pub use implementing::call_implementation;
 pub use setting::{Setting, TopFile};
-pub use top::run_top;
+pub use top::{path_at, run_top};

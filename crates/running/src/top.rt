@@ -25,7 +25,11 @@ use std::alloc::{AllocError, Global};
 use values::{Kind, Value};
 
 /// The path of the file of a number; a number that no file has stands for the empty text.
-fn path_at(alloc: Global, paths: &[Text], file: usize) -> Result<Text, AllocError>
+///
+/// # Errors
+///
+/// `AllocError` where memory was refused.
+pub fn path_at(alloc: Global, paths: &[Text], file: usize) -> Result<Text, AllocError>
     ensures { IfOk result (λ t. t ≡ path_at paths.now file) }
 {
     match paths.get(file) {

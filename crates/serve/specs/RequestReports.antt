@@ -1,4 +1,4 @@
--- The report on what words ask for and an input spells.
+-- The report on what words ask for and an input spells. (docs/REPORT.md; this project's own.)
 use Rattle.std.specs.Prelude.{◌≡◌, ◌⊎◌, ℕ, List}
 use Rattle.request.specs.Asked.{Asked}
 use Rattle.request.specs.Input.{Spells}

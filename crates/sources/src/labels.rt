@@ -1,7 +1,7 @@
 //! The paths that load statements name.
 ghost use Rattle.std.specs.Prelude.{◌≡◌, IfOk, nat_eq};
 ghost use Rattle.std.specs.List.{list_any, starts_with};
-ghost use Rattle.workspace.specs.Labels.{is_colon, label_path};
+ghost use Rattle.workspace.specs.Labels.{is_colon};
 ghost use Rattle.evaluation.specs.Worlds.{is_load_text, load_path};
 
 use plain::Text;
@@ -29,26 +29,19 @@ fn is_load_text(text: &str) -> bool
     (begins(text, "//") || begins(text, ":")) && has_colon(text)
 }
 
-/// The path of the file that a label names.
-fn path_of(alloc: Global, label: &Label) -> Result<Text, AllocError>
-    ensures { IfOk result (λ t. t ≡ label_path label.now) }
-{
-    if label.package().is_empty() {
-        Text::new(alloc, label.name())
-    } else {
-        Text::from_string(format!(in alloc; "{}/{}", label.package(), label.name())?)
-    }
-}
-
 /// The path that the text of a load names, in a file of this path, if it names one.
-pub fn load_path(alloc: Global, path: &Text, text: &Text) -> Result<Option<Text>, AllocError>
+///
+/// # Errors
+///
+/// `AllocError` where memory was refused.
+pub fn load_path(alloc: Global, path: &str, text: &str) -> Result<Option<Text>, AllocError>
     ensures { IfOk result (λ p. p ≡ load_path path.now text.now) }
 {
-    if !is_load_text(text.as_str()) {
+    if !is_load_text(text) {
         return Ok(None);
     }
-    match Label::read(alloc, text.as_str(), Some(package_of(path.as_str()))) {
-        Ok(label) => Ok(Some(path_of(alloc, &label)?)),
+    match Label::read(alloc, text, Some(package_of(path))) {
+        Ok(label) => Ok(Some(label.path(alloc)?)),
         Err(LabelRefused::Illegal) => Ok(None),
         Err(LabelRefused::NoMemory) => Err(AllocError),
     }

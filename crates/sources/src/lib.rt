@@ -12,4 +12,5 @@ mod read_all;
 mod shares;
 mod sources;
 
+pub use labels::load_path;
 pub use sources::Sources;

@@ -35,7 +35,7 @@ fn add_load(
 {
     match statement {
         Statement::Load(text, items) => {
-            let target = load_path(alloc, path, text)?;
+            let target = load_path(alloc, path.as_str(), text.as_str())?;
             let asked = asked(alloc, items.as_slice())?;
             loads.push(LoadStatement {
                 line: line as u64,

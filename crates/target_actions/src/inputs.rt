@@ -1,7 +1,6 @@
 //! What else an action is given: inputs, words and a mnemonic.
 ghost use Rattle.std.specs.Prelude.{◌≡◌, ◌∷◌, [], Ok, Err, Some, None, MatchResult, option_copied, option_and_then};
 ghost use Rattle.std.specs.List.{list_all};
-ghost use Rattle.depsets.specs.Elements.{elements, all_of_type};
 ghost use Rattle.values.specs.Seeing.{seen, group_items};
 ghost use Rattle.values.specs.Shape.{shape};
 ghost use Rattle.ticks.specs.Ticking.{FaultOr};
@@ -14,8 +13,9 @@ ghost use Rattle.operations.specs.Instances.{only_files};
 use crate::mnemonics::Mnemonics;
 use crate::parts::{files, put_strings};
 use actions::{Files, Inputs, Words};
-use depsets::{Depset, ElementType};
+use depsets::Depset;
 use heap::Heap;
+use making::has_only_files;
 use operands::Operand;
 use plain::Text;
 use state::{sequence_of, text_of};
@@ -69,17 +69,6 @@ fn depset_inputs(depset: &Depset) -> Result<Inputs, Broken>
     }
     let depset = depset.share()?;
     Ok(Inputs::Depset(depset))
-}
-
-/// Whether a depset is empty or of Files.
-fn has_only_files(depset: &Depset) -> bool
-    ensures { result ≡ all_of_type ElementType.File (elements depset.now) }
-{
-    match depset.element_type() {
-        Some(ElementType::File) => true,
-        Some(_) => false,
-        None => true,
-    }
 }
 
 /// The words of an action: the first, and then the strings of an argument, which may be missing.

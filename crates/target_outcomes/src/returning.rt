@@ -6,19 +6,18 @@ ghost use Rattle.ticks.specs.Ticking.{Count, FaultOr};
 ghost use Rattle.visits.specs.Freeze.{freeze_at};
 ghost use Rattle.language.specs.Language.{function_id};
 ghost use Rattle.call_stack.specs.LinkedView.{codes_of};
-ghost use Rattle.frames.specs.Answers.{id_seen};
-ghost use Rattle.evaluation.specs.Worlds.{path_at};
 ghost use Rattle.evaluation.specs.Runs.{implemented_with};
 ghost use Rattle.implementations.specs.Implementations.{target_world};
 ghost use Rattle.target_outcomes.specs.Seen.{defined_at, Implements};
 
 use call_stack::Linked;
 use contexts::Work;
-use frames::FunctionId;
+use evaluator::function_id;
 use language::Whole;
 use loading::Placed;
 use operations::State;
 use plain::Text;
+use running::path_at;
 use std::alloc::{AllocError, Global};
 use values::{Broken, Frozen, FunctionRef, Item, Kind, MadeId, VISITED_LEVELS, Value};
 use visits::freeze;
@@ -32,26 +31,6 @@ pub(crate) struct Implemented {
 
 /// What the call of a function returned, and the state after it with the work of its place.
 pub(crate) type Returned<'a> = (Value, Box<Whole<'a, Work>>);
-
-/// The path of the file of a number; a number that no file has stands for the empty text.
-fn path_at(alloc: Global, paths: &[Text], file: usize) -> Result<Text, AllocError>
-    ensures { IfOk result (λ t. t ≡ path_at paths.now file) }
-{
-    match paths.get(file) {
-        Some(path) => path.share(),
-        None => Text::new(alloc, ""),
-    }
-}
-
-/// A function's number among all.
-fn function_id(id: MadeId) -> FunctionId
-    ensures { id_seen result ≡ function_id id }
-{
-    FunctionId {
-        file: id.module as usize,
-        number: id.number as usize,
-    }
-}
 
 /// The line of a function's `def`, if it has one.
 fn def_line(codes: &Linked, id: MadeId) -> Option<usize>

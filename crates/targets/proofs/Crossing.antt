@@ -1,13 +1,16 @@
--- Rules and targets may cross threads.
+-- Rules, targets and what becomes of labels may cross threads.
 use denote.Param.Send.{IsSend, IsSync, sendable}
 use Rattle.std.proofs.Crossing as std
 use Rattle.std.proofs.MapsCrossing as maps
 use Rattle.plain.proofs.text.Text.TheSendSync as text
+use Rattle.depsets.proofs.element.FileRef.TheSendSync as file
 use Rattle.keys.proofs.key.Key.TheSendSync as key
 use Rattle.workspace.proofs.labels.Label.TheSendSync as label
 use Rattle.values.proofs.Crossing.{frozen_send, frozen_sync}
 use Rattle.leaves.proofs.leaf.FunctionRef.TheSendSync as function
 use Rattle.leaves.proofs.leaf.Provider.TheSendSync as provider
+use Rattle.actions.proofs.Crossing.{action_send, action_sync}
+use Rattle.targets.proofs.outcome.TargetFault.TheSendSync as fault
 use Rattle.targets.specs.contracts.text_list.TextList as TextList
 use Rattle.targets.specs.contracts.text_dict.TextDict as TextDict
 use Rattle.targets.specs.contracts.attributes.AttributeValue as AttributeValue
@@ -15,6 +18,10 @@ use Rattle.targets.specs.contracts.attributes.Attribute as Attribute
 use Rattle.targets.specs.contracts.rule_attributes.RuleAttributes as RuleAttributes
 use Rattle.targets.specs.contracts.attributes.Rule as Rule
 use Rattle.targets.specs.contracts.target.Target as Target
+use Rattle.targets.specs.contracts.outcome.Actions as Actions
+use Rattle.targets.specs.contracts.outcome.Providers as Providers
+use Rattle.targets.specs.contracts.outcome.Outcome as Outcome
+use Rattle.targets.specs.contracts.source_file.SourceFile as SourceFile
 
 -- ---- what a target has for an attribute
 
@@ -61,3 +68,29 @@ target_send = search (rule_send, rule_sync, value_send, label.the_send, label.th
 
 pub target_sync : IsSync (Target.the_field).row
 target_sync = search (rule_send, rule_sync, value_sync, label.the_send, label.the_sync, std.crosses, sendable) depth 60 fits 20000
+
+-- ---- what becomes of a label
+
+pub source_send : IsSend SourceFile.the_row
+source_send = search (frozen_send, file.the_send, file.the_sync, std.crosses, sendable) depth 60 fits 20000
+
+pub source_sync : IsSync SourceFile.the_row
+source_sync = search (frozen_sync, file.the_send, file.the_sync, std.crosses, sendable) depth 60 fits 20000
+
+pub providers_send : IsSend Providers.the_row
+providers_send = search (frozen_send, std.crosses, sendable) depth 60 fits 20000
+
+pub providers_sync : IsSync Providers.the_row
+providers_sync = search (frozen_sync, std.crosses, sendable) depth 60 fits 20000
+
+pub actions_send : IsSend Actions.the_row
+actions_send = search (action_send, std.crosses, sendable) depth 60 fits 20000
+
+pub actions_sync : IsSync Actions.the_row
+actions_sync = search (action_sync, std.crosses, sendable) depth 60 fits 20000
+
+pub outcome_send : IsSend Outcome.the_row
+outcome_send = search (source_send, providers_send, actions_send, fault.the_field_send, std.crosses, sendable) depth 60 fits 20000
+
+pub outcome_sync : IsSync Outcome.the_row
+outcome_sync = search (source_sync, providers_sync, actions_sync, fault.the_field_sync, std.crosses, sendable) depth 60 fits 20000

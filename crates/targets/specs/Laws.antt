@@ -1,4 +1,4 @@
--- What the definitions of targets mean, in the field's words.
+-- What the definitions of targets mean, in the field's words. (docs/PROFILE.md, "Targets"; this project's own.)
 use Rattle.std.specs.Prelude.{◌≡◌, ◌↔◌, ℕ, true, false, List, [], ◌∷◌, ◌++◌, map, length, Some, None, Result, Ok, Contains}
 use Rattle.std.specs.List.{IsDistinct, AllByRecursion, list_any}
 use Rattle.depsets.specs.Keys.{firsts}

@@ -41,6 +41,7 @@ unless_none o = o
 abbrev pub given_as : Given → List ℕ → Option Value
 given_as g x = unless_none (given_for x g.names g.values)
 
+-- whether something was given for it
 abbrev pub is_given : Given → List ℕ → Bool
 is_given g x = is_some (given_as g x)
 
@@ -54,6 +55,7 @@ may_name attributes x = bytes_eq x (codes "name") || (not (is_private x) && list
 abbrev pub is_missed : Given → NamedAttribute → Bool
 is_missed g a = a.attribute.mandatory && not (is_given g a.name)
 
+-- whether the arguments of a call fit the rule, so that none of these is so
 abbrev pub fits : Rule → Given → Bool
 fits r g =
     nat_eq (length g.items) 0 && (list_all (may_name r.attributes) g.names
@@ -65,6 +67,7 @@ fits r g =
 abbrev pub is_allowed : List Key → Key → Bool
 is_allowed ks k = nat_eq (length ks) 0 || list_any (same_key k) ks
 
+-- the value, if the attribute allows it
 abbrev pub if_allowed : List Key → Key → Option AttributeValue
 if_allowed ks k = if is_allowed ks k then Some (has.Key k) else None
 
@@ -76,6 +79,7 @@ each_of f (x ∷ xs) = option_and_then (λ y. option_map (λ ys. y ∷ ys) (each
 -- Values of the heap, and the texts of labels, which are read in the package of the BUILD file that runs, also where a function
 -- of another package makes the call.
 module _ (h : List Cell) («package» : List ℕ) where
+  -- the label that a value shows as a text, if it shows one
   abbrev pub label_in : Shape → Option LabelParts
   label_in s = option_and_then (λ t. label_of t (Some «package»)) (string_in s)
 
@@ -91,6 +95,7 @@ module _ (h : List Cell) («package» : List ℕ) where
   typed kind.LabelList allowed (items true xs) = option_map has.Labels (each_of (λ v. label_in (shape h v)) xs)
   typed _ _ _ = None
 
+  -- what was given, if it is of the attribute's kind; the default where nothing was given
   abbrev pub given_or_default : Attribute → Option Value → Option AttributeValue
   given_or_default a None = Some (default_of a)
   given_or_default a (Some v) = typed a.kind a.values (shape h v)
@@ -106,13 +111,16 @@ module _ (h : List Cell) («package» : List ℕ) where
 
 -- ---- `key`: a label twice in a list that was given; a name that the package has declared
 
+-- the packages are the same, and the names are
 abbrev pub same_label : LabelParts → LabelParts → Bool
 same_label a b = bytes_eq a.«package» b.«package» && bytes_eq a.name b.name
 
+-- whether a label stands there twice
 abbrev pub repeats : List LabelParts → Bool
 repeats [] = false
 repeats (l ∷ ls) = list_any (same_label l) ls || repeats ls
 
+-- whether a value is a list of labels that has one twice
 abbrev pub repeats_label : AttributeValue → Bool
 repeats_label (has.Labels ls) = repeats ls
 repeats_label _ = false
@@ -123,19 +131,23 @@ repeats_given [] g vs = false
 repeats_given (a ∷ rest) g [] = false
 repeats_given (a ∷ rest) g (v ∷ vs) = (is_given g a.name && repeats_label v) || repeats_given rest g vs
 
+-- whether a target of this label is among those that were declared
 abbrev pub has_declared : List Target → LabelParts → Bool
 has_declared ts l = list_any (λ t. same_label l t.label) ts
 
 -- ---- `steps`: what was given is frozen, without `name`, in the order of the rule's attributes
 
+-- an item before others, if there is one
 abbrev pub put_first : {A : Type 0} → Option A → List A → List A
 put_first None xs = xs
 put_first (Some x) xs = x ∷ xs
 
+-- what was given for the attributes of a rule, in their order
 abbrev pub given_values : List NamedAttribute → Given → List Value
 given_values [] g = []
 given_values (a ∷ rest) g = put_first (given_as g a.name) (given_values rest g)
 
+-- what freezing all that comes to: the ticks after it, or its fault
 abbrev pub frozen_given : Rule → Given → List Cell → Count → Ticking (Unit {0})
 frozen_given r g h c = then_on (all_of (freeze_at VISITED_LEVELS h) (given_values r.attributes g) c) (λ ts d. Ok (tt, d))
 
@@ -145,6 +157,7 @@ frozen_given r g h c = then_on (all_of (freeze_at VISITED_LEVELS h) (given_value
 abbrev pub after_freezing : Target → Rule → Given → Op Target
 after_freezing t r g s = with_ticks s (then_on (frozen_given r g s.heap s.ticks) (λ u d. Ok (t, d)))
 
+-- a call that fits, by the label and the values that it gives: `type` where it gives none, then `key`, then `steps`
 abbrev pub typed_call : Rule → List Target → Given → Option LabelParts → Option (List AttributeValue) → Op Target
 typed_call r declared g (Some l) (Some vs) s =
     if repeats_given r.attributes g vs || has_declared declared l then Err key_fault

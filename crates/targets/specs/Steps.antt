@@ -40,13 +40,16 @@ abbrev pub is_new_instance : List FrozenTree → Option Provider → Bool
 is_new_instance ts None = false
 is_new_instance ts (Some p) = not (offers ts p)
 
+-- whether that is so of all of a list
 abbrev pub are_instances : List FrozenTree → Bool
 are_instances [] = true
 are_instances (t ∷ ts) = is_new_instance ts (provider_of t) && are_instances ts
 
+-- the list, if that is so
 abbrev pub if_instances : List FrozenTree → Option (List FrozenTree)
 if_instances ts = if are_instances ts then Some ts else None
 
+-- the instances that a list has, if that is so of it; a tuple or a dict has none
 abbrev pub branch_instances : FrozenBranch → Option (List FrozenTree)
 branch_instances (list ts) = if_instances (tree_list ts)
 branch_instances _ = None
@@ -67,6 +70,7 @@ with_default_info l ts = if offers ts default_info then ts else missing_default_
 
 -- ---- `no action`
 
+-- whether a File of this path is among the outputs of an action
 abbrev pub makes : List ℕ → Action → Bool
 makes path a = list_any (λ f. bytes_eq path f.path) a.outputs
 
@@ -77,10 +81,12 @@ first_unmade actions (f ∷ fs) = if list_any (makes f.path) actions then first_
 
 -- ---- a target whose dependencies are fit
 
+-- `no action` where a declared File isn't made, and else the providers and the actions
 abbrev pub made_whole : LabelParts → List FrozenTree → List Action → Option (List ℕ) → Outcome
 made_whole l ts actions (Some path) = Failed (fault.NoAction path)
 made_whole l ts actions None = Done (with_default_info l ts) actions
 
+-- `returned` where the result is neither None nor a list of instances
 abbrev pub with_instances : LabelParts → Implemented → Option (List FrozenTree) → Outcome
 with_instances l i None = Failed fault.Returned
 with_instances l i (Some ts) = made_whole l ts i.actions (first_unmade i.actions i.files)
@@ -93,10 +99,12 @@ finished l (Ok i) = with_instances l i (instances_in i.result)
 
 -- ---- a target
 
+-- whether an outcome is a failure
 abbrev pub is_failed : Outcome → Bool
 is_failed (Failed f) = true
 is_failed _ = false
 
+-- the labels of the dependencies that failed, in their order
 abbrev pub failed_labels : List Dependency → List LabelParts
 failed_labels ds = map (λ d. d.0) (filter (λ d. is_failed d.1) ds)
 
@@ -108,6 +116,7 @@ with_outcomes (l ∷ ls) (o ∷ os) = (l, o) ∷ with_outcomes ls os
 
 -- `implement` is what a call of the function of a target's rule comes to, with dependencies that have these outcomes.
 module _ (implement : LabelParts → Target → List Dependency → Result Implemented Fault) where
+  -- the fault of a dependency that is refused, and else what the implementation comes to
   abbrev pub unless_refused : LabelParts → Target → List Dependency → Option TargetFault → Outcome
   unless_refused l t ds (Some f) = Failed f
   unless_refused l t ds None = finished l (implement l t ds)
@@ -117,6 +126,7 @@ module _ (implement : LabelParts → Target → List Dependency → Result Imple
   analysed l t ds (f ∷ fs) = Failed (fault.DependencyFailed (f ∷ fs))
   analysed l t ds [] = unless_refused l t ds (first_refused ds t.rule.attributes t.values)
 
+  -- the outcome of a target, from its dependencies with their outcomes
   abbrev pub target_outcome : LabelParts → Target → List Dependency → Outcome
   target_outcome l t ds = analysed l t ds (failed_labels ds)
 

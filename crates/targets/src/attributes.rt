@@ -1,5 +1,6 @@
 //! Rules and their attributes.
 ghost use Rattle.std.specs.Prelude.{◌≡◌, IfOk};
+ghost use Rattle.targets.specs.Attributes.{is_private};
 
 use crate::{RuleAttributes, Sequence, TextDict, TextList};
 use plain::{Shared, Text};
@@ -30,21 +31,26 @@ pub enum AllowFiles {
 /// The declaration of an attribute, as `attr.label_list(..)` makes it. Several rules, and several names of one rule, may have it.
 #[derive(Drop)]
 pub struct Attribute {
+    /// `string`, `int`, `bool`, `string_list`, `string_dict`, `label` or `label_list`.
     pub kind: AttributeKind,
     /// None where no default was given: then that of the kind stands.
     pub default: Option<AttributeValue>,
+    /// Whether each target has to give it.
     pub mandatory: bool,
     /// The strings or whole numbers that it takes; all, where there are none.
     pub values: Sequence<Key>,
     /// A target that it takes offers all providers of one of these lists; any target does where there are none.
     pub providers: Sequence<Sequence<Shared<Provider>>>,
+    /// Which source files it takes, where it is one of labels.
     pub allow_files: AllowFiles,
 }
 
 /// An attribute by its name in a rule.
 #[derive(Drop)]
 pub struct NamedAttribute {
+    /// Its name, as `attrs` has it.
     pub name: Text,
+    /// Its declaration.
     pub attribute: Shared<Attribute>,
 }
 
@@ -52,7 +58,9 @@ pub struct NamedAttribute {
 /// among them.
 #[derive(Drop)]
 pub struct Rule {
+    /// The function that is called with `ctx`.
     pub implementation: Shared<FunctionRef>,
+    /// Its attributes, in the order of `attrs`.
     pub attributes: RuleAttributes,
 }
 
@@ -91,5 +99,15 @@ impl Drop for AllowFiles {
             AllowFiles::Nothing => {}
             AllowFiles::Ending(_) => {}
         }
+    }
+}
+
+/// Whether an attribute of this name is private.
+pub fn is_private(name: &str) -> bool
+    ensures { result ≡ is_private name.now }
+{
+    match name.as_bytes() {
+        [first, ..] => *first == b'_',
+        [] => false,
     }
 }

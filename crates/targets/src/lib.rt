@@ -19,7 +19,7 @@ mod target;
 mod text_dict;
 mod text_list;
 
-pub use attributes::{AllowFiles, Attribute, AttributeValue, NamedAttribute, Rule};
+pub use attributes::{AllowFiles, Attribute, AttributeValue, NamedAttribute, Rule, is_private};
 pub use outcome::{Actions, Outcome, Providers, TargetFault};
 pub use rule_attributes::RuleAttributes;
 pub use sequence::Sequence;

@@ -1,5 +1,6 @@
 //! What becomes of a label, as workers hand it on.
 ghost use Rattle.std.specs.Prelude.{◌≡◌, ◌++◌, ◌∷◌, [], IfOk, OnOk, OnErr};
+ghost use Rattle.targets.specs.Steps.{is_failed};
 
 use crate::{Sequence, SourceFile};
 use actions::Action;
@@ -163,6 +164,19 @@ impl Drop for Outcome {
             Outcome::Source(_) => {}
             Outcome::Done(_, _) => {}
             Outcome::Failed(_) => {}
+        }
+    }
+}
+
+impl Outcome {
+    /// Whether it is a failure.
+    pub fn is_failed(&self) -> bool
+        ensures { result ≡ is_failed self.now }
+    {
+        match self {
+            Outcome::Source(_) => false,
+            Outcome::Done(_, _) => false,
+            Outcome::Failed(_) => true,
         }
     }
 }

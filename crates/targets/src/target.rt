@@ -8,7 +8,10 @@ use workspace::Label;
 /// order.
 #[derive(Drop)]
 pub struct Target {
+    /// Its label.
     pub label: Shared<Label>,
+    /// Its rule.
     pub rule: Shared<Rule>,
+    /// What it has for each attribute of its rule, in the order of these.
     pub values: Sequence<AttributeValue>,
 }

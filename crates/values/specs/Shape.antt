@@ -1,5 +1,5 @@
 -- What a value shows to equality, freezing and `str`, wherever it stands: a key, a leaf, items, entries or fields.
--- A frozen list and a list of the heap show the same.
+-- A frozen list and a list of the heap show the same. (docs/PROFILE.md, "Values".)
 use Rattle.std.specs.Prelude.{Bool, true, false, List, [], ◌∷◌, map, Option, Some, None, slice_get}
 use Rattle.values.specs.Tree.{key as key_tree, leaf, branch, list, tuple, dict, instance, tree_list, pair_list, slot_list}
 use Rattle.values.specs.View.{FrozenTree, FrozenBranch}

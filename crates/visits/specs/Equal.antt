@@ -1,4 +1,4 @@
--- Equality of values (Starlark's specification, "Comparison"; that two values of some types can't be compared,
+-- Equality of values (Starlark's specification, "Comparisons"; that two values of some types can't be compared,
 -- ticks and depth are this project's own), by recursion on the levels that are left.
 use Rattle.std.specs.Prelude.{ℕ, zero, suc, Bool, true, false, ◌&&◌, List, [], ◌∷◌, length, Option, Some, None, Result, Ok, Err, if◌then◌else◌, nat_eq}
 use Rattle.std.specs.Map.{lookup}

@@ -3,7 +3,7 @@
 ghost use Rattle.std.specs.Prelude.{◌≡◌, IfOk, true, None, Some, Err};
 ghost use Rattle.std.specs.Str.{bytes_eq};
 ghost use Rattle.std.specs.Ordering.{nat_cmp, on};
-ghost use Rattle.workspace.specs.Labels.{is_label, label_of, label_parts, label_text, given_package, relative_name, whole_parts, written_parts};
+ghost use Rattle.workspace.specs.Labels.{is_label, label_of, label_parts, label_path, label_text, given_package, relative_name, whole_parts, written_parts};
 
 use crate::paths::{PATH_LIMIT, is_path, last_segment};
 use plain::Text;
@@ -165,6 +165,22 @@ impl Label {
         ensures { result.now ≡ label_text self.now }
     {
         &self.text
+    }
+
+    /// The path of the file that it names: the package, a slash and the name, or in the root package the name alone.
+    ///
+    /// # Errors
+    ///
+    /// `AllocError` where memory was refused.
+    pub fn path(&self, alloc: Global) -> Result<Text, AllocError>
+        ensures { IfOk result (λ t. t ≡ label_path self.now) }
+    {
+        let package = self.package();
+        let name = self.name();
+        if package.is_empty() {
+            return Text::new(alloc, name);
+        }
+        Text::from_string(format!(in alloc; "{package}/{name}")?)
     }
 
     /// Another name of the same label. It may share its text.

@@ -8,7 +8,8 @@ use Rattle.values.specs.View.{FrozenTree, FrozenBranch}
 use Rattle.keys.specs.declared.key.Key.{Key}
 use Rattle.leaves.specs.declared.leaf.Leaf.{Leaf}
 use Rattle.leaves.specs.declared.leaf.Provider.{Provider}
-use Rattle.printing.specs.Texts.{IsCoherentTree, IsCoherentBranch, AreCoherentSlots, field_head, provider_text}
+use Rattle.leaf_texts.specs.Texts.{field_head, provider_text}
+use Rattle.printing.specs.TreeTexts.{IsCoherentTree, IsCoherentBranch, AreCoherentSlots}
 use Rattle.printing.proofs.TreeTextLemmas.{text-coherent}
 use Rattle.actions.specs.declared.action.Action.{Action}
 use Rattle.actions.specs.declared.action.Inputs.{Inputs}

@@ -1,7 +1,7 @@
 use denote.Param.Send.{sendable}
 use Rattle.std.proofs.Crossing as std
 use Rattle.pool.proofs.gathered.Gathered.TheSendSync as gathered
-use Rattle.reporting.proofs.Crossing.{outcome_send, outcome_sync}
+use Rattle.targets.proofs.Crossing.{outcome_send, outcome_sync}
 use Rattle.answers.proofs.report.told_together.Goals as goal
 
 pub of_three-requires-send-A : goal.of_three-requires-send-A

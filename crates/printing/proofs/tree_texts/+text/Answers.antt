@@ -3,9 +3,10 @@ use Rattle.std.proofs.Common.{◌≡◌, ◌+◌, ◌++◌, Some, drop, string_b
 use Rattle.depsets.specs.Listed.{walked}
 use Rattle.values.specs.Tree.{trees, pairs, slots, weight, branch_weight, weights, pair_weights, slot_weights}
 use Rattle.values.specs.View.{tree_of, node_branch}
-use Rattle.printing.specs.Texts.{separator, joined, joined_from, how_many, tuple_end, entry_head, field_head, text_by, branch_text_by, texts_by, field_texts_by}
+use Rattle.leaf_texts.specs.Texts.{separator, joined, joined_from, tuple_end, entry_head, field_head}
+use Rattle.printing.specs.TreeTexts.{how_many, text_by, branch_text_by, texts_by, field_texts_by}
 use Rattle.printing.proofs.TreeTextLemmas.{weight_at, pair_weight_at, slot_weight_at, fields-next, fields-skip, fields-short, how_many-trees, trees-next, trees-end, pairs-next, pairs-end}
-use Rattle.printing.proofs.TextLemmas.{parts-end}
+use Rattle.leaf_texts.proofs.TextLemmas.{parts-end}
 use Rattle.printing.proofs.tree_texts.+text.Goals.{put_fields-in-Some+in_ok-put_separator+in_ok-put_field_head+in_ok-put_tree, put_fields-in_default}
 use Rattle.printing.proofs.tree_texts.+text.Goals as goal
 

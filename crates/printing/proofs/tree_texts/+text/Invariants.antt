@@ -2,7 +2,8 @@ use Rattle.std.proofs.Common.{◌≡◌, ◌≤◌, ◌++◌, string_bytes, ◌+
 use Rattle.depsets.specs.Listed.{walked}
 use Rattle.values.specs.Tree.{trees, pairs, slots, weight, branch_weight, weights, pair_weights, slot_weights}
 use Rattle.values.specs.View.{node_branch}
-use Rattle.printing.specs.Texts.{joined, joined_from, entry_head, texts_by, pair_texts_by, field_texts_by}
+use Rattle.leaf_texts.specs.Texts.{joined, joined_from, entry_head}
+use Rattle.printing.specs.TreeTexts.{texts_by, pair_texts_by, field_texts_by}
 use Rattle.printing.proofs.tree_texts.+text.Given as goal
 
 abbrev pub invariant-put_pairs-loop-i : goal.invariant-put_pairs-loop-i

@@ -1,6 +1,6 @@
 use Rattle.std.proofs.Common.{◌++◌, ap, ◌∙◌}
 use Rattle.depsets.specs.Listed.{walked}
-use Rattle.printing.specs.Texts.{text_by}
+use Rattle.printing.specs.TreeTexts.{text_by}
 use Rattle.printing.proofs.TreeTextLemmas.{text-coherent}
 use Rattle.printing.proofs.tree_texts.text.Goals as goal
 

@@ -1,5 +1,5 @@
 use Rattle.std.proofs.Common.{◌++◌, ◌∙◌, ap, map, flat_map, drop, string_bytes, ◌+◌, arith}
-use Rattle.printing.specs.Texts.{joined_from, quoted, separator}
+use Rattle.leaf_texts.specs.Texts.{joined_from, quoted, separator}
 use Rattle.claims.specs.Same.{element_paths}
 use Rattle.reporting.proofs.ElementPaths.{file-next, other-next, no_paths}
 use Rattle.reporting.proofs.strings_in.put_element_paths.Goals as goal

@@ -1,5 +1,5 @@
 use Rattle.std.proofs.Common.{◌≡◌, ◌≤◌, ◌++◌, drop, flat_map, map, string_bytes}
-use Rattle.printing.specs.Texts.{joined_from, joined, quoted}
+use Rattle.leaf_texts.specs.Texts.{joined_from, joined, quoted}
 use Rattle.claims.specs.Same.{element_paths}
 use Rattle.reporting.proofs.strings_in.put_element_paths.Given as goal
 

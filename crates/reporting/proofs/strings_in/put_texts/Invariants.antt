@@ -1,5 +1,5 @@
 use Rattle.std.proofs.Common.{◌≡◌, ◌++◌, drop, map, string_bytes}
-use Rattle.printing.specs.Texts.{joined_from, joined, quoted}
+use Rattle.leaf_texts.specs.Texts.{joined_from, joined, quoted}
 use Rattle.reporting.proofs.strings_in.put_texts.Given as goal
 
 abbrev pub invariant-loop-i : goal.invariant-loop-i

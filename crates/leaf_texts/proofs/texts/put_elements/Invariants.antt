@@ -1,6 +1,6 @@
 use Rattle.std.proofs.Common.{◌≡◌, ◌++◌, drop, map, string_bytes}
-use Rattle.printing.specs.Texts.{joined_from, joined, element_text}
-use Rattle.printing.proofs.texts.put_elements.Given as goal
+use Rattle.leaf_texts.specs.Texts.{joined_from, joined, element_text}
+use Rattle.leaf_texts.proofs.texts.put_elements.Given as goal
 
 abbrev pub invariant-loop-i : goal.invariant-loop-i
 invariant-loop-i l =

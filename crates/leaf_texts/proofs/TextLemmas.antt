@@ -1,7 +1,7 @@
 -- One turn of each loop that writes parts with commas between them.
 use Rattle.std.proofs.Common.{◌≡◌, ℕ, ◌+◌, ◌≤◌, List, [], ◌∷◌, ◌++◌, length, drop, map, slice_get, Some, sym, ap, ◌∙◌, append_assoc, append-nil, drop_of_length-le}
 use Rattle.depsets.proofs.Turns.{drop_at}
-use Rattle.printing.specs.Texts.{separator, joined_from}
+use Rattle.leaf_texts.specs.Texts.{separator, joined_from}
 
 module _ {X : Type 0} (f : X → List ℕ) (xs : List X) (i : ℕ) (out : List ℕ) where
   pub joined-next : (x : X) (then : List ℕ) → slice_get xs i ≡ Some x → then ≡ out ++ (separator i ++ f x)

@@ -1,8 +1,8 @@
 use Rattle.std.proofs.Common.{◌≡◌, ◌++◌, string_bytes, sym, ap, ◌∙◌, true}
 use Rattle.std.specs.List.{list_all}
-use Rattle.printing.specs.Texts.{is_bare}
-use Rattle.printing.proofs.QuotedLemmas.{escape-all_bare}
-use Rattle.printing.proofs.texts.put_unquoted.Goals as goal
+use Rattle.leaf_texts.specs.Texts.{is_bare}
+use Rattle.leaf_texts.proofs.QuotedLemmas.{escape-all_bare}
+use Rattle.leaf_texts.proofs.quoting.put_unquoted.Goals as goal
 
 pub returns : goal.returns
 returns c =

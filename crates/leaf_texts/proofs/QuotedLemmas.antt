@@ -1,7 +1,7 @@
 -- Strings of which every byte is written as it stands.
 use Rattle.std.proofs.Common.{◌≡◌, ℕ, Bool, true, false, not, ◌&&◌, ◌==◌, nat_lt, if◌then◌else◌, List, [], ◌∷◌, ◌++◌, flat_map, sym, ap, refl, ◌∙◌, true≢false}
 use Rattle.std.specs.List.{list_all}
-use Rattle.printing.specs.Texts.{escape, is_bare}
+use Rattle.leaf_texts.specs.Texts.{escape, is_bare}
 
 -- the last of the choices, where none of those before it applies
 last : (p q r s t : Bool) (a b c d e f : List ℕ) → (not p && not q && not r && not s && t) ≡ true

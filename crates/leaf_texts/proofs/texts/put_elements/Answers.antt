@@ -1,7 +1,7 @@
 use Rattle.std.proofs.Common.{◌∙◌, string_bytes}
-use Rattle.printing.specs.Texts.{element_text}
-use Rattle.printing.proofs.TextLemmas.{joined-next}
-use Rattle.printing.proofs.texts.put_elements.Goals as goal
+use Rattle.leaf_texts.specs.Texts.{element_text}
+use Rattle.leaf_texts.proofs.TextLemmas.{joined-next}
+use Rattle.leaf_texts.proofs.texts.put_elements.Goals as goal
 
 pub loop-i-preserved : goal.loop-i-preserved
 loop-i-preserved c =

@@ -1,107 +1,16 @@
-//! The texts of values, as a report prints them.
-//!
-//! Each function appends to a `String` what a definition of `specs/Texts` says. A depset is printed by its
-//! listing, whose walk skips what it has seen; of a coherent value that is the text of the plain meaning.
-ghost use Rattle.std.specs.Prelude.{◌≡◌, ◌+◌, ◌<◌, ◌++◌, ◌∷◌, [], codes, length, map, string_bytes, IfOk, OnOk};
+//! The texts of what has no parts.
+ghost use Rattle.std.specs.Prelude.{◌≡◌, ◌++◌, codes, map, string_bytes, OnOk};
 ghost use Rattle.std.specs.Fmt.{signed_decimal};
-ghost use Rattle.std.specs.List.{flat_map, list_all};
 ghost use Rattle.depsets.specs.Rose.{label};
 ghost use Rattle.depsets.specs.Listed.{walked};
-ghost use Rattle.leaves.specs.Leaves.{built_in_text};
-ghost use Rattle.printing.specs.Texts.{hex_digit, unescaped, escape, is_bare, quoted, separator, joined, truth_text, file_text, export_text, exported_text, provider_text, order_text, attribute_text, object_text, element_text, leaf_text, key_text, field_head, tuple_end};
+ghost use Rattle.leaf_texts.specs.Texts.{separator, joined, truth_text, file_text, export_text, exported_text, provider_text, order_text, attribute_text, object_text, depset_text, element_text, leaf_text, key_text, field_head, tuple_end};
 
-use depsets::Elements;
+use crate::quoting::put_quoted;
+use depsets::{Depset, Element, Elements, FileRef, Order};
+use keys::Key;
+use leaves::{AttributeKind, ExportName, Exported, FunctionRef, Leaf, Object, ProviderRef};
 use plain::Text;
 use std::alloc::{AllocError, Global};
-use values::{
-    AttributeKind, Depset, Element, ExportName, Exported, FileRef, FunctionRef, Key, Leaf, Object,
-    Order, ProviderRef,
-};
-
-/// Appends a hexadecimal digit.
-fn put_digit(out: &mut String, digit: u8) -> Result<(), AllocError>
-    requires { digit < 16 }
-    ensures { OnOk result (string_bytes out.new ≡ string_bytes out.old ++ hex_digit digit ∷ []) }
-{
-    let code = if digit < 10 { 48 + digit } else { 87 + digit };
-    out.push(char::from(code))?;
-    Ok(())
-}
-
-/// Appends a byte that needs no escape, or that is no ASCII.
-fn put_unescaped(out: &mut String, byte: u8) -> Result<(), AllocError>
-    ensures { OnOk result (string_bytes out.new ≡ string_bytes out.old ++ unescaped byte) }
-{
-    if byte < 128 {
-        out.push(char::from(byte))?;
-        return Ok(());
-    }
-    out.push_str("\\x")?;
-    put_digit(out, byte / 16)?;
-    put_digit(out, byte % 16)?;
-    Ok(())
-}
-
-/// Appends one byte of a string, escaped.
-fn put_byte(out: &mut String, byte: u8) -> Result<(), AllocError>
-    ensures { OnOk result (string_bytes out.new ≡ string_bytes out.old ++ escape byte) }
-{
-    match byte {
-        b'\n' => out.push_str("\\n")?,
-        b'\t' => out.push_str("\\t")?,
-        b'\\' => out.push_str("\\\\")?,
-        b'"' => out.push_str("\\\"")?,
-        _ => put_unescaped(out, byte)?,
-    }
-    Ok(())
-}
-
-/// Whether a byte is written as it stands.
-fn is_bare(byte: u8) -> bool
-    ensures { result ≡ is_bare byte }
-{
-    byte != b'\n' && byte != b'\t' && byte != b'\\' && byte != b'"' && byte < 128
-}
-
-/// Whether every byte is written as it stands.
-fn are_bare(text: &[u8]) -> bool
-    ensures { result ≡ list_all is_bare text.now }
-{
-    text.iter().all(|byte| is_bare(*byte))
-}
-
-/// Appends bytes, each escaped.
-fn put_escaped(out: &mut String, text: &[u8]) -> Result<(), AllocError>
-    ensures { OnOk result (string_bytes out.new
-        ≡ string_bytes out.old ++ flat_map escape text.now) }
-{
-    for byte in text {
-        put_byte(out, *byte)?;
-    }
-    Ok(())
-}
-
-/// Appends a string, escaped. Mostly it is written as it stands, and then all at once.
-fn put_unquoted(out: &mut String, text: &str) -> Result<(), AllocError>
-    ensures { OnOk result (string_bytes out.new
-        ≡ string_bytes out.old ++ flat_map escape text.now) }
-{
-    if !are_bare(text.as_bytes()) {
-        return put_escaped(out, text.as_bytes());
-    }
-    out.push_str(text)?;
-    Ok(())
-}
-
-/// Appends a string between quotes.
-pub fn put_quoted(out: &mut String, text: &str) -> Result<(), AllocError>
-    ensures { OnOk result (string_bytes out.new ≡ string_bytes out.old ++ quoted text.now) }
-{
-    out.push_str("\"")?;
-    put_unquoted(out, text)?;
-    out.push_str("\"")?;
-    Ok(())
-}
 
 /// Appends a whole number.
 fn put_number(out: &mut String, number: i64) -> Result<(), AllocError>
@@ -294,21 +203,28 @@ fn put_elements(out: &mut String, elements: &Elements<'_>) -> Result<(), AllocEr
     Ok(())
 }
 
-/// Appends a depset, by its listing.
-fn put_depset(alloc: Global, out: &mut String, depset: &Depset) -> Result<(), AllocError>
+/// Appends the elements of a depset, and what it ends with.
+fn put_listed(out: &mut String, elements: &Elements<'_>) -> Result<(), AllocError>
     ensures { OnOk result (string_bytes out.new
-        ≡ string_bytes out.old ++ (codes "depset(" ++ order_text (label depset.now).order ++ codes
-        ", [" ++ joined (map element_text (walked depset.now)) ++ codes "])")) }
+        ≡ string_bytes out.old ++ (joined (map element_text elements.now) ++ codes "])")) }
 {
-    put_between(out, "depset(", order_name(depset.order()), ", [")?;
-    let listing = depset.list_whole(alloc)?;
-    put_elements(out, &listing.items)?;
+    put_elements(out, elements)?;
     out.push_str("])")?;
     Ok(())
 }
 
+/// Appends a depset, by its listing.
+fn put_depset(alloc: Global, out: &mut String, depset: &Depset) -> Result<(), AllocError>
+    ensures { OnOk result (string_bytes out.new
+        ≡ string_bytes out.old ++ depset_text (label depset.now).order (walked depset.now)) }
+{
+    put_between(out, "depset(", order_name(depset.order()), ", [")?;
+    let listing = depset.list_whole(alloc)?;
+    put_listed(out, &listing.items)
+}
+
 /// Appends a leaf.
-pub(crate) fn put_leaf(alloc: Global, out: &mut String, leaf: &Leaf) -> Result<(), AllocError>
+pub fn put_leaf(alloc: Global, out: &mut String, leaf: &Leaf) -> Result<(), AllocError>
     ensures { OnOk result (string_bytes out.new
         ≡ string_bytes out.old ++ leaf_text walked leaf.now) }
 {
@@ -331,7 +247,7 @@ pub(crate) fn put_leaf(alloc: Global, out: &mut String, leaf: &Leaf) -> Result<(
 }
 
 /// Appends a key of a dict, as a value.
-pub(crate) fn put_key(out: &mut String, key: &Key) -> Result<(), AllocError>
+pub fn put_key(out: &mut String, key: &Key) -> Result<(), AllocError>
     ensures { OnOk result (string_bytes out.new ≡ string_bytes out.old ++ key_text key.now) }
 {
     match key {
@@ -352,7 +268,7 @@ pub fn put_field_head(out: &mut String, name: &Text) -> Result<(), AllocError>
 }
 
 /// What a tuple of so many items ends with.
-pub(crate) fn end_of_tuple(items: usize) -> &'static str
+pub fn end_of_tuple(items: usize) -> &'static str
     ensures { result.now ≡ tuple_end items }
 {
     if items == 1 { ",)" } else { ")" }
