@@ -112,8 +112,9 @@ impl Depset {
         ensures walk { IfOk result (λ l. l.items ≡ walked self.now) }
         ensures items { IfOk result (λ l. IsCoherent self.now → l.items ≡ flat self.now) }
         ensures steps { IfOk result (λ l. IsCoherent self.now → l.steps ≡ work self.now) }
-        ensures fits { IfOk result (λ l. IsCoherent self.now → length (flat self.now) ≤ ITEMS) }
-        ensures large { result ≡ Err ListError.Large → IsCoherent self.now
+        ensures fits { IfOk result (λ l. length l.items ≤ ITEMS) }
+        ensures large { result ≡ Err ListError.Large → ITEMS < length (walked self.now) }
+        ensures large_items { result ≡ Err ListError.Large → IsCoherent self.now
             → ITEMS < length (flat self.now) }
     {
         match self.list_whole(alloc) {

@@ -14,13 +14,16 @@ use values::{Frozen, Held, Key, Node, key_at, tree_at};
 
 /// The text of a frozen value, as a report prints it. A depset is printed by its whole listing.
 ///
-/// What it promises speaks of coherent values: in each depset of them, two parts with one id are the same.
+/// Of any value that is the walk which skips ids; of a coherent one, where two parts of a depset with one id are the same, it is
+/// the plain listing.
 ///
 /// # Errors
 ///
 /// `AllocError` where memory for the text or for a listing was refused.
 pub fn text(alloc: Global, value: &Frozen) -> Result<String, AllocError>
-    ensures { IfOk result (λ s. IsCoherentTree value.now → string_bytes s ≡ text_of value.now) }
+    ensures walk { IfOk result (λ s. string_bytes s ≡ text_by walked value.now) }
+    ensures plain { IfOk result
+        (λ s. IsCoherentTree value.now → string_bytes s ≡ text_of value.now) }
 {
     let mut out = String::new(alloc);
     put_tree(alloc, &mut out, value)?;
