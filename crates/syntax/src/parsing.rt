@@ -3,7 +3,8 @@
 ghost use Rattle.std.specs.Prelude.{◌≡◌, IfOk, Ok, Err};
 ghost use Rattle.grammar.specs.BareLines.{bare_lines};
 ghost use Rattle.grammar.specs.Blocks.{Block};
-ghost use Rattle.file_syntax.specs.Files.{syntax};
+ghost use Rattle.file_syntax.specs.Files.{IsFile, syntax};
+ghost use Rattle.file_syntax.specs.FirstFault.{IsFault};
 ghost use Rattle.file_syntax.specs.IsProgram.{IsProgram};
 ghost use Rattle.program_tree.specs.ParsedView.{program_of};
 ghost use Rattle.file_syntax.specs.ProgramDepth.{IsShallow};
@@ -72,10 +73,14 @@ fn read(alloc: Global, text: &str, kind: FileKind) -> Result<Parsed, ParseStop>
 /// [`ParseStop::Fault`] where the text has no tree of this kind: the first fault of the first of the five passes that
 /// finds one, with its line. [`ParseStop::NoMemory`] may come in place of any answer, where memory was refused.
 pub fn parse(alloc: Global, text: &str, kind: FileKind) -> Result<Parsed, ParseStop>
+    ensures file { IfOk result (λ p. (tree : Block) × IsFile text.now kind tree
+        × (program_of p ≡ resolved (bare_lines tree))) }
     ensures tree { IfOk result (λ p. (tree : Block) × (syntax text.now kind ≡ Ok tree)
         × (program_of p ≡ resolved (bare_lines tree))) }
     ensures shallow { IfOk result (λ p. IsShallow (program_of p)) }
     ensures fits { IfOk result (λ p. IsProgram (program_of p)) }
+    ensures first { (f : SyntaxFault) → result ≡ Err (ParseStop.Fault f)
+        → IsFault text.now kind f }
     ensures fault { (f : SyntaxFault) → result ≡ Err (ParseStop.Fault f)
         → syntax text.now kind ≡ Err f }
 {
