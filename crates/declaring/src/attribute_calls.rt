@@ -17,7 +17,7 @@ use operands::Operand;
 use operations::{Arguments, State};
 use plain::Shared;
 use std::alloc::{AllocError, Global};
-use targets::Attribute;
+use targets::{Attribute, Choices};
 use values::{AttributeKind, AttributeRef, Broken, Kind, Leaf, Value};
 
 /// A call of the method of `attr` that declares attributes of a kind.
@@ -136,7 +136,7 @@ fn attribute_in(
         kind,
         default,
         mandatory,
-        values,
+        values: Choices::of(alloc, values)?,
         providers,
         allow_files,
     }))

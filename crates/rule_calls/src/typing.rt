@@ -1,14 +1,12 @@
 //! Values of attributes, out of what is given for them.
 ghost use Rattle.std.specs.Prelude.{◌≡◌, ℕ, List, Ok, Err, MatchResult};
-ghost use Rattle.std.specs.List.{list_any};
-ghost use Rattle.leaves.specs.Leaves.{same_key};
 ghost use Rattle.values.specs.Seeing.{seen};
 ghost use Rattle.values.specs.Shape.{shape};
 ghost use Rattle.ticks.specs.Ticking.{FaultOr};
 ghost use Rattle.values.specs.declared.cells.Cell.{Cell};
 ghost use Rattle.operations.specs.Items.{or_fault};
 ghost use Rattle.operations.specs.States.{Gives};
-ghost use Rattle.targets.specs.RuleCalls.{typed, is_allowed, if_allowed};
+ghost use Rattle.targets.specs.RuleCalls.{typed, if_allowed};
 
 use crate::here::Here;
 use crate::lists::labels;
@@ -16,7 +14,7 @@ use heap::Heap;
 use operands::Operand;
 use plain::Shared;
 use std::alloc::Global;
-use targets::{Attribute, AttributeValue, TextDict, TextList};
+use targets::{Attribute, AttributeValue, Choices, TextDict, TextList};
 use values::{AttributeKind, Broken, Key, Kind, Seen};
 
 /// What a value is for an attribute, whose labels are read in a package, or `type`.
@@ -45,7 +43,7 @@ fn typed_shown(
     ensures { Gives (or_fault Kind.Wrong (typed heap.now «package».now attribute.now.kind
         attribute.now.values (seen value.now))) result }
 {
-    let allowed = attribute.values.as_slice();
+    let allowed = &attribute.values;
     match attribute.kind {
         AttributeKind::String => text_value(allowed, value),
         AttributeKind::Int => number_value(allowed, value),
@@ -58,7 +56,7 @@ fn typed_shown(
 }
 
 /// A string that is allowed.
-fn text_value(allowed: &[Key], value: &Seen<'_>) -> Result<AttributeValue, Broken>
+fn text_value(allowed: &Choices, value: &Seen<'_>) -> Result<AttributeValue, Broken>
     ensures { (h : List Cell) (p : List ℕ) → Gives (or_fault Kind.Wrong
         (typed h p AttributeKind.String allowed.now (seen value.now))) result }
 {
@@ -72,7 +70,7 @@ fn text_value(allowed: &[Key], value: &Seen<'_>) -> Result<AttributeValue, Broke
 }
 
 /// A whole number that is allowed.
-fn number_value(allowed: &[Key], value: &Seen<'_>) -> Result<AttributeValue, Broken>
+fn number_value(allowed: &Choices, value: &Seen<'_>) -> Result<AttributeValue, Broken>
     ensures { (h : List Cell) (p : List ℕ) → Gives (or_fault Kind.Wrong
         (typed h p AttributeKind.Int allowed.now (seen value.now))) result }
 {
@@ -86,36 +84,14 @@ fn number_value(allowed: &[Key], value: &Seen<'_>) -> Result<AttributeValue, Bro
 }
 
 /// A key, if it is allowed.
-fn if_allowed(allowed: &[Key], key: &Key) -> Result<AttributeValue, Broken>
+fn if_allowed(allowed: &Choices, key: &Key) -> Result<AttributeValue, Broken>
     ensures { Gives (or_fault Kind.Wrong (if_allowed allowed.now key.now)) result }
 {
-    if !is_allowed(allowed, key) {
+    if !allowed.allow(key) {
         return Err(Broken::Kind(Kind::Wrong));
     }
     let key = key.share()?;
     Ok(AttributeValue::Key(key))
-}
-
-/// Whether a key is one of those that are allowed, which are all where there are none.
-fn is_allowed(allowed: &[Key], key: &Key) -> bool
-    ensures { result ≡ is_allowed allowed.now key.now }
-{
-    if allowed.len() == 0 {
-        return true;
-    }
-    is_among(allowed, key)
-}
-
-/// Whether a key is one of these.
-fn is_among(keys: &[Key], key: &Key) -> bool
-    ensures { result ≡ list_any (same_key key.now) keys.now }
-{
-    for other in keys {
-        if *key == *other {
-            return true;
-        }
-    }
-    false
 }
 
 /// A bool.

@@ -14,6 +14,7 @@ use Rattle.targets.proofs.outcome.TargetFault.TheSendSync as fault
 use Rattle.targets.specs.contracts.text_list.TextList as TextList
 use Rattle.targets.specs.contracts.text_dict.TextDict as TextDict
 use Rattle.targets.specs.contracts.attributes.AttributeValue as AttributeValue
+use Rattle.targets.specs.contracts.choices.Choices as Choices
 use Rattle.targets.specs.contracts.attributes.Attribute as Attribute
 use Rattle.targets.specs.contracts.rule_attributes.RuleAttributes as RuleAttributes
 use Rattle.targets.specs.contracts.attributes.Rule as Rule
@@ -45,11 +46,17 @@ value_sync = search (text_list_send, text_list_sync, text_dict_send, text_dict_s
 
 -- ---- attributes, rules and targets
 
+pub choices_send : IsSend Choices.the_row
+choices_send = search (key.the_field_send, std.crosses, sendable) depth 60 fits 20000
+
+pub choices_sync : IsSync Choices.the_row
+choices_sync = search (key.the_field_sync, std.crosses, sendable) depth 60 fits 20000
+
 pub attribute_send : IsSend (Attribute.the_field).row
-attribute_send = search (value_send, key.the_field_send, text.the_send, provider.the_send, provider.the_sync, std.crosses, sendable) depth 60 fits 20000
+attribute_send = search (value_send, choices_send, text.the_send, provider.the_send, provider.the_sync, std.crosses, sendable) depth 60 fits 20000
 
 pub attribute_sync : IsSync (Attribute.the_field).row
-attribute_sync = search (value_sync, key.the_field_sync, text.the_sync, provider.the_send, provider.the_sync, std.crosses, sendable) depth 60 fits 20000
+attribute_sync = search (value_sync, choices_sync, text.the_sync, provider.the_send, provider.the_sync, std.crosses, sendable) depth 60 fits 20000
 
 pub attributes_send : IsSend RuleAttributes.the_row
 attributes_send = search (value_send, attribute_send, attribute_sync, text.the_send, maps.crosses, std.crosses, sendable) depth 60 fits 20000

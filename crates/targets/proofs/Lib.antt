@@ -10,5 +10,6 @@ pub mod Placing
 pub mod Reading
 mod EachMade
 mod TextLists
+mod KeyTables
 pub mod TextDicts
 pub mod Crossing

@@ -3,6 +3,7 @@ pub mod TextDicts
 pub mod Defaults
 pub mod Attributes
 pub mod RuleCalls
+pub mod Choosing
 pub mod Resolving
 pub mod Checks
 pub mod OutcomeCodes

@@ -2,7 +2,7 @@
 ghost use Rattle.std.specs.Prelude.{◌≡◌, IfOk};
 ghost use Rattle.targets.specs.Attributes.{is_private};
 
-use crate::{RuleAttributes, Sequence, TextDict, TextList};
+use crate::{Choices, RuleAttributes, Sequence, TextDict, TextList};
 use plain::{Shared, Text};
 use std::alloc::AllocError;
 use values::{AttributeKind, FunctionRef, Key, Names, Provider};
@@ -38,7 +38,7 @@ pub struct Attribute {
     /// Whether each target has to give it.
     pub mandatory: bool,
     /// The strings or whole numbers that it takes; all, where there are none.
-    pub values: Sequence<Key>,
+    pub values: Choices,
     /// A target that it takes offers all providers of one of these lists; any target does where there are none.
     pub providers: Sequence<Sequence<Shared<Provider>>>,
     /// Which source files it takes, where it is one of labels.
