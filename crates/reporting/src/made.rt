@@ -19,12 +19,13 @@ use std::alloc::{AllocError, Global};
 use std::thread::Threads;
 use values::Kind;
 
-/// The text of a report, and whether it is loud: whether it tells of a file that failed, a target that failed or a conflict.
+/// The text of a report, and whether it is loud: whether it tells of a file that failed, a label that failed (also one that
+/// names nothing) or a conflict.
 #[derive(Drop)]
 pub struct Report {
     /// Parts of the text, which stand one after the other.
     pub parts: Vec<String>,
-    /// Whether it tells of a file that failed, a target that failed or a conflict.
+    /// Whether it tells of a file that failed, a label that failed or a conflict.
     pub loud: bool,
 }
 
@@ -74,14 +75,14 @@ fn put_conflicts(out: &mut String, conflicts: &[Conflict]) -> Result<(), AllocEr
     Ok(())
 }
 
-/// Whether a node is a target that failed.
+/// Whether a node is a label that failed.
 fn is_failed(node: &Node<'_>) -> bool
     ensures { result ≡ is_failed (node_seen node.now).outcome }
 {
     node.outcome.is_failed()
 }
 
-/// Whether one of the nodes is a target that failed, of the nodes where they lie.
+/// Whether one of the nodes is a label that failed, of the nodes where they lie.
 fn any_failed(nodes: &[Node<'_>]) -> bool
     ensures { result ≡ list_any (λ n. is_failed (node_seen n).outcome) nodes.now }
 {
@@ -121,7 +122,7 @@ pub fn make_report<R: Threads + Sync>(
     Ok(Report { parts, loud })
 }
 
-/// Whether a report tells of a file that failed, a target that failed or one of these conflicts.
+/// Whether a report tells of a file that failed, a label that failed or one of these conflicts.
 fn is_loud(
     faults: &[FileFault<FaultKind, Kind>],
     nodes: &[Node<'_>],

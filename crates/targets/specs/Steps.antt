@@ -35,12 +35,12 @@ pub record Fault : Type 0 where
 
 -- ---- `returned`
 
--- each is an instance, and no two are of one provider
+-- whether a value is an instance, of a provider that none of these is of
 abbrev pub is_new_instance : List FrozenTree → Option Provider → Bool
 is_new_instance ts None = false
 is_new_instance ts (Some p) = not (offers ts p)
 
--- whether that is so of all of a list
+-- whether each is an instance, and no two are of one provider
 abbrev pub are_instances : List FrozenTree → Bool
 are_instances [] = true
 are_instances (t ∷ ts) = is_new_instance ts (provider_of t) && are_instances ts
