@@ -1,4 +1,4 @@
--- The exit status (docs/REPORT.md, "bzlan_pack"; this project's own choice).
+-- The exit status (docs/REPORT.md, "Exit status"; this project's own choice).
 use Rattle.std.specs.Prelude.{ℕ, Result, Ok, Err}
 use Rattle.packing.specs.declared.whole.PackStop.{PackStop}
 use Rattle.packing.specs.declared.whole.PackStop.TheVariants as stop

@@ -1,6 +1,11 @@
 //! The words of the command line.
 
-use clap::{Arg, ArgAction, Command, Error};
+ghost use Rattle.std.specs.Prelude.{◌≡◌, ◌≢◌, IfErr, IfOk, None, Some, false, map};
+ghost use Rattle.clap.specs.Words.{FailsBy, app_of, fault_of, found_of, kind_of, one_of, rows_of, rule_of};
+ghost use Rattle.clap.specs.declared.error.kind.ErrorKind.TheVariants as kind;
+ghost use Rattle.pack_host.specs.CommandLine.{asked, asked_by, command_line, is_set, root_rule, strict_rule};
+
+use clap::{Arg, ArgAction, ArgMatches, Command, Error};
 use std::alloc::{AllocError, Global};
 use std::convert::AsStr;
 
@@ -14,7 +19,10 @@ pub struct PackWords<'a> {
 }
 
 /// `--root DIR`.
-fn root_argument<'a>(alloc: Global) -> Arg<'a> {
+fn root_argument<'a>(alloc: Global) -> Arg<'a>
+    ensures rule { rule_of result ≡ root_rule }
+    ensures local { result.global ≡ false }
+{
     Arg::new(alloc, "root")
         .long("root")
         .value_name("DIR")
@@ -23,7 +31,10 @@ fn root_argument<'a>(alloc: Global) -> Arg<'a> {
 }
 
 /// `--strict`.
-fn strict_argument<'a>(alloc: Global) -> Arg<'a> {
+fn strict_argument<'a>(alloc: Global) -> Arg<'a>
+    ensures rule { rule_of result ≡ strict_rule }
+    ensures local { result.global ≡ false }
+{
     Arg::new(alloc, "strict")
         .long("strict")
         .action(ArgAction::SetTrue)
@@ -31,7 +42,9 @@ fn strict_argument<'a>(alloc: Global) -> Arg<'a> {
 }
 
 /// The whole command.
-fn command<'a>(alloc: Global) -> Result<Command<'a>, AllocError> {
+fn command<'a>(alloc: Global) -> Result<Command<'a>, AllocError>
+    ensures { IfOk result (λ c. app_of c ≡ command_line) }
+{
     Command::new(alloc, "bzlan_pack")
         .version("0.1.0")
         .about("Packs a folder into the input of bzlan: a JSON array of pairs of a path and a text")
@@ -39,18 +52,27 @@ fn command<'a>(alloc: Global) -> Result<Command<'a>, AllocError> {
         .arg(strict_argument(alloc))
 }
 
+/// Whether a flag is set.
+fn is_set(matches: &ArgMatches<'_>, id: &str) -> bool
+    ensures { result ≡ is_set (one_of id.now (rows_of (found_of matches.now))) }
+{
+    matches.get_one::<bool>(id).unwrap_or(false)
+}
+
 /// What the words ask for. The first word is the program's name, whatever it is.
 ///
 /// # Errors
 ///
 /// What `clap` says of words that the command doesn't take, and its texts for `--help` and `--version`.
-pub fn read_pack_words<'a, S: AsStr>(
-    alloc: Global,
-    words: &'a [S],
-) -> Result<PackWords<'a>, Error> {
+pub fn read_pack_words<'a, S: AsStr>(alloc: Global, words: &'a [S]) -> Result<PackWords<'a>, Error>
+    ensures ok { IfOk result (λ w. asked (map S.text words.entry.now) ≡ Some (asked_by w)) }
+    ensures refused { IfErr result (λ e. kind_of e ≢ kind.OutOfMemory
+        → asked (map S.text words.entry.now) ≡ None) }
+    ensures kinds { FailsBy (fault_of command_line (map S.text words.entry.now)) result }
+{
     let matches = command(alloc)?.try_get_matches_from(words)?;
     Ok(PackWords {
         root: matches.get_str("root").unwrap_or("."),
-        strict: matches.get_flag("strict"),
+        strict: is_set(&matches, "strict"),
     })
 }

@@ -1,19 +1,19 @@
 -- Steps of a walk.
-use Rattle.std.proofs.Common.{◌≡◌, ◌∙◌, ◌⊎◌, ◌<◌, ◌+◌, ◌++◌, ℕ, List, [], ◌∷◌, length, refl, ap, sym, subst, inl, inr, arith, take, get_or}
-use Rattle.std.specs.Prelude.{All, Contains}
+use Rattle.std.proofs.Common.{◌≡◌, ◌∙◌, ◌⊎◌, ◌<◌, ◌+◌, ◌++◌, ℕ, false, List, [], ◌∷◌, length, refl, ap, sym, subst, inl, inr, arith, take, get_or}
+use Rattle.std.specs.Prelude.{All, Contains, IsSome, Option, Some, None}
 use Rattle.std.specs.declared.cmp.Ordering.{Ordering}
 use Rattle.std.specs.declared.cmp.Ordering.TheVariants.{Less, Equal, Greater}
 use Rattle.std.specs.BTreeSet.{insert_key}
 use Rattle.std.specs.Cmp.Lexicographic.{slice_cmp}
 use Rattle.std.specs.Ordering.{is_eq, match_ordering, nat_cmp}
 use Rattle.std.proofs.lemmas.List.{take_more}
-use Rattle.std.proofs.lemmas.List.Elements.{All-push, Contains-append_cases, Contains-append_left, Contains-append_right, Contains-push, Contains-push_cases}
+use Rattle.std.proofs.lemmas.List.Elements.{All-cons, All-nil, All-pop, All-push, All-same, Contains-append_cases, Contains-append_left, Contains-append_right, Contains-push, Contains-push_cases}
 use Rattle.std.proofs.lemmas.Map.Text.{is_eq-slice_cmp}
 use Rattle.std.proofs.lemmas.Slice.Eq.{bytes_eq-Decides}
 use Rattle.std.proofs.lemmas.Map.Views.{All-insert_key}
-use Rattle.packing.specs.Folders.{At, HasKind, HasNames, IsFile, Reaches, here, inside}
+use Rattle.packing.specs.Folders.{At, Comes, HasKind, HasNames, IsFile, IsHiddenFolder, IsKnown, Node, Reaches, below, file, folder, here, inside, is_output, link, onward, special, start}
 use Rattle.packing.specs.Packs.{HasCause, IsNamed}
-use Rattle.packing.specs.Walks.{CoversFrom, CoversName, Grows, IsCovered, IsWalked}
+use Rattle.packing.specs.Walks.{ComesBy, CoversFrom, CoversName, Grows, IsCovered, IsWithin, Stays}
 use Rattle.packing.specs.declared.folders.Kind.TheVariants as kind
 use Rattle.packing.specs.declared.leaving.LeftOut.{LeftOut}
 use Rattle.packing.specs.declared.walk.Walk.{Walk}
@@ -136,9 +136,80 @@ covers-more at a b from names i d lt g before now name h =
       | inr same ↦ subst (λ (n : List ℕ). CoversName at b from n) same now
     ]
 
+-- ---- nowhere else
+
+-- a file more is found
+pub stays-found : (at : At) (old new : Walk) (path : List ℕ) → new.files.keys ≡ insert_key order old.files.keys path
+    → new.waiting.items ≡ old.waiting.items → Reaches at [] path → Stays at old new
+stays-found at old new path files waiting reached k h = record {
+  files = All-same (Reaches at []) new.files.keys (insert_key order old.files.keys path) files
+      (All-insert_key order path (Reaches at []) old.files.keys h.files reached);
+  waiting = All-same (Comes at) new.waiting.items old.waiting.items waiting h.waiting;
+}
+
+known-folder : (n : Option Node) (told : List (List ℕ)) → IsSome n → HasNames n told → n ≡ Some (folder told)
+known-folder None told some has = absurd (cc)
+known-folder (Some (folder names)) told some has = ap (λ (ns : List (List ℕ)). Some (folder ns)) (sym has)
+known-folder (Some (file bytes)) told some has = absurd has
+known-folder (Some link) told some has = absurd has
+known-folder (Some special) told some has = absurd has
+
+known-file : (n : Option Node) → IsSome n → HasKind n kind.File → (bytes : List ℕ) × (n ≡ Some (file bytes))
+known-file None some has = absurd (cc)
+known-file (Some (folder names)) some has = absurd (cc)
+known-file (Some (file bytes)) some has = (bytes, refl)
+known-file (Some link) some has = absurd (cc)
+known-file (Some special) some has = absurd (cc)
+
+-- a file isn't hidden
+seen-file : (n : Option Node) (name : List ℕ) → HasKind n kind.File → IsHiddenFolder n name → ⊥
+seen-file None name has h = h
+seen-file (Some (folder names)) name has h = absurd (cc)
+seen-file (Some (file bytes)) name has h = h
+seen-file (Some link) name has h = h
+seen-file (Some special) name has h = h
+
+-- what is reached from where a walk comes to is reached from the root
+comes-reaches : (at : At) (from path : List ℕ) → Comes at from → Reaches at from path → Reaches at [] path
+comes-reaches at from path start r = r
+comes-reaches at from path (onward f name names c there listed kept seen) r =
+    comes-reaches at f path c (inside f name path names there listed kept seen r)
+
+-- by a name that a known folder tells
+pub comes-by : (at : At) (from : List ℕ) (told : List (List ℕ)) (name : List ℕ) → IsKnown at → Comes at from → HasNames (at from) told
+    → Contains told name → ComesBy at from name
+comes-by at from told name k c has listed kept seen =
+    onward from name told c (known-folder (at from) told (k from c) has) listed kept seen
+
+-- to a regular file
+pub reached-file : (at : At) (from name : List ℕ) → HasKind (at (below from name)) kind.File → is_output from name ≡ false
+    → IsKnown at → ComesBy at from name → Reaches at [] (below from name)
+reached-file at from name is kept k by_name =
+    let c : Comes at (below from name) = by_name kept (seen-file (at (below from name)) name is) in
+    let f = known-file (at (below from name)) (k (below from name) c) is in
+    comes-reaches at (below from name) (below from name) c (here (below from name) f.0 f.1)
+
 -- ---- the whole walk
 
+-- the root alone waits
+pub covers-root : (at : At) (w : Walk) → w.waiting.items ≡ [] ∷ [] → CoversFrom at w []
+covers-root at w waiting path r = inr (inr ([], same-contains ([] ∷ []) w.waiting.items [] waiting (one [] [] [] refl), r))
+
+pub within-root : (at : At) (w : Walk) → w.files.keys ≡ [] → w.waiting.items ≡ [] ∷ [] → IsWithin at w
+within-root at w files waiting = record {
+  files = All-same (Reaches at []) w.files.keys [] files (All-nil (Reaches at []));
+  waiting = All-same (Comes at) w.waiting.items ([] ∷ []) waiting (All-cons (Comes at) [] [] start (All-nil (Comes at)));
+}
+
 -- a folder that waited is taken out
+pub within-taken : (at : At) (old new : Walk) (from : List ℕ) → new.files.keys ≡ old.files.keys
+    → old.waiting.items ≡ new.waiting.items ++ from ∷ [] → IsWithin at old → IsWithin at new × Comes at from
+within-taken at old new from files waiting h =
+    let both = All-pop (Comes at) old.waiting.items new.waiting.items (Some from) waiting h.waiting in (
+      record { files = All-same (Reaches at []) new.files.keys old.files.keys files h.files; waiting = both.0 },
+      both.1,
+    )
+
 pub taken-covered : (at : At) (old new : Walk) (from path : List ℕ) → new.files.keys ≡ old.files.keys → new.left.items ≡ old.left.items
     → old.waiting.items ≡ new.waiting.items ++ from ∷ [] → IsCovered at old path → IsCovered at new path ⊎ Reaches at from path
 taken-covered at old new from path files left waiting h = elim h [
@@ -151,20 +222,3 @@ taken-covered at old new from path files left waiting h = elim h [
     ]
   ]
 ]
-
-pub walked : (at : At) (w : Walk) → w.waiting.items ≡ [] → CoversFrom at w [] → All (λ p. IsFile (at p)) w.files.keys
-    → All (HasCause at) w.left.items → IsWalked at w
-walked at w none covers files causes = record {
-  whole = λ path r. elim (covers path r) [
-    | inl found ↦ inl found
-    | inr rest ↦ elim rest [
-      | inl named ↦ inr named
-      | inr waits ↦ absurd (nothing waits.0 (subst (λ (xs : List (List ℕ)). Contains xs waits.0) none waits.1))
-    ]
-  ];
-  files = files;
-  causes = causes;
-}
-  where
-    nothing : (p : List ℕ) → Contains [] p → ⊥
-    nothing p h = omega (arith, h.1)

@@ -11,7 +11,7 @@ use Rattle.std.specs.Str.{bytes_eq}
 use Rattle.std.specs.Cmp.Derive.{both_true}
 use Rattle.std.proofs.lemmas.List.{get_or-take, get_or_default, length-take-le, map-append, take_all, take_more}
 use Rattle.std.proofs.Math.Seq.{drop-cons}
-use Rattle.std.proofs.lemmas.List.Elements.{All-head, All-nil, All-push, All-tail, All-weaker, Contains-append_left, Contains-push, Contains-push_cases}
+use Rattle.std.proofs.lemmas.List.Elements.{All-contains, All-head, All-nil, All-push, All-tail, All-weaker, Contains-append_left, Contains-push, Contains-push_cases}
 use Rattle.std.proofs.lemmas.List.Folds.{list_all-append}
 use Rattle.std.proofs.lemmas.List.Sums.{sum_by-append}
 use Rattle.std.proofs.lemmas.Map.Keys.{Less-from_sorted}
@@ -27,7 +27,6 @@ use Rattle.packing.specs.Packs.{AreAscending, HasCause, IsOf, Packs, counts_of, 
 use Rattle.packing.specs.Walks.{IsWalked}
 use Rattle.packing.specs.Writing.{ArePacked, Exceeds, IsTooMuch, Leaves, Puts, Takes, Written, counted_too, one_more}
 use Rattle.packing.specs.declared.leaving.LeftOut.{LeftOut}
-use Rattle.packing.specs.declared.writing.Counts.{Counts}
 use Rattle.packing.specs.declared.whole.PackStop.{PackStop}
 use Rattle.packing.specs.declared.whole.Packed.{Packed}
 use Rattle.packing.specs.declared.walk.Walk.{Walk}
@@ -313,6 +312,8 @@ packs-closed at walk w (Ok p) walked h input left counted = record {
       out.2,
     )
   ];
+  only = λ k. All-weaker (Contains walk.files.keys) (Reaches at [])
+      (λ path found. All-contains (Reaches at []) walk.files.keys path (walked.only k) found) (paths_of h.pairs) h.within;
   causes = subst (All (HasCause at)) (sym same) h.causes;
   counted = counted ∙ h.counted;
 }

@@ -1,8 +1,8 @@
--- What stands in a folder, and what a walk through it reaches (docs/REPORT.md, "bzlan_pack"; this project's own choice).
+-- What stands in a folder, and what a walk through it reaches (docs/REPORT.md, "From a folder to an input"; this project's own choice).
 --
 -- A folder is seen as a function: what stands at each path below it. `None` says that it isn't known, as of the
 -- folders of a system, or that nothing stands there. The folder itself is at the empty path.
-use Rattle.std.specs.Prelude.{◌≡◌, ◌<◌, ℕ, Bool, true, false, nat_eq, List, [], ◌∷◌, ◌++◌, length, codes, Option, Some, None, Contains, ⊤}
+use Rattle.std.specs.Prelude.{◌≡◌, ◌<◌, ℕ, Bool, true, false, nat_eq, List, [], ◌∷◌, ◌++◌, length, codes, Option, Some, None, Contains, IsSome, ⊤}
 use Rattle.std.specs.List.{starts_with}
 use Rattle.packing.specs.declared.folders.Kind.{Kind}
 use Rattle.packing.specs.declared.folders.Kind.TheVariants as kind
@@ -46,6 +46,18 @@ pub data Reaches (at : At) : List ℕ → List ℕ → Type 0 where
   inside : (from name path : List ℕ) (names : List (List ℕ)) → at from ≡ Some (folder names) → Contains names name
       → is_output from name ≡ false → (IsHiddenFolder (at (below from name)) name → ⊥)
       → Reaches at (below from name) path → Reaches at from path
+
+-- a walk comes to a path: that of the folder itself, and of each name in a folder that it comes to, if what the name
+-- stands for isn't left out
+pub data Comes (at : At) : List ℕ → Type 0 where
+  start : Comes at []
+  onward : (from name : List ℕ) (names : List (List ℕ)) → Comes at from → at from ≡ Some (folder names) → Contains names name
+      → is_output from name ≡ false → (IsHiddenFolder (at (below from name)) name → ⊥)
+      → Comes at (below from name)
+
+-- what stands at each path that a walk comes to is known
+abbrev pub IsKnown : At → Type 0
+IsKnown at = (path : List ℕ) → Comes at path → IsSome (at path)
 
 -- what a folder tells, against what is known: its names
 abbrev pub HasNames : Option Node → List (List ℕ) → Type 0

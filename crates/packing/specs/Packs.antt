@@ -1,5 +1,5 @@
--- What is packed of a folder, and what is left out (docs/REPORT.md, "bzlan_pack"; this project's own choice).
-use Rattle.std.specs.Prelude.{◌≡◌, ◌⊎◌, ◌+◌, ◌-◌, ◌^◌, ℕ, Bool, true, false, not, ◌||◌, min, if◌then◌else◌, List, [], codes, Option, Some, None, Contains, All, IsUtf8, ⊤}
+-- What is packed of a folder, and what is left out (docs/REPORT.md, "From a folder to an input"; this project's own choice).
+use Rattle.std.specs.Prelude.{◌≡◌, ◌⊎◌, ◌-◌, ◌^◌, ℕ, Bool, true, false, not, ◌||◌, min, if◌then◌else◌, List, [], codes, Option, Some, None, Contains, All, IsUtf8, ⊤}
 use Rattle.std.specs.Cmp.Lexicographic.{slice_cmp}
 use Rattle.std.specs.List.{count_by}
 use Rattle.std.specs.List.Sorted.{IsStrictlySortedBy}
@@ -9,7 +9,7 @@ use Rattle.request.specs.Input.{Spells}
 use Rattle.workspace.specs.FileKinds.{is_build_file, is_module}
 use Rattle.workspace.specs.Paths.{is_path, last_segment}
 use Rattle.workspace.specs.Workspaces.{Pair, paths_of, text_limit}
-use Rattle.packing.specs.Folders.{At, IsLonger, Node, Reaches, file, folder, link, special}
+use Rattle.packing.specs.Folders.{At, IsKnown, IsLonger, Node, Reaches, file, folder, link, special}
 use Rattle.packing.specs.declared.leaving.LeftOut.{LeftOut}
 use Rattle.packing.specs.declared.leaving.Reason.{Reason}
 use Rattle.packing.specs.declared.leaving.Reason.TheVariants as reason
@@ -90,8 +90,8 @@ counts_of paths = record {
 }
 
 -- what is written spells a workspace: its pairs ascend by their paths, and each is of a file of the folder. Each file
--- that a walk reaches is one of them, or is named as left out, and each that is named has its cause. The files are counted
--- by their kinds
+-- that a walk reaches is one of them, or is named as left out, and each that is named has its cause. Where all is
+-- known that a walk comes to, no other file is one of them. The files are counted by their kinds
 pub record Packs (at : At) (p : Packed) : Type 0 where
   pub workspace : List Pair
   pub spelt : Spells p.input.items workspace
@@ -99,5 +99,6 @@ pub record Packs (at : At) (p : Packed) : Type 0 where
   pub of : All (λ q. IsOf (at q.0) q) workspace
   pub whole : (path : List ℕ) → Reaches at [] path
       → Contains (paths_of workspace) path ⊎ IsNamed at p.left.items path
+  pub only : IsKnown at → All (Reaches at []) (paths_of workspace)
   pub causes : All (HasCause at) p.left.items
   pub counted : p.counts ≡ counts_of (paths_of workspace)

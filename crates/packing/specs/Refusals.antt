@@ -1,4 +1,4 @@
--- Why nothing is packed (docs/REPORT.md, "bzlan_pack"; this project's own choice).
+-- Why nothing is packed (docs/REPORT.md, "From a folder to an input"; this project's own choice).
 use Rattle.std.specs.Prelude.{◌≡◌, ◌<◌, ℕ, Bool, true, List, Option, length, All, ⊤}
 use Rattle.devices.specs.Devices.{WritesBeginning}
 use Rattle.packing.specs.Folders.{At}

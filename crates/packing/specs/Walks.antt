@@ -1,6 +1,6 @@
 -- A walk through a folder on its way.
 use Rattle.std.specs.Prelude.{◌≡◌, ◌⊎◌, ℕ, false, List, [], All, Contains}
-use Rattle.packing.specs.Folders.{At, IsFile, IsHiddenFolder, Reaches, below, is_output}
+use Rattle.packing.specs.Folders.{At, Comes, IsFile, IsHiddenFolder, IsKnown, Reaches, below, is_output}
 use Rattle.packing.specs.Packs.{HasCause, IsNamed}
 use Rattle.packing.specs.declared.walk.Walk.{Walk}
 
@@ -27,8 +27,23 @@ pub record Grows (at : At) (old new : Walk) : Type 0 where
   pub files : All (λ p. IsFile (at p)) old.files.keys → All (λ p. IsFile (at p)) new.files.keys
   pub causes : All (HasCause at) old.left.items → All (HasCause at) new.left.items
 
+-- the walk comes to what a name in a folder stands for, if that isn't left out
+abbrev pub ComesBy : At → List ℕ → List ℕ → Type 0
+ComesBy at from name =
+    is_output from name ≡ false → (IsHiddenFolder (at (below from name)) name → ⊥) → Comes at (below from name)
+
+-- each file that was found is reached, and a walk comes to each folder that waits
+pub record IsWithin (at : At) (w : Walk) : Type 0 where
+  pub files : All (Reaches at []) w.files.keys
+  pub waiting : All (Comes at) w.waiting.items
+
+-- a step of a walk goes nowhere else, where all that it comes to is known
+abbrev pub Stays : At → Walk → Walk → Type 0
+Stays at old new = IsKnown at → IsWithin at old → IsWithin at new
+
 -- a whole walk
 pub record IsWalked (at : At) (w : Walk) : Type 0 where
   pub whole : (path : List ℕ) → Reaches at [] path → Contains w.files.keys path ⊎ IsNamed at w.left.items path
+  pub only : IsKnown at → All (Reaches at []) w.files.keys
   pub files : All (λ p. IsFile (at p)) w.files.keys
   pub causes : All (HasCause at) w.left.items

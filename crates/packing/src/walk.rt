@@ -3,9 +3,9 @@
 //! Folders that wait stand in a list, so that nothing recurses by their depth.
 
 ghost use Rattle.std.specs.Prelude.{◌≡◌, ◌∷◌, ◌++◌, ℕ, List, [], Contains, IfOk, OnOk};
-ghost use Rattle.packing.specs.Folders.{At, IsFile, is_hidden, is_output};
+ghost use Rattle.packing.specs.Folders.{At, Comes, IsFile, Reaches, is_hidden, is_output};
 ghost use Rattle.packing.specs.Packs.{Holds};
-ghost use Rattle.packing.specs.Walks.{CoversFrom, CoversName, Grows, IsWalked};
+ghost use Rattle.packing.specs.Walks.{ComesBy, CoversFrom, CoversName, Grows, IsWalked, Stays};
 
 use crate::folders::{Folder, Kind, Unread, below};
 use crate::leaving::{LeftOut, Reason};
@@ -71,6 +71,7 @@ impl Walk {
     fn leave(&mut self, path: Text, reason: Reason) -> Result<(), AllocError>
         ensures grows { OnOk result ((at : At) → Holds at path reason → Grows at self.old self.new) }
         ensures covers { OnOk result ((at : At) → CoversFrom at self.new path) }
+        ensures only { OnOk result ((at : At) → Stays at self.old self.new) }
     {
         self.left.push(LeftOut { path, reason })?;
         Ok(())
@@ -80,6 +81,7 @@ impl Walk {
     fn wait(&mut self, path: Text) -> Result<(), AllocError>
         ensures grows { OnOk result ((at : At) → Grows at self.old self.new) }
         ensures covers { OnOk result ((at : At) → CoversFrom at self.new path) }
+        ensures only { OnOk result ((at : At) → Comes at path → Stays at self.old self.new) }
     {
         self.waiting.push(path)?;
         Ok(())
@@ -89,6 +91,7 @@ impl Walk {
     fn find(&mut self, path: Text) -> Result<(), AllocError>
         ensures grows { OnOk result ((at : At) → IsFile (at path) → Grows at self.old self.new) }
         ensures has { OnOk result (Contains self.new.files.keys path) }
+        ensures only { OnOk result ((at : At) → Reaches at [] path → Stays at self.old self.new) }
     {
         self.files.insert(path)?;
         Ok(())
@@ -104,6 +107,8 @@ impl Walk {
     ) -> Result<(), AllocError>
         ensures grows { OnOk result (Grows (F.at folder.now) self.old self.new) }
         ensures covers { OnOk result (CoversName (F.at folder.now) self.new from.now name.now) }
+        ensures only { OnOk result (ComesBy (F.at folder.now) from.now name.now
+            → Stays (F.at folder.now) self.old self.new) }
     {
         if is_output(from, name) {
             return Ok(());
@@ -137,6 +142,9 @@ impl Walk {
         ensures grows { OnOk result (Grows (F.at folder.now) self.old self.new) }
         ensures covers { OnOk result ((name : List ℕ) → Contains names.now name
             → CoversName (F.at folder.now) self.new from.now name) }
+        ensures only { OnOk result (((name : List ℕ) → Contains names.now name
+            → ComesBy (F.at folder.now) from.now name)
+            → Stays (F.at folder.now) self.old self.new) }
     {
         for name in names {
             self.take(folder, alloc, from, name.as_str())?;
@@ -148,6 +156,8 @@ impl Walk {
     fn visit<F: Folder>(&mut self, folder: &F, alloc: Global, from: Text) -> Result<(), AllocError>
         ensures grows { OnOk result (Grows (F.at folder.now) self.old self.new) }
         ensures covers { OnOk result (CoversFrom (F.at folder.now) self.new from) }
+        ensures only { OnOk result (Comes (F.at folder.now) from
+            → Stays (F.at folder.now) self.old self.new) }
     {
         let listing = match folder.names(alloc, from.as_str()) {
             Ok(listing) => listing,

@@ -1,10 +1,10 @@
-use Rattle.std.proofs.Common.{◌≡◌, ◌∙◌, subst}
+use Rattle.std.proofs.Common.{◌≡◌, ◌∙◌, [], false, subst, sym}
 use Rattle.std.proofs.lemmas.Result.{IfOk-weaker}
 use Rattle.std.specs.Prelude.{Contains, List, ℕ}
-use Rattle.packing.specs.Folders.{HasKind, below}
+use Rattle.packing.specs.Folders.{HasKind, Reaches, below, is_output}
 use Rattle.packing.specs.declared.folders.Kind.{Kind}
 use Rattle.packing.specs.declared.folders.Kind.TheVariants as kind
-use Rattle.packing.proofs.WalkLemmas.{covers-found}
+use Rattle.packing.proofs.WalkLemmas.{covers-found, reached-file}
 use Rattle.packing.proofs.walk.Walk.take.Goals as goal
 
 pub returns-in-Ok-File-clause-covers : goal.returns-in-Ok-File-clause-covers
@@ -19,3 +19,21 @@ returns-in-Ok-File-clause-covers g c =
 pub returns-in_ok-reason-in-Err-clause-grows : goal.returns-in_ok-reason-in-Err-clause-grows
 returns-in_ok-reason-in-Err-clause-grows g c =
     IfOk-weaker c.leave-in-Err.result _ _ (λ r h. h (g.F.Folder.at c.args.folder.now) (c.in_ok-reason-in-Err.ensures (g.F.Folder.at c.args.folder.now) c.in_ok-path.path)) c.leave-in-Err.ensures.grows
+
+pub returns-in-Ok-File-clause-only : goal.returns-in-Ok-File-clause-only
+returns-in-Ok-File-clause-only g c =
+    let at = g.F.Folder.at c.args.folder.now in
+    let named : c.as_str.result.now ≡ below c.args.from.now c.args.name.now = c.as_str.ensures ∙ c.in_ok-path.ensures in
+    let told : HasKind (at c.as_str.result.now) kind.File = subst (λ (k : Kind). HasKind (at c.as_str.result.now) k) c.in-Ok-File.field-0-is c.in-Ok-File.ensures in
+    let there : HasKind (at (below c.args.from.now c.args.name.now)) kind.File = subst (λ (p : List ℕ). HasKind (at p) kind.File) named told in
+    let kept : is_output c.args.from.now c.args.name.now ≡ false = sym c.is_output.ensures ∙ c.if-is_output.false in
+    IfOk-weaker c.find.result _ _ (λ r h by_name k. h at (subst (λ (p : List ℕ). Reaches at [] p) (sym c.in_ok-path.ensures)
+    (reached-file at c.args.from.now c.args.name.now there kept k by_name)) k) c.find.ensures.only
+
+pub returns-in-Ok-Special-clause-only : goal.returns-in-Ok-Special-clause-only
+returns-in-Ok-Special-clause-only g c =
+    IfOk-weaker c.leave.result _ _ (λ r h by_name. h (g.F.Folder.at c.args.folder.now)) c.leave.ensures.only
+
+pub returns-in_ok-reason-in-Err-clause-only : goal.returns-in_ok-reason-in-Err-clause-only
+returns-in_ok-reason-in-Err-clause-only g c =
+    IfOk-weaker c.leave-in-Err.result _ _ (λ r h by_name. h (g.F.Folder.at c.args.folder.now)) c.leave-in-Err.ensures.only

@@ -2,8 +2,8 @@ use Rattle.std.proofs.Common.{List, ℕ, subst, sym}
 use Rattle.std.proofs.lemmas.Result.{IfOk-weaker}
 use Rattle.std.specs.Prelude.{Contains}
 use Rattle.packing.specs.Folders.{HasNames}
-use Rattle.packing.specs.Walks.{CoversName}
-use Rattle.packing.proofs.WalkLemmas.{covers-names, grows-then}
+use Rattle.packing.specs.Walks.{ComesBy, CoversName}
+use Rattle.packing.proofs.WalkLemmas.{comes-by, covers-names, grows-then}
 use Rattle.packing.proofs.walk.Walk.visit.Goals as goal
 
 pub returns-in-Err-clause-grows : goal.returns-in-Err-clause-grows
@@ -22,3 +22,21 @@ returns-else-listing-clause-covers g c =
     covers-names at c.take_each.new.self c.args.from c.in-Ok.listing.names.items told
     (λ name listed. subst (λ (p : List ℕ). CoversName at c.take_each.new.self p name) c.as_str-2.ensures
     (c.in_ok-take_each.ensures.covers name (subst (λ (ns : List (List ℕ)). Contains ns name) (sym c.deref.ensures.value) listed)))
+
+pub returns-in-Err-clause-only : goal.returns-in-Err-clause-only
+returns-in-Err-clause-only g c =
+    IfOk-weaker c.leave.result _ _ (λ r h comes. h (g.F.Folder.at c.args.folder.now)) c.leave.ensures.only
+
+pub returns-in_ok-leave-clause-only : goal.returns-in_ok-leave-clause-only
+returns-in_ok-leave-clause-only g c comes k within =
+    let at = g.F.Folder.at c.args.folder.now in
+    let told : HasNames (at c.args.from) c.in-Ok.listing.names.items = subst (λ (p : List ℕ). HasNames (at p) c.in-Ok.listing.names.items) c.as_str.ensures c.in-Ok.ensures in
+    c.in_ok-leave.ensures.only at k (c.in_ok-take_each.ensures.only (λ name listed. subst (λ (p : List ℕ). ComesBy at p name) (sym c.as_str-2.ensures)
+    (comes-by at c.args.from c.in-Ok.listing.names.items name k comes told (subst (λ (ns : List (List ℕ)). Contains ns name) c.deref.ensures.value listed))) k within)
+
+pub returns-else-listing-clause-only : goal.returns-else-listing-clause-only
+returns-else-listing-clause-only g c comes k within =
+    let at = g.F.Folder.at c.args.folder.now in
+    let told : HasNames (at c.args.from) c.in-Ok.listing.names.items = subst (λ (p : List ℕ). HasNames (at p) c.in-Ok.listing.names.items) c.as_str.ensures c.in-Ok.ensures in
+    c.in_ok-take_each.ensures.only (λ name listed. subst (λ (p : List ℕ). ComesBy at p name) (sym c.as_str-2.ensures)
+    (comes-by at c.args.from c.in-Ok.listing.names.items name k comes told (subst (λ (ns : List (List ℕ)). Contains ns name) c.deref.ensures.value listed))) k within
