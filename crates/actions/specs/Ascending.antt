@@ -5,7 +5,7 @@ use Rattle.std.specs.Ordering.{nat_cmp}
 use Rattle.std.specs.declared.cmp.Ordering.TheVariants.{Less}
 
 module _ {X : Type 0} where
-  -- each has the property
+  -- each item of a list has the property
   abbrev pub Each : (X → Type 0) → List X → Type 0
   Each P [] = Unit {0}
   Each P (x ∷ xs) = P x × Each P xs

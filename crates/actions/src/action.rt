@@ -11,9 +11,13 @@ use std::marker::Model;
 /// Its outputs are Files that its target declared, each once.
 #[derive(Drop)]
 pub struct Action {
+    /// The kind of action, as a report names it.
     pub mnemonic: Text,
+    /// What it makes: at least one File, each once.
     pub outputs: Files,
+    /// What it reads.
     pub inputs: Inputs,
+    /// The words of its command, in order.
     pub words: Words,
     /// The text that `write` writes, and None for every other action.
     pub content: Option<Text>,
@@ -22,7 +26,9 @@ pub struct Action {
 /// The inputs of an action, as they were given: Files, or a depset of Files.
 #[derive(Drop)]
 pub enum Inputs {
+    /// A list of Files.
     Files(Files),
+    /// A depset of Files.
     Depset(Depset),
 }
 
@@ -52,6 +58,10 @@ impl Files {
     }
 
     /// No Files, with memory for so many.
+    ///
+    /// # Errors
+    ///
+    /// `AllocError` where memory is refused.
     pub fn with_capacity(alloc: Global, count: usize) -> Result<Files, AllocError>
         ensures { IfOk result (λ f. f ≡ []) }
     {
@@ -60,6 +70,10 @@ impl Files {
     }
 
     /// Puts a File last. After a refusal of memory they are as they were.
+    ///
+    /// # Errors
+    ///
+    /// `AllocError` where memory is refused.
     pub fn push(&mut self, file: Shared<FileRef>) -> Result<(), AllocError>
         ensures ok { OnOk result (self.new ≡ self.old ++ file ∷ []) }
         ensures err { OnErr result (self.new ≡ self.old) }
@@ -101,6 +115,10 @@ impl Words {
     }
 
     /// Puts a word last. After a refusal of memory they are as they were.
+    ///
+    /// # Errors
+    ///
+    /// `AllocError` where memory is refused.
     pub fn push(&mut self, word: Text) -> Result<(), AllocError>
         ensures ok { OnOk result (self.new ≡ self.old ++ word ∷ []) }
         ensures err { OnErr result (self.new ≡ self.old) }

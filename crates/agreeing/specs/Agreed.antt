@@ -6,6 +6,7 @@ use Rattle.meaning.specs.Names.{Predeclared}
 use Rattle.meaning.specs.Operations.{Refusal, FunctionId, Callee, Arguments, Operations}
 use Rattle.keeping.specs.Kept.{Kept, goods, good_callee, good_arguments}
 
+-- two records of operations do the same, given good values in a state that holds
 pub record EachAgrees {S V K : Type 0} (r : Kept S V) (ops other : Operations S V K) : Type 0 where
   -- the faults that evaluation finds, and values that are there without a state
   pub refusal : (x : Refusal) → ops.refusal x ≡ other.refusal x
@@ -17,7 +18,8 @@ pub record EachAgrees {S V K : Type 0} (r : Kept S V) (ops other : Operations S 
   pub truth : (k : r.World) (a : V) (s : S) → r.good k a → r.holds k s →
       ops.truth s a ≡ other.truth s a
   pub tick : (k : r.World) (s : S) → r.holds k s → ops.tick s ≡ other.tick s
-  pub binary : (k : r.World) (o : Operator) (a b : V) (s : S) → r.good k a → r.good k b → r.holds k s →
+  pub binary : (k : r.World) (o : Operator) (a b : V) (s : S) → r.good k a → r.good k b
+      → r.holds k s →
       ops.binary o a b s ≡ other.binary o a b s
   pub sign : (k : r.World) (o : Sign) (a : V) (s : S) → r.good k a → r.holds k s →
       ops.sign o a s ≡ other.sign o a s
@@ -27,7 +29,8 @@ pub record EachAgrees {S V K : Type 0} (r : Kept S V) (ops other : Operations S 
       ops.field a x s ≡ other.field a x s
   pub item : (k : r.World) (a b : V) (s : S) → r.good k a → r.good k b → r.holds k s →
       ops.item a b s ≡ other.item a b s
-  pub set_item : (k : r.World) (a b c : V) (s : S) → r.good k a → r.good k b → r.good k c → r.holds k s →
+  pub set_item : (k : r.World) (a b c : V) (s : S) → r.good k a → r.good k b → r.good k c
+      → r.holds k s →
       ops.set_item a b c s ≡ other.set_item a b c s
   -- displays and comprehensions
   pub new_list : (k : r.World) (vs : List V) (s : S) → goods r k vs → r.holds k s →
@@ -37,9 +40,11 @@ pub record EachAgrees {S V K : Type 0} (r : Kept S V) (ops other : Operations S 
   pub collect : (k : r.World) (a b : V) (s : S) → r.good k a → r.good k b → r.holds k s →
       ops.collect a b s ≡ other.collect a b s
   pub new_dict : (k : r.World) (s : S) → r.holds k s → ops.new_dict s ≡ other.new_dict s
-  pub enter : (k : r.World) (a b c : V) (s : S) → r.good k a → r.good k b → r.good k c → r.holds k s →
+  pub enter : (k : r.World) (a b c : V) (s : S) → r.good k a → r.good k b → r.good k c
+      → r.holds k s →
       ops.enter a b c s ≡ other.enter a b c s
-  pub keep : (k : r.World) (a b c : V) (s : S) → r.good k a → r.good k b → r.good k c → r.holds k s →
+  pub keep : (k : r.World) (a b c : V) (s : S) → r.good k a → r.good k b → r.good k c
+      → r.holds k s →
       ops.keep a b c s ≡ other.keep a b c s
   -- walks
   pub begin : (k : r.World) (a : V) (s : S) → r.good k a → r.holds k s →
@@ -56,12 +61,14 @@ pub record EachAgrees {S V K : Type 0} (r : Kept S V) (ops other : Operations S 
   pub loaded : (k : r.World) (f : ℕ) (t : List ℕ) (x : Name) (s : S) → r.holds k s →
       ops.loaded f t x s ≡ other.loaded f t x s
   -- functions and calls
-  pub define : (k : r.World) (f : FunctionId) (x : Name) (vs : List V) (s : S) → goods r k vs → r.holds k s →
+  pub define : (k : r.World) (f : FunctionId) (x : Name) (vs : List V) (s : S) → goods r k vs
+      → r.holds k s →
       ops.define f x vs s ≡ other.define f x vs s
   pub defaults : (k : r.World) (f : FunctionId) (s : S) → r.holds k s →
       ops.defaults f s ≡ other.defaults f s
   pub function : (a : V) → ops.function a ≡ other.function a
   pub find : (k : r.World) (a : V) (x : Name) (s : S) → r.good k a → r.holds k s →
       ops.find a x s ≡ other.find a x s
-  pub call : (k : r.World) (g : Callee V) (a : Arguments V) (s : S) → good_callee r k g → good_arguments r k a → r.holds k s →
+  pub call : (k : r.World) (g : Callee V) (a : Arguments V) (s : S) → good_callee r k g
+      → good_arguments r k a → r.holds k s →
       ops.call g a s ≡ other.call g a s

@@ -7,8 +7,8 @@ use Rattle.keeping.specs.Kept.{Kept, good_arguments}
 use Rattle.keeping.specs.Owed.{EachKeeps}
 use Rattle.agreeing.specs.Agreed.{EachAgrees}
 
--- A function that is called from outside does the same, where its arguments are good and the state holds: it ends with one value
--- and one state, or with one fault.
+-- A function that is called from outside does the same, where its arguments are good and the state
+-- holds: it ends with one value and one state, or with one fault.
 abbrev pub CallsAgree : Type 0 → Type 0 → Type 0 → Type 1
 CallsAgree S V K =
     (r : Kept S V) (ops other : Operations S V K) (files : Files) (f : FunctionId)

@@ -1,5 +1,5 @@
--- Labels as keys by which they are looked up: a digest of the text first, so that texts are compared only where digests are equal.
--- It says nothing of what is found. (This project's own.)
+-- Labels as keys by which they are looked up: a digest of the text first, so that texts are
+-- compared only where digests are equal. It says nothing of what is found. (This project's own.)
 use Rattle.std.specs.Prelude.{◌≡◌, ◌+◌, ◌*◌, ◌%◌, ◌^◌, ℕ, List, fold}
 use Rattle.std.specs.List.{list_any}
 use Rattle.std.specs.Borrow.{Bor}
@@ -22,6 +22,7 @@ text_digest text = fold digest_step 0 text
 abbrev pub Key : Type 0
 Key = ℕ × Bor (List ℕ) × Bor (List ℕ)
 
+-- the label that a key is of
 abbrev pub key_label : Key → LabelParts
 key_label k = record { «package» = k.2.now; name = k.1.now }
 
@@ -29,6 +30,7 @@ key_label k = record { «package» = k.2.now; name = k.1.now }
 abbrev pub IsKey : Key → Type 0
 IsKey k = k.0 ≡ text_digest (label_text (key_label k))
 
+-- this key is that of this label
 abbrev pub IsKeyOf : Key → LabelParts → Type 0
 IsKeyOf k l = (key_label k ≡ l) × IsKey k
 
@@ -39,4 +41,5 @@ key_cmp p q = ordering_then (ordering_then (nat_cmp p.0 q.0) (slice_cmp nat_cmp 
 
 -- the set has just these labels
 abbrev pub IsNoted : List LabelParts → BTreeSet Key → Type 0
-IsNoted ls seen = (q : Key) → IsKey q → contains key_cmp seen q ≡ list_any (same_label (key_label q)) ls
+IsNoted ls seen =
+    (q : Key) → IsKey q → contains key_cmp seen q ≡ list_any (same_label (key_label q)) ls

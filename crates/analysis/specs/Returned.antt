@@ -14,6 +14,7 @@ abbrev pub made_numbers : Option MadeId → ℕ × ℕ
 made_numbers None = (0, 0)
 made_numbers (Some m) = (m.«module» + 1, m.number)
 
+-- by which numbers a provider is found, and their order
 abbrev pub numbers : Provider → ℕ × ℕ
 numbers p = made_numbers p.id
 

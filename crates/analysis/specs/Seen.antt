@@ -5,6 +5,7 @@ use Rattle.targets.specs.Checks.{Dependency as Seen, dependency_of, first_of}
 use Rattle.analysis.specs.declared.dependency.Dependency.{Dependency}
 use Rattle.analysis.specs.Keyed.{Key, key_label, key_cmp, IsKey}
 
+-- the label and the outcome of a dependency, of one or of each
 abbrev pub dependency_seen : Dependency → Seen
 dependency_seen d = (d.label.now, d.outcome.now)
 
@@ -13,9 +14,14 @@ dependencies_seen ds = map dependency_seen ds
 
 -- The map has the first dependency of each label.
 abbrev pub AreFound : List Seen → BTreeMap Key Dependency → Type 0
-AreFound ds found = (q : Key) → IsKey q → option_map dependency_seen (get key_cmp found q) ≡ dependency_of ds (key_label q)
+AreFound ds found =
+    (q : Key) → IsKey q
+    → option_map dependency_seen (get key_cmp found q) ≡ dependency_of ds (key_label q)
 
 -- What it has for a label, it has still; and a dependency more.
 abbrev pub HasMore : Dependency → BTreeMap Key Dependency → BTreeMap Key Dependency → Type 0
 HasMore d olds news =
-    (q : Key) → IsKey q → option_map dependency_seen (get key_cmp news q) ≡ first_of (option_map dependency_seen (get key_cmp olds q)) (dependency_of (dependency_seen d ∷ []) (key_label q))
+    (q : Key) → IsKey q
+    → option_map dependency_seen (get key_cmp news q)
+    ≡ first_of (option_map dependency_seen (get key_cmp olds q))
+    (dependency_of (dependency_seen d ∷ []) (key_label q))

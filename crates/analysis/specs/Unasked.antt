@@ -10,9 +10,11 @@ use Rattle.targets.specs.declared.outcome.Outcome.TheVariants.{Source, Done, Fai
 abbrev pub takes_targets : NamedAttribute → Bool
 takes_targets a = nat_eq (length a.attribute.providers) 0
 
+-- none of these attributes asks providers
 abbrev pub take_targets : List NamedAttribute → Bool
 take_targets named = list_all takes_targets named
 
+-- whether an outcome isn't that of a source file, and whether no dependency is a source file
 abbrev pub is_no_source : Outcome → Bool
 is_no_source (Source f) = false
 is_no_source (Done ts actions) = true

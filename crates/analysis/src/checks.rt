@@ -1,7 +1,8 @@
 //! The checks of dependencies.
 ghost use Rattle.std.specs.Prelude.{◌≡◌, IfOk, OnOk, option_map, nat_eq};
 ghost use Rattle.std.specs.List.{ends_with};
-ghost use Rattle.targets.specs.Checks.{takes_file, refusal, refused, dependency_of, first_in_value, first_refused};
+ghost use Rattle.targets.specs.Checks.{takes_file, refusal, refused, dependency_of, first_in_value};
+ghost use Rattle.targets.specs.Checks.{first_refused};
 ghost use Rattle.targets.specs.Attributes.{labels_in};
 ghost use Rattle.analysis.specs.Unasked.{takes_targets, take_targets, is_no_source, are_no_sources};
 ghost use Rattle.analysis.specs.Seen.{dependency_seen, dependencies_seen, AreFound, HasMore};
@@ -261,7 +262,12 @@ fn is_no_source(outcome: &Outcome) -> bool
     }
 }
 
-/// Why a target's attributes refuse one of its dependencies: the first, by attribute and then by value.
+/// Why a target's attributes refuse one of its dependencies: the first, by attribute and then by
+/// value.
+///
+/// # Errors
+///
+/// `AllocError` where memory was refused.
 #[tactic(auto, using(crate::proofs::Unrefused::none_in_all))]
 pub fn first_refused<'a>(
     alloc: Global,

@@ -10,9 +10,11 @@ use workspace::Label;
 /// A dependency of a target, and what became of it.
 #[derive(Clone, Copy)]
 pub struct Dependency<'a> {
+    /// Its label.
     pub label: &'a Shared<Label>,
     /// The label as a frozen value.
     pub tree: &'a Frozen,
+    /// What became of the label.
     pub outcome: &'a Outcome,
     ghost shown: { tree.now ≡ label_tree label.now },
 }

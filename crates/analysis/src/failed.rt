@@ -10,6 +10,10 @@ use targets::Sequence;
 use workspace::Label;
 
 /// The labels of the dependencies that failed, in order.
+///
+/// # Errors
+///
+/// `AllocError` where memory was refused.
 pub fn failed_labels(
     alloc: Global,
     dependencies: &[Dependency<'_>],

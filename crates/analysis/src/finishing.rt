@@ -2,7 +2,9 @@
 ghost use Rattle.std.specs.Prelude.{◌≡◌, ◌++◌, ◌∷◌, [], Ok, IfOk, OnOk};
 ghost use Rattle.values.specs.Tree.{branch};
 ghost use Rattle.operations.specs.Instances.{default_info};
-ghost use Rattle.targets.specs.Steps.{Implemented, finished, with_instances, branch_instances, if_instances, first_unmade, made_whole, with_default_info, missing_default_info};
+ghost use Rattle.targets.specs.Steps.{Implemented, finished, with_instances, branch_instances};
+ghost use Rattle.targets.specs.Steps.{if_instances, first_unmade, made_whole, with_default_info};
+ghost use Rattle.targets.specs.Steps.{missing_default_info};
 ghost use Rattle.targets.specs.Sources.{first_depset};
 ghost use Rattle.workspace.specs.Labels.{label_text};
 
@@ -17,6 +19,10 @@ use values::{Branch, Frozen, Held, Leaf, Names, Node, Provider, ProviderRef};
 use workspace::Label;
 
 /// The provider `DefaultInfo`, which no module makes. It is made once and shared.
+///
+/// # Errors
+///
+/// `AllocError` where memory was refused.
 pub fn default_info(alloc: Global) -> Result<Shared<Provider>, AllocError>
     ensures { IfOk result (λ p. p ≡ default_info) }
 {
@@ -32,10 +38,16 @@ pub fn default_info(alloc: Global) -> Result<Shared<Provider>, AllocError>
     )
 }
 
-/// The outcome of a target whose implementation returned this, declared these files and registered these actions.
+/// The outcome of a target whose implementation returned this, declared these files and registered
+/// these actions.
 ///
-/// It is `returned`, unless the result is None or a list of instances of different providers; then `no action`, with the first
-/// file that no action makes; else the instances, behind a `DefaultInfo` where none is among them, and the actions.
+/// It is `returned`, unless the result is None or a list of instances of different providers; then
+/// `no action`, with the first file that no action makes; else the instances, behind a
+/// `DefaultInfo` where none is among them, and the actions.
+///
+/// # Errors
+///
+/// `AllocError` where memory was refused.
 pub fn finish(
     alloc: Global,
     label: &Label,
@@ -174,7 +186,8 @@ fn put_all(instances: &[Frozen], providers: &mut Providers) -> Result<(), AllocE
     Ok(())
 }
 
-/// The `DefaultInfo` of a target that returns none: with an empty depset that no call made, whose serial is 0.
+/// The `DefaultInfo` of a target that returns none: with an empty depset that no call made, whose
+/// serial is 0.
 fn missing_default_info(
     alloc: Global,
     label: &Label,

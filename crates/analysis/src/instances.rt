@@ -1,7 +1,8 @@
 //! Instances of providers.
 ghost use Rattle.std.specs.Prelude.{◌≡◌, IfOk, option_copied};
 ghost use Rattle.std.specs.List.{list_any};
-ghost use Rattle.targets.specs.Checks.{provider_of, branch_provider, is_of, offers, offers_all, offers_enough};
+ghost use Rattle.targets.specs.Checks.{provider_of, branch_provider, is_of, offers, offers_all};
+ghost use Rattle.targets.specs.Checks.{offers_enough};
 
 use crate::offered::Offered;
 use plain::Shared;

@@ -4,9 +4,10 @@ ghost use Rattle.analysis.specs.Keyed.{text_digest, IsKeyOf};
 
 use workspace::Label;
 
-/// A label by which it is looked up: a digest of its text, its name and its package. Keys are compared in this order, so texts
-/// are compared only where digests are equal. Who chooses the labels can make digests equal; then the order of texts decides. So
-/// a look-up takes no more comparisons than by texts alone, and one pass over the text more, for the digest.
+/// A label by which it is looked up: a digest of its text, its name and its package. Keys are
+/// compared in this order, so texts are compared only where digests are equal. Who chooses the
+/// labels can make digests equal; then the order of texts decides. So a look-up takes no more
+/// comparisons than by texts alone, and one pass over the text more, for the digest.
 pub type LabelKey<'a> = (u64, &'a str, &'a str);
 
 /// The key of a label.

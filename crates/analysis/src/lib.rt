@@ -1,5 +1,5 @@
-//! What becomes of a target, as far as no evaluation is asked: its dependencies, the checks of what they offer, and its outcome
-//! from what its implementation gave.
+//! What becomes of a target, as far as no evaluation is asked: its dependencies, the checks of what
+//! they offer, and its outcome from what its implementation gave.
 //!
 //! Each call does what a definition of `targets` says.
 #![tactic(auto)]

@@ -11,8 +11,8 @@ use targets::{Outcome, Sequence};
 use values::{Frozen, Leaf};
 use workspace::Label;
 
-/// The labels that a target depends on, in order, each with the frozen value that it is: this is made once, and lent to each who
-/// reads it. To a contract they are the labels.
+/// The labels that a target depends on, in order, each with the frozen value that it is: this is
+/// made once, and lent to each who reads it. To a contract they are the labels.
 #[derive(Drop)]
 pub struct Needed {
     labels: Sequence<Shared<Label>>,

@@ -14,9 +14,14 @@ use std::collections::BTreeSet;
 use targets::{AttributeValue, Sequence, Target};
 use workspace::Label;
 
-/// The dependencies of a target: the labels that it has for its attributes, in order, each at its first place alone.
+/// The dependencies of a target: the labels that it has for its attributes, in order, each at its
+/// first place alone.
 ///
 /// Labels are found by order, so who chooses them can't make this slow.
+///
+/// # Errors
+///
+/// `AllocError` where memory was refused.
 pub fn dependencies(alloc: Global, target: &Target) -> Result<Needed, AllocError>
     ensures { IfOk result (λ ls. ls ≡ dependencies target.now) }
 {

@@ -14,8 +14,8 @@ use values::{Frozen, Provider};
 /// So many values, at most, are gone through rather than put in order.
 const FEW: usize = 8;
 
-/// Values, among which instances are found by their providers: few by going through them, many by order, so that who makes
-/// many can't make this slow. For few it takes no memory.
+/// Values, among which instances are found by their providers: few by going through them, many by
+/// order, so that who makes many can't make this slow. For few it takes no memory.
 #[derive(Drop)]
 pub(crate) struct Offered<'a> {
     values: &'a [Frozen],

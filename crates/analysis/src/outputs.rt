@@ -15,7 +15,8 @@ const FEW: usize = 4;
 
 /// The first of the declared files that no action makes.
 ///
-/// Where there are many files, the paths of all outputs are put in order, so who chooses them can't make this slow.
+/// Where there are many files, the paths of all outputs are put in order, so who chooses them can't
+/// make this slow.
 pub(crate) fn first_unmade<'a>(
     alloc: Global,
     actions: &[Action],

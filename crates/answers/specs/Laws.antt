@@ -6,8 +6,8 @@ use Rattle.outcomes.specs.Workspaces.{graph}
 use Rattle.loader.specs.Loaded.{AreFilesOf}
 use Rattle.workspace_laws.specs.Workspaces.{plain_workspace}
 
--- Of the depsets in modules and of those in what becomes of labels, all together, any two with one id are the same; and what a label
--- is handed has none with its own text as the owner.
+-- Of the depsets in modules and of those in what becomes of labels, all together, any two with one
+-- id are the same; and what a label is handed has none with its own text as the owner.
 abbrev pub WorkspacesAreCoherent : Type 0
 WorkspacesAreCoherent =
     (workspace files : List Pair) (limit : ℕ) → IsWorkspace workspace → AreFilesOf workspace files

@@ -10,11 +10,13 @@ use Rattle.label_order.specs.Ordered.{Entry}
 
 -- what was found of each node is what becomes of its label
 abbrev pub AreOutcomesOf : Workspace → List LabelParts → GatheredView Outcome → Type 0
-AreOutcomesOf w labels g = (n : ℕ) → n < length labels → outcome_in g n ≡ outcome_of w (label_at labels n)
+AreOutcomesOf w labels g =
+    (n : ℕ) → n < length labels → outcome_in g n ≡ outcome_of w (label_at labels n)
 
 -- a label, with what was found of its node
 abbrev pub node_of : GatheredView Outcome → Entry → Node
 node_of g e = record { label = e.0; outcome = outcome_in g e.1 }
 
+-- what the report tells of labels, in this order, each with what was found of its node
 abbrev pub nodes_of : GatheredView Outcome → List Entry → List Node
 nodes_of g es = map (node_of g) es

@@ -11,21 +11,25 @@ use Rattle.loader.specs.Loaded.{AreFilesOf}
 use Rattle.workspace_laws.specs.Workspaces.{plain_workspace}
 use Rattle.answers.specs.Answers.{Answer, IsAnswer, answer_text, is_loud_answer}
 
--- A report says just what the answer to labels of a workspace is, where each evaluation may use so many ticks.
-pub record Reports (workspace : List Pair) (labels : List LabelParts) (limit : ℕ) (r : Report) : Type 0 where
+-- A report says just what the answer to labels of a workspace is, where each evaluation may use so
+-- many ticks.
+pub record Reports (workspace : List Pair) (labels : List LabelParts) (limit : ℕ)
+    (r : Report) : Type 0 where
   pub answer : Answer
   pub answers : IsAnswer workspace limit labels answer
   pub told : report_bytes r ≡ answer_text answer
   pub loud : r.loud ≡ is_loud_answer answer
 
 -- bytes that are those of the answer to labels of a workspace
-pub record AnswersIn (workspace : List Pair) (labels : List LabelParts) (limit : ℕ) (bytes : List ℕ) : Type 0 where
+pub record AnswersIn (workspace : List Pair) (labels : List LabelParts) (limit : ℕ)
+    (bytes : List ℕ) : Type 0 where
   pub answer : Answer
   pub answers : IsAnswer workspace limit labels answer
   pub told : bytes ≡ answer_text answer
 
 -- more labels are reached than a bound
-pub record IsTooMany (workspace : List Pair) (labels : List LabelParts) (limit bound : ℕ) : Type 0 where
+pub record IsTooMany (workspace : List Pair) (labels : List LabelParts)
+    (limit bound : ℕ) : Type 0 where
   pub files : List Pair
   pub are_files : AreFilesOf workspace files
   pub many : TooManyReached (dependencies (plain_workspace files limit)) labels same_label bound

@@ -10,7 +10,8 @@ use target_outcomes::Analysis;
 use targets::{Outcome, TargetFault};
 use workspace::Label;
 
-/// The analysis of the labels of a workspace, one at a time. It reads the targets alone, so workers share it.
+/// The analysis of the labels of a workspace, one at a time. It reads the targets alone, so workers
+/// share it.
 pub struct LabelAnalysis<'a> {
     targets: &'a Targets,
     analysis: Analysis<'a>,

@@ -1,4 +1,5 @@
-//! What holds of a workspace as a whole. This function does nothing; its contract holds of every workspace.
+//! What holds of a workspace as a whole. This function does nothing; its contract holds of every
+//! workspace.
 ghost use Rattle.answers.specs.Laws.{WorkspacesAreCoherent};
 
 /// All modules and all outcomes of a workspace are coherent together: an id has one tree.

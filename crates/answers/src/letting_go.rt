@@ -8,7 +8,8 @@ use std::thread::{Threads, join};
 pub enum Leftovers {
     /// It is given back, for a program that goes on.
     Free,
-    /// It is left as it is, for a program that ends after its report: the system takes all of it back at once then.
+    /// It is left as it is, for a program that ends after its report: the system takes all of it
+    /// back at once then.
     Leave,
 }
 

@@ -1,8 +1,10 @@
-//! The answer to a request for labels of a workspace: what becomes of each, by any number of workers, as a report.
+//! The answer to a request for labels of a workspace: what becomes of each, by any number of
+//! workers, as a report.
 //!
-//! [`report_on`] reads and evaluates the files of a workspace ([`loader`], [`packages`]), finds the labels that are reached
-//! ([`graph`]), has workers analyse them ([`pool`]), each after its dependencies, and tells what they found ([`reporting`]).
-//! What the report says is defined in `specs/Answers` by no order of work: by the outcome of each label.
+//! [`report_on`] reads and evaluates the files of a workspace ([`loader`], [`packages`]), finds the
+//! labels that are reached ([`graph`]), has workers analyse them ([`pool`]), each after its
+//! dependencies, and tells what they found ([`reporting`]). What the report says is defined in
+//! `specs/Answers` by no order of work: by the outcome of each label.
 #![tactic(auto)]
 
 mod found;

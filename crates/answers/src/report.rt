@@ -58,7 +58,8 @@ fn nodes_of<'a>(
     Ok(nodes)
 }
 
-/// The report of files that fail, and of what was found of the nodes of a graph, written by so many threads.
+/// The report of files that fail, and of what was found of the nodes of a graph, written by so many
+/// threads.
 fn told<R: Threads + Sync>(
     rt: &R,
     alloc: Global,
@@ -80,7 +81,8 @@ fn told<R: Threads + Sync>(
     make_report(rt, alloc, failing, &nodes, threads)
 }
 
-/// The targets of a workspace that is read and evaluated, where each evaluation may use so many ticks, by so many threads.
+/// The targets of a workspace that is read and evaluated, where each evaluation may use so many
+/// ticks, by so many threads.
 fn targets_of<R: Threads + Sync>(
     rt: &R,
     alloc: Global,
@@ -109,8 +111,8 @@ fn graph_of(alloc: Global, targets: &Targets, labels: &[Label]) -> Result<Graph,
     }
 }
 
-/// The report of what was found of the nodes of a graph, by one thread. The targets are let go before it is told, so that targets
-/// and report are never in memory at once.
+/// The report of what was found of the nodes of a graph, by one thread. The targets are let go
+/// before it is told, so that targets and report are never in memory at once.
 fn told_alone<R: Threads + Sync>(
     rt: &R,
     alloc: Global,
@@ -132,8 +134,8 @@ fn told_alone<R: Threads + Sync>(
     report
 }
 
-/// The report of what was found of the nodes of a graph, by so many threads. What it was made of is let go after it, each part by
-/// a thread.
+/// The report of what was found of the nodes of a graph, by so many threads. What it was made of is
+/// let go after it, each part by a thread.
 fn told_together<R: Threads + Sync>(
     rt: &R,
     alloc: Global,
@@ -212,14 +214,16 @@ where
     Ok(report?)
 }
 
-/// The report on labels of a workspace and on all that they depend on, where each evaluation may use so many ticks.
+/// The report on labels of a workspace and on all that they depend on, where each evaluation may
+/// use so many ticks.
 ///
-/// It is [`report_on_shelf`] where each worker has a deque, and where the memory of what the report was made of is given back.
+/// It is [`report_on_shelf`] where each worker has a deque, and where the memory of what the report
+/// was made of is given back.
 ///
 /// # Errors
 ///
-/// `TooMany` only where more than [`NODE_LIMIT`] labels are reached; `NoMemory` where memory was refused, and `NoThread` where a
-/// thread was refused.
+/// `TooMany` only where more than [`NODE_LIMIT`] labels are reached; `NoMemory` where memory was
+/// refused, and `NoThread` where a thread was refused.
 pub fn report_on<R: Threads + Wait + Sync, G: Gate>(
     rt: &R,
     alloc: Global,
@@ -245,11 +249,12 @@ pub fn report_on<R: Threads + Wait + Sync, G: Gate>(
 
 /// The report on labels of a workspace, by a team of workers at any shelf.
 ///
-/// `rt` is the permission to start threads and to wait. The labels are analysed by so many workers, one in the thread that
-/// calls and the others in threads of their own, which have ended when this returns. What the report says depends on none of them,
-/// nor on the shelf. The gate is called round each label, by the worker that analyses it. Before them files are read and
-/// `BUILD` files evaluated by as many threads, and afterwards the lines of many labels are written by as many; modules are
-/// evaluated by the thread that calls.
+/// `rt` is the permission to start threads and to wait. The labels are analysed by so many workers,
+/// one in the thread that calls and the others in threads of their own, which have ended when this
+/// returns. What the report says depends on none of them, nor on the shelf. The gate is called
+/// round each label, by the worker that analyses it. Before them files are read and `BUILD` files
+/// evaluated by as many threads, and afterwards the lines of many labels are written by as many;
+/// modules are evaluated by the thread that calls.
 ///
 /// # Errors
 ///

@@ -1,5 +1,6 @@
 -- Flags of nodes as bits, and what they say of the values that are known.
-use Rattle.std.specs.Prelude.{◌≡◌, ℕ, ◌*◌, ◌/◌, ◌%◌, ◌<◌, ◌≤◌, Bool, List, length, eqb, Option, None, slice_index, slice_index_or}
+use Rattle.std.specs.Prelude.{◌≡◌, ℕ, ◌*◌, ◌/◌, ◌%◌, ◌<◌, ◌≤◌, Bool, List, length, eqb, Option}
+use Rattle.std.specs.Prelude.{None, slice_index, slice_index_or}
 use Rattle.std.specs.Int.{bit_at}
 use Rattle.board.specs.Views.{is_known}
 

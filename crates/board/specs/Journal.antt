@@ -1,5 +1,7 @@
--- What the journals of all passes say, counted. A node is a number, and its dependencies are the list at that place of the plan. An edge is a pair: a dependency, and the node that depends on it.
-use Rattle.std.specs.Prelude.{◌≡◌, ◌⊎◌, ℕ, zero, suc, ◌+◌, ◌<◌, ◌≤◌, Bool, cond, eqb, List, [], ◌∷◌, length, slice_index, slice_index_or, Option, None, Some}
+-- What the journals of all passes say, counted. A node is a number, and its dependencies are the
+-- list at that place of the plan. An edge is a pair: a dependency, and the node that depends on it.
+use Rattle.std.specs.Prelude.{◌≡◌, ◌⊎◌, ℕ, zero, suc, ◌+◌, ◌<◌, ◌≤◌, Bool, cond, eqb, List, [], ◌∷◌}
+use Rattle.std.specs.Prelude.{length, slice_index, slice_index_or, Option, None, Some}
 use Rattle.board.specs.declared.journal.Journal.{Journal}
 
 -- how often x stands in the list
@@ -36,29 +38,35 @@ Among j (k ∷ ks) = (k ≡ j) ⊎ Among j ks
 abbrev pub deps : List (List ℕ) → ℕ → List ℕ
 deps plan n = slice_index_or plan n []
 
+-- a flag as a number to add up: how often the halt was set by one pass
 abbrev pub bit : Bool → ℕ
 bit b = cond b 1 0
 
--- how often a node was started, readied or finished, an edge delivered, and the halt set, by all passes together
+-- how often the node n was started, by all passes together
 abbrev pub starts : ℕ → List Journal → ℕ
 starts n js = tally (λ j. times n j.started) js
 
+-- how often the node n was readied, by all passes together
 abbrev pub readies : ℕ → List Journal → ℕ
 readies n js = tally (λ j. times n j.readied) js
 
+-- how often the node n was finished, by all passes together
 abbrev pub finishes : ℕ → List Journal → ℕ
 finishes n js = tally (λ j. times n j.finished) js
 
+-- how often the edge from d to u was delivered, by all passes together
 abbrev pub delivers : ℕ → ℕ → List Journal → ℕ
 delivers d u js = tally (λ j. edge_times d u j.delivered) js
 
+-- how many of the passes set the halt
 abbrev pub sets : List Journal → ℕ
 sets js = tally (λ j. bit j.set) js
 
--- how many edges into u were delivered, and how many nodes finished, by all passes together
+-- how many edges into u were delivered, by all passes together
 abbrev pub delivered_into : ℕ → List Journal → ℕ
 delivered_into u js = tally (λ j. edges_into u j.delivered) js
 
+-- how many nodes were finished, by all passes together
 abbrev pub finished_count : List Journal → ℕ
 finished_count js = tally (λ j. length j.finished) js
 
@@ -93,9 +101,11 @@ AtMost n (Some k) = n ≤ k
 abbrev pub mark : ℕ
 mark = 18446744073709551615
 
--- a board has a word for each node, then the count, then the halt
+-- A board has a word for each node, then the count. This is the count: how many nodes are not
+-- finished.
 abbrev pub count_word : List (List ℕ) → List ℕ → ℕ
 count_word plan words = slice_index words (length plan)
 
+-- the last word of a board, the halt: 1 once some pass set it, and 0 before
 abbrev pub halt_word : List (List ℕ) → List ℕ → ℕ
 halt_word plan words = slice_index words (length plan + 1)

@@ -1,4 +1,5 @@
--- What is said of seats. A seat is a token that steps are made with; its view is a list of journals, of which a pass at rest has one.
+-- What is said of seats. A seat is a token that steps are made with; its view is a list of
+-- journals, of which a pass at rest has one.
 use Rattle.std.specs.Prelude.{◌≡◌, ℕ, ◌+◌, List, [], length}
 use Rattle.atomic_table.specs.Seated.{TableId}
 use Rattle.atomic_table.specs.declared.shared.Seat.{Seat}
@@ -17,7 +18,8 @@ journal_of_seat s = first_journal s.me.0
 abbrev pub IsSeatOf : TableId → SeatView → Type 0
 IsSeatOf t s = (s.table_id ≡ t) × IsOne s.me.0
 
--- what a step leaves of a pass's seat: it is of the same table, with one journal, which may have grown
+-- what a step leaves of a pass's seat: it is of the same table, with one journal, which may have
+-- grown
 abbrev pub StaysSeated : SeatView → SeatView → Type 0
 StaysSeated old new = (new.table_id ≡ old.table_id) × IsOne new.me.0 × (new.me.1 ≡ old.me.1)
 

@@ -1,5 +1,6 @@
 -- What a contract sees of a board, of a pass, and of a closed board.
-use Rattle.std.specs.Prelude.{IfSome, ◌≡◌, ℕ, ◌<◌, ◌⊎◌, slice_set, Bool, true, false, List, [], ◌∷◌, length, map, slice_index_or, Option, None, Some}
+use Rattle.std.specs.Prelude.{IfSome, ◌≡◌, ℕ, ◌<◌, ◌⊎◌, slice_set, Bool, true, false, List, [], ◌∷◌}
+use Rattle.std.specs.Prelude.{length, map, slice_index_or, Option, None, Some}
 use Rattle.std.specs.List.{All}
 use Rattle.atomic_table.specs.Seated.{TableId}
 use Rattle.once_cell.specs.declared.race.note.Note.{Note}
@@ -38,10 +39,12 @@ pub record ClosedView (V : Type 0) : Type 0 where
   pub halted : Bool
 
 module _ {V : Type 0} where
+  -- whether a value is known
   abbrev pub is_known : Option V → Bool
   is_known None = false
   is_known (Some v) = true
 
+  -- what the pass did and saw
   abbrev pub journal_of : PassView V → Journal
   journal_of p = p.journal
 
@@ -53,23 +56,27 @@ module _ {V : Type 0} where
   abbrev pub SameCells : MemoryView V → MemoryView V → Type 0
   SameCells m m' = (m'.cells ≡ m.cells) × (length m'.known ≡ length m.known)
 
+  -- what a memory knows of the node n
   abbrev pub known_at : MemoryView V → ℕ → Option V
   known_at m n = slice_index_or m.known n None
 
+  -- the memory once the value v of the node n is known to it
   abbrev pub learned : MemoryView V → ℕ → V → MemoryView V
   learned m n v = record m { known = slice_set m.known n (Some v) }
 
-  -- what the pass knows of the node n, and what a closed board tells of it
+  -- what the pass knows of the node n
   abbrev pub knows : PassView V → ℕ → Option V
   knows p n = known_at p.memory n
 
+  -- what a closed board tells of the node n
   abbrev pub told : ClosedView V → ℕ → Option V
   told c n = slice_index_or c.known n None
 
-  -- the pass with another journal, or with a value that it learned
+  -- the pass with another journal
   abbrev pub with_journal : PassView V → Journal → PassView V
   with_journal p j = record p { journal = j }
 
+  -- the pass once it has learned the value v of the node n
   abbrev pub with_known : PassView V → ℕ → V → PassView V
   with_known p n v = record p { memory = learned p.memory n v }
 
@@ -77,7 +84,8 @@ module _ {V : Type 0} where
   abbrev pub saw_started : PassView V → ℕ → PassView V
   saw_started p n = with_journal p (with_seen n p.journal)
 
-  -- a read that found no value: the pass saw the node started, or neither did so before nor started it
+  -- a read that found no value: the pass saw the node started, or neither did so before nor started
+  -- it
   abbrev pub FoundNothing : ℕ → PassView V → PassView V → Type 0
   FoundNothing n old new = ((new ≡ old) × IsUnbegun n old.journal) ⊎ (new ≡ saw_started old n)
 
@@ -125,17 +133,19 @@ module _ {V : Type 0} where
   Knower n [] = ⊥
   Knower n (p ∷ ps) = (is_known (knows p n) ≡ true) ⊎ Knower n ps
 
-  -- of lists of notes: their cells, and what they know
+  -- the cells that these notes are of
   abbrev pub cells_of : List (Note V) → List ℕ
   cells_of ns = map (λ n. n.cell) ns
 
+  -- what these notes know of their cells
   abbrev pub knowns_of : List (Note V) → List (Option V)
   knowns_of ns = map (λ n. n.known) ns
 
-  -- where both know a value, it is the same, at one node and at those below k
+  -- where both know a value of one node, it is the same
   abbrev pub Same : Option V → Option V → Type 0
   Same a b = IfSome b (Agrees a)
 
+  -- where both know a value of a node below k, it is the same
   abbrev pub AgreeBelow : ℕ → List (Option V) → List (Option V) → Type 0
   AgreeBelow k a b = (n : ℕ) → n < k → Same (slice_index_or a n None) (slice_index_or b n None)
 
@@ -145,7 +155,8 @@ module _ {V : Type 0} where
       × (is_known c ≡ true → (is_known a ≡ true) ⊎ (is_known b ≡ true))
 
   -- m' knows what m and the passes know, together
-  pub record IsGathered (m : MemoryView V) (ps : List (PassView V)) (m' : MemoryView V) : Type 0 where
+  pub record IsGathered (m : MemoryView V) (ps : List (PassView V))
+      (m' : MemoryView V) : Type 0 where
     pub cells : m'.cells ≡ m.cells
     pub size : length m'.known ≡ length m.known
     pub own : Keeps (known_at m) (known_at m')

@@ -65,6 +65,10 @@ impl<V> Board<V> {
     /// moment at which every dependency had delivered its edge. `NotReady` says that some pass had
     /// started the node, which this pass has then seen, or that an edge into it was missing, so
     /// that this pass hadn't readied it. One compare and exchange.
+    ///
+    /// # Errors
+    ///
+    /// `NotReady` where some pass had started the node, or an edge into it was missing.
     pub fn start(&self, pass: &mut Pass<V>, n: usize) -> Result<(), NotReady>
         requires pass { IsPassOf self.now pass.old }
         requires node { n < length self.now.plan }
@@ -199,6 +203,10 @@ impl<V: Drop> Board<V> {
     ///
     /// `Err` gives the value back, with board and pass as they were; it comes where the allocator
     /// refuses memory for it. No step on a word.
+    ///
+    /// # Errors
+    ///
+    /// `NoMemory`, with the value, where memory for it was refused.
     pub fn publish(&self, pass: &mut Pass<V>, n: usize, v: V) -> Result<Published, (V, NoMemory)>
         requires pass { IsPassOf self.now pass.old }
         requires started { 0 < times n pass.old.journal.started }

@@ -43,6 +43,10 @@ fn with_bit(word: u64, k: usize) -> u64
 
 impl Flags {
     /// Flags for so many nodes, none of them up.
+    ///
+    /// # Errors
+    ///
+    /// `AllocError` where memory was refused.
     pub fn new(alloc: Global, nodes: usize) -> Result<Flags, AllocError>
         ensures room { IfOk result (λ f. nodes ≤ 64 * length f) }
         ensures down { IfOk result (λ f. (n : ℕ) → is_up f n ≡ false) }

@@ -1,11 +1,12 @@
 //! Readiness words and result cells of a dependency graph, shared by threads.
 //!
-//! A [`Board`] is made over a [`Plan`], which gives each node's dependencies. It has one atomic word a
-//! node, which counts the edges that are missing and becomes a mark once the node is started; one
-//! word that counts unfinished nodes; one word for the halt; and a result cell a node, which is set
-//! once. Each thread works with a [`Pass`] of its own. What every contract speaks of is the pass's
-//! journal: what it started, delivered, readied, finished and saw. `specs/Lawful.antt` has the law
-//! that the words and the journals of all passes meet after every step.
+//! A [`Board`] is made over a [`Plan`], which gives each node's dependencies. It has one atomic
+//! word a node, which counts the edges that are missing and becomes a mark once the node is
+//! started; one word that counts unfinished nodes; one word for the halt; and a result cell a node,
+//! which is set once. Each thread works with a [`Pass`] of its own. What every contract speaks of
+//! is the pass's journal: what it started, delivered, readied, finished and saw.
+//! `specs/Lawful.antt` has the law that the words and the journals of all passes meet after every
+//! step.
 //!
 //! No call waits, and none is tried again. Memory is taken in `new` and `publish` alone.
 #![tactic(auto)]

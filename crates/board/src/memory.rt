@@ -168,6 +168,10 @@ impl<V> Memory<V> {
 }
 
 /// A note that knows nothing for each cell.
+///
+/// # Errors
+///
+/// `AllocError` where memory was refused.
 pub fn fresh<V>(alloc: Global, cells: &[OnceBox<V>]) -> Result<Memory<V>, AllocError>
     ensures { IfOk result (λ m. (m.cells ≡ map cell_name cells.now)
         × (m.known ≡ map (λ _. None) cells.now)) }

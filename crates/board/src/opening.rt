@@ -35,6 +35,10 @@ impl<V: Drop> Board<V> {
     /// without dependencies can be started at once. There is at least one pass. `Err` comes where
     /// the allocator refuses memory, and then nothing is kept. A plan with a cycle is fine: no node
     /// of the cycle will ever start.
+    ///
+    /// # Errors
+    ///
+    /// `NoMemory` where memory was refused; nothing is kept then.
     pub fn new(
         alloc: Global,
         plan: &[Vec<usize>],
@@ -53,6 +57,10 @@ impl<V: Drop> Board<V> {
     }
 
     /// The same for a plan in whatever form.
+    ///
+    /// # Errors
+    ///
+    /// As for [`Board::new`].
     pub fn over<P: Plan>(
         alloc: Global,
         plan: &P,

@@ -26,6 +26,10 @@ use std::mem;
 const MARK: u64 = u64::MAX;
 
 /// Exchanges the node's word for the mark, if it is 0.
+///
+/// # Errors
+///
+/// `NotReady` where the node's word was not 0: the node was started, or an edge into it is missing.
 pub fn start(words: &Words, seat: &mut BoardSeat, n: usize) -> Result<(), NotReady>
     requires place { IsSeatOf words.now.table_id seat.old }
     requires node { n < length words.now.key.plan }

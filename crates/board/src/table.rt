@@ -52,6 +52,10 @@ fn words_of<P: Plan>(alloc: Global, plan: &P) -> Result<Vec<u64>, AllocError>
 }
 
 /// A table with the first words of the plan, and a seat with a blank journal for each pass.
+///
+/// # Errors
+///
+/// `AllocError` where memory was refused.
 pub fn open_table<P: Plan>(
     alloc: Global,
     plan: &P,

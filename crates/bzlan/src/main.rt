@@ -1,4 +1,5 @@
-//! `bzlan`, the analysis phase of a Bazel build: words and a workspace in, a report and a status out.
+//! `bzlan`, the analysis phase of a Bazel build: words and a workspace in, a report and a status
+//! out.
 #![tactic(auto)]
 
 use devices::Counted;
@@ -25,8 +26,8 @@ fn command_line<R: env::Env + AllocGlobal>(rt: &R) -> Result<Vec<String>, ServeS
     }
 }
 
-/// Serves the request of the command line from standard input to standard output, prints the closing line to standard
-/// error, where that takes it, and ends with the status.
+/// Serves the request of the command line from standard input to standard output, prints the
+/// closing line to standard error, where that takes it, and ends with the status.
 fn main(rt: HostRuntime) -> ExitCode {
     let mut reader = Counted::new(rt.reader());
     let mut writer = Counted::new(io::writer(&rt));

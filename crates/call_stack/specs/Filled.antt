@@ -1,5 +1,6 @@
 -- What one parameter gets, and whether all fit.
-use Rattle.std.specs.Prelude.{ℕ, zero, suc, Bool, true, false, Option, Some, None, option_map, List, [], ◌∷◌, ◌++◌, drop, bytes_eq, slice_get}
+use Rattle.std.specs.Prelude.{ℕ, zero, suc, Bool, true, false, Option, Some, None, option_map, List}
+use Rattle.std.specs.Prelude.{[], ◌∷◌, ◌++◌, drop, bytes_eq, slice_get}
 use Rattle.std.specs.Map.{lookup}
 use Rattle.program_tree.specs.Names.{Name, or_else}
 use Rattle.meaning.specs.Operations.{Arguments}
@@ -11,7 +12,8 @@ abbrev pub unless : {V : Type 0} → Option V → V → Option V
 unless None v = Some v
 unless (Some w) v = None
 
--- a parameter gets its value by position, if it has none by its name; or the one by its name, or its default
+-- a parameter gets its value by position, if it has none by its name; or the one by its name, or
+-- its default
 abbrev pub got : {V : Type 0} → Name → Option V → List (Name × V) → Option V → Option V
 got p (Some v) named d = unless (lookup (bytes_eq p) named) v
 got p None named d = or_else (lookup (bytes_eq p) named) d

@@ -14,8 +14,9 @@ use std::alloc::{AllocError, Global};
 use std::marker::Model;
 use std::mem::replace;
 
-/// The functions that are active; the list that a clause sees has the innermost first. The frames of those that have ended
-/// stand beside them, and a stack for arguments, so that the next call takes their memory.
+/// The functions that are active; the list that a clause sees has the innermost first. The frames
+/// of those that have ended stand beside them, and a stack for arguments, so that the next call
+/// takes their memory.
 #[derive(Drop)]
 pub struct Active<'a, T> {
     functions: Vec<FunctionId>,
@@ -40,7 +41,8 @@ fn is_among(function: FunctionId, functions: &[FunctionId]) -> bool
     functions.iter().any(|other| function == *other)
 }
 
-/// A frame in which nothing is. It is wide, and most calls find one that has ended, so it isn't made where they stand.
+/// A frame in which nothing is. It is wide, and most calls find one that has ended, so it isn't
+/// made where they stand.
 #[inline(never)]
 fn new_frame<'a, T: Drop>(alloc: Global) -> Result<Box<Frame<'a, T>>, AllocError> {
     Ok(Box::new(alloc, Frame::new(alloc))?)
@@ -101,7 +103,8 @@ impl<'a, T: Drop> Active<'a, T> {
         }
     }
 
-    /// A stack without items for the arguments of the next call. That the kept one has none isn't known here, so it is emptied.
+    /// A stack without items for the arguments of the next call. That the kept one has none isn't
+    /// known here, so it is emptied.
     #[inline(always)]
     pub(crate) fn spare_arguments(&mut self, alloc: Global) -> Stack<Operand<'a>>
         ensures none { result ≡ [] }
@@ -122,8 +125,8 @@ impl<'a, T: Drop> Active<'a, T> {
         let _taken = replace(&mut self.arguments, arguments);
     }
 
-    /// What is in the frame of a function that has ended is let go, and its memory is kept for the next call, unless memory for
-    /// that is refused.
+    /// What is in the frame of a function that has ended is let go, and its memory is kept for the
+    /// next call, unless memory for that is refused.
     #[inline(always)]
     pub(crate) fn keep(&mut self, frame: Box<Frame<'a, T>>)
         ensures { self.new ≡ self.old }

@@ -20,33 +20,42 @@ use operands::Operand;
 use plain::Text;
 use std::alloc::AllocError;
 
-/// The arguments of a call: those by position, the first at the top, and those by name with their names, the first at the
-/// top.
+/// The arguments of a call: those by position, the first at the top, and those by name with their
+/// names, the first at the top.
 #[derive(Drop)]
 pub struct Arguments<'a> {
+    /// Those by position, the first at the top.
     pub items: Stack<Operand<'a>>,
+    /// The names of those by name, in the order of the text.
     pub names: &'a [Text],
+    /// Their values, the first at the top.
     pub named: Stack<Operand<'a>>,
 }
 
 /// Where a call stands: the number of its file, and its line.
 #[derive(Clone, Copy)]
 pub struct Place {
+    /// The number of its file among those that are linked.
     pub file: usize,
+    /// The line, counted from 1.
     pub line: usize,
 }
 
-/// What a call comes to: the value of what isn't written in Starlark, or the frame of a function that is.
+/// What a call comes to: the value of what isn't written in Starlark, or the frame of a function
+/// that is.
 #[derive(Drop)]
 pub enum Called<'a, T> {
+    /// The value that the call gives.
     Value(Operand<'a>),
+    /// The frame of the function, at its first instruction.
     Frame(Box<Frame<'a, T>>),
 }
 
 /// A function may be active once, and 128 functions at most.
 const MOST_ACTIVE: usize = 128;
 
-/// A frame at the first instruction of a function, with the slots that it has; what else was in it is let go.
+/// A frame at the first instruction of a function, with the slots that it has; what else was in it
+/// is let go.
 #[inline(always)]
 pub fn frame_at_entry<'a, T: Drop>(
     frame: Box<Frame<'a, T>>,
@@ -60,7 +69,8 @@ pub fn frame_at_entry<'a, T: Drop>(
     frame
 }
 
-/// A function whose arguments fit becomes active, if it isn't yet and if not too many are, with the tick of its call.
+/// A function whose arguments fit becomes active, if it isn't yet and if not too many are, with the
+/// tick of its call.
 #[inline(always)]
 fn enter<'a, W: Operate<'a>>(
     world: &W,
@@ -89,6 +99,12 @@ fn enter<'a, W: Operate<'a>>(
 }
 
 /// A function written in Starlark is called: the tests of the call, its tick, and a new frame.
+///
+/// # Errors
+///
+/// [`Stop::Fault`] at the place of the call: where there is no such function, the arguments don't
+/// fit its parameters, it is active already, too many functions are, or the tick of the call is one
+/// too many. [`Stop::NoMemory`] where memory is refused.
 #[inline(always)]
 pub fn call_function<'a, W: Operate<'a>>(
     world: &W,
@@ -132,7 +148,8 @@ pub fn call_function<'a, W: Operate<'a>>(
     enter(world, place, function, frame, active, state)
 }
 
-/// The same as [`fill_defaults`], with the defaults of a function: the world isn't asked for them where no parameter is left.
+/// The same as [`fill_defaults`], with the defaults of a function: the world isn't asked for them
+/// where no parameter is left.
 #[inline(always)]
 fn fill_rest<'a, W: Operate<'a>>(
     world: &W,
@@ -152,8 +169,8 @@ fn fill_rest<'a, W: Operate<'a>>(
     }
 }
 
-/// The slots at the entry of a function that is called with so many values of the top of a stack, which are there, in the
-/// memory of these slots; whether each other parameter has a default.
+/// The slots at the entry of a function that is called with so many values of the top of a stack,
+/// which are there, in the memory of these slots; whether each other parameter has a default.
 #[inline(always)]
 fn slots_by_position<'a, W: Operate<'a>>(
     world: &W,
@@ -183,8 +200,8 @@ fn slots_by_position<'a, W: Operate<'a>>(
     Ok(true)
 }
 
-/// A function written in Starlark that has parameters for so many values of the top of a stack is called with them: the tests
-/// of the call, its tick, and a new frame.
+/// A function written in Starlark that has parameters for so many values of the top of a stack is
+/// called with them: the tests of the call, its tick, and a new frame.
 #[inline(always)]
 pub(crate) fn call_by_position<'a, W: Operate<'a>>(
     world: &W,
@@ -263,7 +280,13 @@ pub(crate) fn call_known<'a, W: Operate<'a>>(
     }
 }
 
-/// A call: of a function written in Starlark, which gives its frame, or of something else, which gives its value.
+/// A call: of a function written in Starlark, which gives its frame, or of something else, which
+/// gives its value.
+///
+/// # Errors
+///
+/// [`Stop::Fault`] at the place of the call: that of [`call_function`], or that of what isn't
+/// written in Starlark. [`Stop::NoMemory`] where memory is refused.
 #[inline(always)]
 pub fn call<'a, W: Operate<'a>>(
     world: &W,

@@ -1,6 +1,8 @@
 //! What the parameters of a function get.
 
-ghost use Rattle.std.specs.Prelude.{◌≡◌, ◌≤◌, ◌++◌, [], None, Some, length, drop, map, position, replicate, slice_get, option_copied, option_map, bytes_eq, IfOk};
+ghost use Rattle.std.specs.Prelude.{◌≡◌, ◌≤◌, ◌++◌, [], None, Some, length, drop, map, position};
+ghost use Rattle.std.specs.Prelude.{replicate, slice_get, option_copied, option_map, bytes_eq};
+ghost use Rattle.std.specs.Prelude.{IfOk};
 ghost use Rattle.std.specs.List.{list_any, list_all};
 ghost use Rattle.std.specs.Map.{lookup};
 ghost use Rattle.meaning.specs.Entry.{all_known, defaults_of, entry, filled, paired};
@@ -107,7 +109,8 @@ fn default_of<'a, 'b>(
     }
 }
 
-/// What the parameters get, in their order, in slots that have none yet; whether the arguments fit them.
+/// What the parameters get, in their order, in slots that have none yet; whether the arguments fit
+/// them.
 fn fill<'a>(
     slots: &mut Slots<'a>,
     params: &[Text],
@@ -145,8 +148,8 @@ pub(crate) fn pad(slots: &mut Slots<'_>, count: usize) -> Result<(), AllocError>
     Ok(())
 }
 
-/// So many values off the top of a stack, in which they are, into slots that have none yet: the topmost one is in the last
-/// of them.
+/// So many values off the top of a stack, in which they are, into slots that have none yet: the
+/// topmost one is in the last of them.
 #[inline(always)]
 pub(crate) fn fill_from_top<'a>(
     slots: &mut Slots<'a>,
@@ -181,7 +184,8 @@ fn given_by_default<'a>(
     }
 }
 
-/// The parameters that have no slots yet get their defaults, as they have no arguments; whether each of them has one.
+/// The parameters that have no slots yet get their defaults, as they have no arguments; whether
+/// each of them has one.
 pub(crate) fn fill_defaults<'a>(
     slots: &mut Slots<'a>,
     params: &[Text],
@@ -201,6 +205,10 @@ pub(crate) fn fill_defaults<'a>(
 }
 
 /// As many slots, in which nothing is set.
+///
+/// # Errors
+///
+/// Memory was refused.
 pub fn unset<'a>(alloc: Global, count: usize) -> Result<Slots<'a>, AllocError>
     ensures { IfOk result (λ slots. slots ≡ replicate count None) }
 {
@@ -210,7 +218,8 @@ pub fn unset<'a>(alloc: Global, count: usize) -> Result<Slots<'a>, AllocError>
     Ok(slots)
 }
 
-/// The slots at the entry of a function, in the memory of these; whether the arguments fit its parameters.
+/// The slots at the entry of a function, in the memory of these; whether the arguments fit its
+/// parameters.
 #[tactic(auto, unfolding(meaning::specs::Entry::entry))]
 pub(crate) fn slots_at_entry<'a>(
     slots: &mut Slots<'a>,

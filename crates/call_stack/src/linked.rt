@@ -7,7 +7,8 @@ use code::{Code, FunctionCode, Lined};
 use frames::FunctionId;
 use std::alloc::{AllocError, Global};
 
-/// The codes of linked files, each compiled from a file of its own. A file's number is its place among them.
+/// The codes of linked files, each compiled from a file of its own. A file's number is its place
+/// among them.
 #[derive(Drop)]
 pub struct Linked {
     files: Vec<Code>,

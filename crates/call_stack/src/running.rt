@@ -1,6 +1,7 @@
 //! What runs, and what calls and the ends of functions do to it.
 
-ghost use Rattle.std.specs.Prelude.{◌≡◌, ◌<◌, ◌≤◌, ◌^◌, [], ◌∷◌, List, Some, drop, suc, length, map, option_map, IfOk, IfSome};
+ghost use Rattle.std.specs.Prelude.{◌≡◌, ◌<◌, ◌≤◌, ◌^◌, [], ◌∷◌, List, Some, drop, suc, length};
+ghost use Rattle.std.specs.Prelude.{map, option_map, IfOk, IfSome};
 ghost use Rattle.values.specs.declared.value.Value as held;
 ghost use Rattle.meaning.specs.Entry.{called, paired};
 ghost use Rattle.meaning.specs.Instructions as instr;
@@ -25,11 +26,15 @@ use std::alloc::AllocError;
 use std::mem::replace;
 use values::{Broken, Value};
 
-/// A run that goes on: the frame of the function that runs, those of its callers, and the functions that are active.
+/// A run that goes on: the frame of the function that runs, those of its callers, and the functions
+/// that are active.
 #[derive(Drop)]
 pub struct Running<'a, T> {
+    /// The frame of the function that runs.
     pub top: Box<Frame<'a, T>>,
+    /// Those of its callers, the innermost at the top.
     pub below: Stack<Box<Frame<'a, T>>>,
+    /// The functions that are active.
     pub active: Active<'a, T>,
 }
 
@@ -47,8 +52,8 @@ pub(crate) struct Asked<'a> {
     pub(crate) arguments: Arguments<'a>,
 }
 
-/// The arguments of what an instruction calls are taken: the values of the names are at the top, those by position below
-/// them.
+/// The arguments of what an instruction calls are taken: the values of the names are at the top,
+/// those by position below them.
 #[tactic(auto, using(frames::proofs::Popping::pops_popped))]
 #[inline(always)]
 fn take_call<'a, W: Operate<'a>>(
@@ -109,7 +114,8 @@ fn go_on<'a, W: Operate<'a>>(
     Ok(Step::More)
 }
 
-/// The innermost function ends with a value, which its caller gets; without a caller the run is over.
+/// The innermost function ends with a value, which its caller gets; without a caller the run is
+/// over.
 #[inline(always)]
 fn leave_with<'a, W: Operate<'a>>(
     _world: &W,
@@ -234,8 +240,8 @@ fn call_taken<'a, W: Operate<'a>>(
     call_asked(world, linked, line, asked, known, r, state)
 }
 
-/// The code of this function, if there is one, where it is called by position with so many values, which are there, and has
-/// parameters for them.
+/// The code of this function, if there is one, where it is called by position with so many values,
+/// which are there, and has parameters for them.
 #[inline(always)]
 fn code_for<'a>(
     linked: &'a Linked,
@@ -260,7 +266,8 @@ fn code_for<'a>(
     }
 }
 
-/// A function written in Starlark is called with so many values of the top, for which it has parameters.
+/// A function written in Starlark is called with so many values of the top, for which it has
+/// parameters.
 #[inline(always)]
 fn go_into<'a, W: Operate<'a>>(
     world: &W,
@@ -307,6 +314,11 @@ fn go_into<'a, W: Operate<'a>>(
 }
 
 /// A call with so many values by position, and those of these names behind them.
+///
+/// # Errors
+///
+/// [`Stop::Fault`] at this line where the call is refused, or where what isn't written in Starlark
+/// ends with a fault. [`Stop::NoMemory`] where memory is refused.
 #[inline(never)]
 pub fn call_with<'a, W: Operate<'a>>(
     world: &W,
@@ -334,6 +346,10 @@ pub fn call_with<'a, W: Operate<'a>>(
 }
 
 /// A function gives the top back, when its walks have ended.
+///
+/// # Errors
+///
+/// [`Stop::NoMemory`] where memory is refused.
 #[inline(never)]
 pub fn give_back<'a, W: Operate<'a>>(
     world: &W,
@@ -354,6 +370,10 @@ pub fn give_back<'a, W: Operate<'a>>(
 }
 
 /// To the next turn of the innermost walk; without a walk the function ends.
+///
+/// # Errors
+///
+/// [`Stop::NoMemory`] where memory is refused.
 #[inline(always)]
 pub fn again<'a, W: Operate<'a>>(
     world: &W,
@@ -372,6 +392,10 @@ pub fn again<'a, W: Operate<'a>>(
 }
 
 /// Out of the innermost walk; without a walk the function ends.
+///
+/// # Errors
+///
+/// [`Stop::NoMemory`] where memory is refused.
 pub fn stop_walk<'a, W: Operate<'a>>(
     world: &W,
     line: usize,
@@ -411,6 +435,11 @@ fn made<'a, W: Operate<'a>>(
 }
 
 /// A function is made, with so many defaults.
+///
+/// # Errors
+///
+/// [`Stop::Fault`] where the operation ends with a fault: of that kind, at this line.
+/// [`Stop::NoMemory`] where memory is refused.
 #[tactic(auto, using(frames::proofs::Popping::pops_popped))]
 pub fn define<'a, W: Operate<'a>>(
     world: &W,

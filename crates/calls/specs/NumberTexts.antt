@@ -7,4 +7,5 @@ use Rattle.printing.specs.Repr.{fits}
 
 -- its digits, after its visit
 abbrev pub number_told : ℤ → Count → Ticking (List ℕ)
-number_told n c = after_tick (entered VISITED_LEVELS c) (λ d. with_count (fits (signed_decimal n)) d)
+number_told n c =
+    after_tick (entered VISITED_LEVELS c) (λ d. with_count (fits (signed_decimal n)) d)

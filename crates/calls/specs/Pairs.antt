@@ -14,7 +14,8 @@ tuple_behind vs k v s = then_do (new_tuple (k ∷ v ∷ []) s) (λ t r. Ok (vs +
 abbrev pub tuples_behind : List Value → List Value → List Value → Op (List Value)
 tuples_behind vs [] ys s = Ok (vs, s)
 tuples_behind vs (x ∷ xs) [] s = Ok (vs, s)
-tuples_behind vs (x ∷ xs) (y ∷ ys) s = then_do (tuple_behind vs x y s) (λ us t. tuples_behind us xs ys t)
+tuples_behind vs (x ∷ xs) (y ∷ ys) s =
+    then_do (tuple_behind vs x y s) (λ us t. tuples_behind us xs ys t)
 
 -- and a list of them
 abbrev pub listed_tuples : List Value → List Value → Op Value

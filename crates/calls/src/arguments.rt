@@ -1,8 +1,10 @@
 //! What parameters get of arguments.
-ghost use Rattle.std.specs.Prelude.{◌≡◌, ◌∷◌, [], Ok, Err, Some, None, MatchResult, MatchOption, option_copied, slice_get};
+ghost use Rattle.std.specs.Prelude.{◌≡◌, ◌∷◌, [], Ok, Err, Some, None, MatchResult, MatchOption};
+ghost use Rattle.std.specs.Prelude.{option_copied, slice_get};
 ghost use Rattle.ticks.specs.Ticking.{FaultOr};
 ghost use Rattle.operations.specs.States.{then_give};
-ghost use Rattle.operations.specs.Arguments.{given, wanted, optional, named_only, bound, one, all_known, given_for, positions, unless_named};
+ghost use Rattle.operations.specs.Arguments.{given, wanted, optional, named_only, bound, one};
+ghost use Rattle.operations.specs.Arguments.{all_known, given_for, positions, unless_named};
 ghost use Rattle.operations.specs.BuiltIns.{argument};
 ghost use Rattle.calls.specs.Parameters.{taken, got_at, placed_or_named, IsNotOne};
 
@@ -15,8 +17,11 @@ use values::{Broken, Kind};
 /// A parameter: whether it is given by name alone, and whether it may be missing.
 #[derive(Clone, Copy)]
 pub struct Parameter<'a> {
+    /// Its name.
     pub name: &'a str,
+    /// Whether it is given by name alone: then no position is left for it.
     pub by_name: bool,
+    /// Whether it may be missing.
     pub may_miss: bool,
 }
 
@@ -45,6 +50,11 @@ impl<'a> Parameter<'a> {
 }
 
 /// What the one parameter of a call gets, by position or by name, or `arity`.
+///
+/// # Errors
+///
+/// `arity` where there is no argument or more than one position, where it is given both by position
+/// and by name, and where a name is another.
 pub fn argument<'a, 'v>(
     name: &str,
     arguments: &Arguments<'a, 'v>,
@@ -81,8 +91,8 @@ fn are_all(name: &str, names: &[Text]) -> bool
     true
 }
 
-/// What the parameter of this name, at this place, gets of arguments that fit: what stands at its place, or else what was
-/// given under its name.
+/// What the parameter of this name, at this place, gets of arguments that fit: what stands at its
+/// place, or else what was given under its name.
 pub fn got<'a, 'v>(
     arguments: &Arguments<'a, 'v>,
     place: usize,
@@ -97,6 +107,10 @@ pub fn got<'a, 'v>(
 }
 
 /// The positions of a call that takes nothing else: any name is `arity`.
+///
+/// # Errors
+///
+/// `arity` where an argument is given by name.
 pub fn positions<'a, 'v>(arguments: &Arguments<'a, 'v>) -> Result<&'a [Operand<'v>], Broken>
     ensures { MatchResult result (λ vs. positions (given arguments.now) ≡ Ok vs.now)
         (λ e. FaultOr (positions (given arguments.now)) e) }

@@ -13,6 +13,12 @@ use plain::Text;
 use values::{Broken, Kind};
 
 /// Whether the arguments fit the parameters, or `arity`: then `got` gives what each gets.
+///
+/// # Errors
+///
+/// `arity` where a name is none of a parameter, where there are too many positions, where a
+/// parameter gets two arguments or a position that it doesn't take, and where one is missing that
+/// may not be.
 pub fn check_arguments(
     parameters: &[Parameter<'_>],
     arguments: &Arguments<'_, '_>,

@@ -57,7 +57,8 @@ fn size_value(size: usize) -> Result<Value, Broken>
     Ok(Value::Key(Key::Number(size as i64)))
 }
 
-/// `str(value)`: a string itself, and the text of another value. Each value that is visited is a tick.
+/// `str(value)`: a string itself, and the text of another value. Each value that is visited is a
+/// tick.
 ///
 /// # Errors
 ///
@@ -86,7 +87,8 @@ fn text_of_item(
     }
 }
 
-/// The text of a number, after its visit. It is written in place, so that no memory is taken but for the text.
+/// The text of a number, after its visit. It is written in place, so that no memory is taken but
+/// for the text.
 fn number_text(alloc: Global, number: i64, ticks: &mut Ticks) -> Result<Text, Broken>
     ensures { Says (number_told number ticks.old) result ticks.new }
 {

@@ -1,5 +1,6 @@
 //! The methods of dicts.
-ghost use Rattle.std.specs.Prelude.{◌≡◌, ◌++◌, ◌∷◌, [], Ok, Err, Some, None, MatchResult, IfOk, OnOk, map};
+ghost use Rattle.std.specs.Prelude.{◌≡◌, ◌++◌, ◌∷◌, [], Ok, Err, Some, None, MatchResult, IfOk};
+ghost use Rattle.std.specs.Prelude.{OnOk, map};
 ghost use Rattle.ticks.specs.Ticking.{FaultOr};
 ghost use Rattle.values.specs.Visits.{keys_of};
 ghost use Rattle.values.specs.Shape.{shape};
@@ -16,8 +17,8 @@ use state::{key_of, new_list};
 use std::alloc::{AllocError, Global};
 use values::{Broken, Item, Items, Key, Kind, Leaf, Seen, Table, Value};
 
-/// `dict.get(key, default)`: the value of the key, or the default, which is None where it is missing. The value of a key of
-/// a dict that is lent is lent, and so is a default that is.
+/// `dict.get(key, default)`: the value of the key, or the default, which is None where it is
+/// missing. The value of a key of a dict that is lent is lent, and so is a default that is.
 ///
 /// # Errors
 ///
@@ -109,6 +110,10 @@ fn without_entries<'a>(key: &Seen<'_>) -> Result<Option<Operand<'a>>, Broken>
 }
 
 /// `dict.keys()`: a new list.
+///
+/// # Errors
+///
+/// `large`, as of each new list, and `NoMemory` where memory was refused.
 pub fn keys(alloc: Global, state: &mut State, dict: Item<'_>) -> Result<Value, Broken>
     ensures { Does (keys (entries_in (shape state.old.heap (item_value dict.entry)))) state.old
         result state.new }
@@ -150,6 +155,10 @@ fn put_key(key: &Key, items: &mut Items) -> Result<(), AllocError>
 }
 
 /// `dict.values()`: a new list.
+///
+/// # Errors
+///
+/// `large`, as of each new list, and `NoMemory` where memory was refused.
 pub fn values(alloc: Global, state: &mut State, dict: Item<'_>) -> Result<Value, Broken>
     ensures { Does (values (entries_in (shape state.old.heap (item_value dict.entry)))) state.old
         result state.new }

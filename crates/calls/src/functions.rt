@@ -1,5 +1,6 @@
 //! The built-in functions that every place has, and providers where they are called.
-ghost use Rattle.std.specs.Prelude.{◌≡◌, ◌∷◌, [], Ok, Err, Some, None, MatchResult, codes, map, option_copied};
+ghost use Rattle.std.specs.Prelude.{◌≡◌, ◌∷◌, [], Ok, Err, Some, None, MatchResult, codes, map};
+ghost use Rattle.std.specs.Prelude.{option_copied};
 ghost use Rattle.ticks.specs.Ticking.{FaultOr};
 ghost use Rattle.operations.specs.States.{Op, Does, Stays};
 ghost use Rattle.operations.specs.Arguments.{given};
@@ -118,6 +119,11 @@ fn depset_parameters() -> [Parameter<'static>; 3]
 }
 
 /// The call of a provider: an instance.
+///
+/// # Errors
+///
+/// `arity`; of `DefaultInfo` then `type`, where its `files` are no depset that is empty or of
+/// Files.
 pub fn call_provider(
     alloc: Global,
     state: &mut State,

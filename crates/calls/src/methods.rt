@@ -1,5 +1,6 @@
 //! The methods of lists, dicts, strings and depsets.
-ghost use Rattle.std.specs.Prelude.{◌≡◌, ◌∷◌, [], Ok, Err, Some, None, MatchResult, MatchOption, List, option_copied};
+ghost use Rattle.std.specs.Prelude.{◌≡◌, ◌∷◌, [], Ok, Err, Some, None, MatchResult, MatchOption};
+ghost use Rattle.std.specs.Prelude.{List, option_copied};
 ghost use Rattle.ticks.specs.Ticking.{FaultOr};
 ghost use Rattle.values.specs.Shape.{shape};
 ghost use Rattle.values.specs.Seeing.{item_value};
@@ -23,8 +24,8 @@ use std::alloc::Global;
 use text_calls::{ends_with, join, split, starts_with};
 use values::{Broken, Item, Kind, Value};
 
-/// The call of a method of a list, a dict, a string or a depset. What `get` finds in a dict that is lent is lent, and so is
-/// a default that is.
+/// The call of a method of a list, a dict, a string or a depset. What `get` finds in a dict that is
+/// lent is lent, and so is a default that is.
 ///
 /// # Errors
 ///

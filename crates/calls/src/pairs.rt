@@ -1,5 +1,6 @@
 //! `dict.items()`.
-ghost use Rattle.std.specs.Prelude.{◌≡◌, ◌<◌, ◌++◌, ◌∷◌, [], Ok, Err, Some, MatchResult, IfOk, OnOk, length, slice_get};
+ghost use Rattle.std.specs.Prelude.{◌≡◌, ◌<◌, ◌++◌, ◌∷◌, [], Ok, Err, Some, MatchResult, IfOk};
+ghost use Rattle.std.specs.Prelude.{OnOk, length, slice_get};
 ghost use Rattle.ticks.specs.Ticking.{FaultOr};
 ghost use Rattle.values.specs.Shape.{shape};
 ghost use Rattle.values.specs.Seeing.{item_value};
@@ -14,7 +15,12 @@ use state::{new_list, new_tuple};
 use std::alloc::{AllocError, Global};
 use values::{Broken, Item, Items, Value};
 
-/// `dict.items()`: a new list of tuples of two, which take the next cells in the order of the entries.
+/// `dict.items()`: a new list of tuples of two, which take the next cells in the order of the
+/// entries.
+///
+/// # Errors
+///
+/// `large`, as of each new list, and `NoMemory` where memory was refused; then no tuple is made.
 pub fn items(alloc: Global, state: &mut State, dict: Item<'_>) -> Result<Value, Broken>
     ensures { Does (pairs (entries_in (shape state.old.heap (item_value dict.entry)))) state.old
         result state.new }

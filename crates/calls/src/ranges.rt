@@ -1,5 +1,6 @@
 //! `range`.
-ghost use Rattle.std.specs.Prelude.{◌≡◌, ◌++◌, ◌∷◌, [], Ok, Err, Some, None, MatchResult, IfOk, OnOk, map};
+ghost use Rattle.std.specs.Prelude.{◌≡◌, ◌++◌, ◌∷◌, [], Ok, Err, Some, None, MatchResult, IfOk};
+ghost use Rattle.std.specs.Prelude.{OnOk, map};
 ghost use Rattle.numbers.specs.Ranges.{range_of};
 ghost use Rattle.ticks.specs.Ticking.{FaultOr};
 ghost use Rattle.operations.specs.States.{Does, Stays, Gives, then_give};
@@ -16,7 +17,8 @@ use state::{number_of, place};
 use std::alloc::{AllocError, Global};
 use values::{Broken, Items, Key, Kind, Value};
 
-/// `range(end)` and `range(first, end)`: a new list of the numbers from the first, or 0, on below the end.
+/// `range(end)` and `range(first, end)`: a new list of the numbers from the first, or 0, on below
+/// the end.
 ///
 /// # Errors
 ///

@@ -11,12 +11,15 @@ use Rattle.claims.specs.declared.claiming.Claim.{Claim}
 
 -- by bytes of the path, then by bytes of the label, then by the place of the action in the list
 abbrev pub claim_cmp : Claim → Claim → Ordering
-claim_cmp = then_cmp (on (λ c. c.path) (slice_cmp nat_cmp)) (then_cmp (on (λ c. c.label) (slice_cmp nat_cmp)) (on (λ c. c.place) nat_cmp))
+claim_cmp =
+    then_cmp (on (λ c. c.path) (slice_cmp nat_cmp))
+    (then_cmp (on (λ c. c.label) (slice_cmp nat_cmp)) (on (λ c. c.place) nat_cmp))
 
 -- the action at the place in the list, which the label's target registered, declares the File
 abbrev pub claim_on : ℕ → List ℕ → FileRef → Claim
 claim_on n label f = record { path = f.path; label = label; place = n }
 
+-- the claims of the action at a place: one for each of its outputs
 abbrev pub claims_of : ℕ → Owned → List Claim
 claims_of n o = map (claim_on n o.label) o.action.outputs
 
@@ -29,10 +32,12 @@ claims_from n (o ∷ os) = claims_of n o ++ claims_from (n + 1) os
 abbrev pub put_in_order : List Claim → Claim → List Claim
 put_in_order cs c = insert_key claim_cmp cs c
 
+-- the claims in order, and all of these put among them
 abbrev pub all_in_order : List Claim → List Claim → List Claim
 all_in_order cs [] = cs
 all_in_order cs (d ∷ ds) = all_in_order (put_in_order cs d) ds
 
+-- these claims in order, each once
 abbrev pub in_order : List Claim → List Claim
 in_order ds = all_in_order [] ds
 

@@ -1,5 +1,6 @@
--- What the conflicts of a list of actions are, whatever finds them: the paths that two of the actions declare that have one owner
--- or aren't equal, by bytes of the path, each with the labels of all actions that declare it. (This project's own rule.)
+-- What the conflicts of a list of actions are, whatever finds them: the paths that two of the
+-- actions declare that have one owner or aren't equal, by bytes of the path, each with the labels
+-- of all actions that declare it. (This project's own rule.)
 use Rattle.std.specs.Prelude.{◌≡◌, ◌⊎◌, ◌||◌, ℕ, Bool, true, false, not, List, [], ◌∷◌, map}
 use Rattle.std.specs.List.{filter, list_any}
 use Rattle.std.specs.Str.{bytes_eq}
@@ -28,10 +29,12 @@ module _ {X : Type 0} where
 abbrev pub declares : List ℕ → Owned → Bool
 declares p o = list_any (λ f. bytes_eq p f.path) o.action.outputs
 
+-- the labels of the claims on a path, as the claims follow one another
 abbrev pub labels_on : List ℕ → List Claim → List (List ℕ)
 labels_on p cs = map (λ c. c.label) (filter (is_on p) cs)
 
--- the labels of the actions that declare a path, by label and then by place in the list, one for each action
+-- the labels of the actions that declare a path, by label and then by place in the list, one for
+-- each action
 abbrev pub owners : List ℕ → List Owned → List (List ℕ)
 owners p os = labels_on p (in_order (claims_from 0 os))
 
@@ -44,8 +47,10 @@ module _ (listing : Rose Own → List Element) where
   abbrev pub clashes : List ℕ → List Owned → Bool
   clashes p os = some_pair clash (filter (declares p) os)
 
-  -- By bytes of the path, no path twice; each path that clashes, with the labels of its actions; and no other.
+  -- By bytes of the path, no path twice; each path that clashes, with the labels of its actions;
+  -- and no other.
   pub record AreConflicts (os : List Owned) (cs : List Conflict) : Type 0 where
     pub ordered : AreAscending (map (λ c. c.path) cs)
-    pub all : (p : List ℕ) → clashes p os ≡ true → IsAmong (record { path = p; labels = owners p os }) cs
+    pub all : (p : List ℕ) → clashes p os ≡ true
+        → IsAmong (record { path = p; labels = owners p os }) cs
     pub only : Each (λ c. (clashes c.path os ≡ true) × (c.labels ≡ owners c.path os)) cs

@@ -6,5 +6,8 @@ use Rattle.actions.specs.declared.action.Action.{Action}
 use Rattle.actions.specs.Codes.{action_code}
 use Rattle.claims.specs.Owned.{Owned}
 
+-- the code of an action with its owner's label, which tells any two apart
 abbrev pub owned_code : Coded Owned
-owned_code = code_by (List ℕ × Action) (coded× text_code action_code) (λ o. (o.label, o.action)) (λ p. record { label = p.0; action = p.1 }) (λ _. refl)
+owned_code =
+    code_by (List ℕ × Action) (coded× text_code action_code) (λ o. (o.label, o.action))
+    (λ p. record { label = p.0; action = p.1 }) (λ _. refl)

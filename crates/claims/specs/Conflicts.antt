@@ -1,5 +1,6 @@
--- The conflicts of a list of actions: the paths that clash, by bytes of the path, each with the labels of the actions that declare
--- it, by label and then by place in the list. (This project's own rule.)
+-- The conflicts of a list of actions: the paths that clash, by bytes of the path, each with the
+-- labels of the actions that declare it, by label and then by place in the list. (This project's
+-- own rule.)
 use Rattle.std.specs.Prelude.{ℕ, None, List, [], ◌∷◌, map, if◌then◌else◌}
 use Rattle.std.specs.List.{flat_map}
 use Rattle.depsets.specs.Own.{Own}
@@ -12,13 +13,16 @@ use Rattle.claims.specs.Owned.{Owned}
 use Rattle.claims.specs.declared.clashes.Conflict.{Conflict}
 use Rattle.claims.specs.declared.commons.Common.{Common}
 
+-- the conflict on a common path: the path with the labels of its actions
 abbrev pub told : Common → Conflict
 told c = record { path = c.path; labels = map label_of c.members }
 
 module _ (listing : Rose Own → List Element) (os : List Owned) where
+  -- the conflict on a common path, if two of its actions clash
   abbrev pub conflict_of : Common → List Conflict
   conflict_of c = if clashes listing c.path os then told c ∷ [] else []
 
+  -- the conflicts of a list of actions, by bytes of the path
   abbrev pub conflicts_of : List Conflict
   conflicts_of = flat_map conflict_of (commons_of os)
 

@@ -1,5 +1,5 @@
--- The labels of a conflict, said without sorting: in the order of their bytes, and each as often as its actions
--- declare the path. (This project's own rule.)
+-- The labels of a conflict, said without sorting: in the order of their bytes, and each as often as
+-- its actions declare the path. (This project's own rule.)
 use Rattle.std.specs.Prelude.{◌≡◌, ℕ, false, ◌&&◌, List, [], ◌∷◌, length}
 use Rattle.std.specs.List.{filter}
 use Rattle.std.specs.Cmp.Lexicographic.{slice_cmp}
@@ -22,6 +22,8 @@ times l ls = length (filter (bytes_eq l) ls)
 abbrev pub declaring : List ℕ → List ℕ → List Owned → ℕ
 declaring p l os = length (filter (λ o. declares p o && bytes_eq l o.label) os)
 
+-- The labels of the conflict on a path: in order, and each as often as actions of that label
+-- declare the path.
 pub record AreLabels (os : List Owned) (p : List ℕ) (ls : List (List ℕ)) : Type 0 where
   pub ordered : AreInOrder ls
   pub counted : (l : List ℕ) → times l ls ≡ declaring p l os

@@ -1,5 +1,5 @@
--- When two actions are equal: by mnemonic, paths of outputs, paths of inputs, words, and content or want of one. Owners of Files
--- don't count. (This project's own rule.)
+-- When two actions are equal: by mnemonic, paths of outputs, paths of inputs, words, and content or
+-- want of one. Owners of Files don't count. (This project's own rule.)
 use Rattle.std.specs.Prelude.{ℕ, Bool, ◌&&◌, List, [], ◌∷◌, map, Option}
 use Rattle.std.specs.List.{flat_map}
 use lib.Pointwise.{pointwise}
@@ -14,6 +14,7 @@ use Rattle.actions.specs.declared.action.Action.{Action}
 use Rattle.actions.specs.declared.action.Inputs.{Inputs}
 use Rattle.actions.specs.declared.action.Inputs.TheVariants as inputs
 
+-- the path of a File, which alone is compared of it
 abbrev pub path_of : FileRef → List ℕ
 path_of f = f.path
 
@@ -30,13 +31,16 @@ pub record Compared : Type 0 where
   pub words : List (List ℕ)
   pub content : Option (List ℕ)
 
+-- whether two lists of texts are the same, text by text
 abbrev pub same_texts : List (List ℕ) → List (List ℕ) → Bool
 same_texts xs ys = pointwise bytes_eq xs ys
 
+-- whether two actions are equal, by what is compared of them
 abbrev pub same_parts : Compared → Compared → Bool
 same_parts a b =
     bytes_eq a.mnemonic b.mnemonic
-    && (same_texts a.outputs b.outputs && (same_texts a.inputs b.inputs && (same_texts a.words b.words && option_eq bytes_eq a.content b.content)))
+    && (same_texts a.outputs b.outputs && (same_texts a.inputs b.inputs
+    && (same_texts a.words b.words && option_eq bytes_eq a.content b.content)))
 
 module _ (listing : Rose Own → List Element) where
   -- the paths of an action's inputs: a depset gives those of its listing
@@ -44,6 +48,7 @@ module _ (listing : Rose Own → List Element) where
   input_paths (inputs.Files files) = map path_of files
   input_paths (inputs.Depset d) = flat_map element_paths (listing d)
 
+  -- what is compared of an action
   abbrev pub compared : Action → Compared
   compared a = record {
     mnemonic = a.mnemonic;
@@ -53,5 +58,6 @@ module _ (listing : Rose Own → List Element) where
     content = a.content;
   }
 
+  -- whether two actions are equal
   abbrev pub same_action : Action → Action → Bool
   same_action a b = same_parts (compared a) (compared b)

@@ -1,5 +1,6 @@
 -- Sets of equal actions as they are found.
-use Rattle.std.specs.Prelude.{◌≡◌, ◌||◌, Bool, true, false, if◌then◌else◌, List, [], ◌∷◌, ◌++◌, map, Option, None, Some}
+use Rattle.std.specs.Prelude.{◌≡◌, ◌||◌, Bool, true, false, if◌then◌else◌, List, [], ◌∷◌, ◌++◌, map}
+use Rattle.std.specs.Prelude.{Option, None, Some}
 use Rattle.std.specs.List.{AllZip, flat_map}
 use Rattle.std.specs.List.Sorted.{IsPermutation, IsSorted}
 use Rattle.std.specs.Str.{bytes_eq}
@@ -14,6 +15,7 @@ pub record IsSorting (ms ss : List Member) : Type 0 where
   pub permutation : IsPermutation ms ss
   pub sorted : IsSorted member_cmp ss
 
+-- whether an action has the label of the one before it, if there is one
 abbrev pub is_twin : Option Member → Member → Bool
 is_twin None m = false
 is_twin (Some l) m = bytes_eq l.label m.label
@@ -23,8 +25,11 @@ abbrev pub some_twin : Option Member → List Member → Bool
 some_twin last [] = false
 some_twin last (m ∷ ms) = is_twin last m || some_twin (Some m) ms
 
+-- the set of equal actions that are in order, unless two of them have one owner
 abbrev pub set_from : List Member → Option Shared
-set_from ms = if some_twin None ms then None else Some (record { places = map place_of ms; owners = map label_of ms })
+set_from ms =
+    if some_twin None ms then None
+    else Some (record { places = map place_of ms; owners = map label_of ms })
 
 -- a set has its actions in order, the owners ascending
 pub record IsSet (ms : List Member) (s : Shared) : Type 0 where
@@ -39,6 +44,7 @@ abbrev pub IsSetOf : List Member → Option Shared → Type 0
 IsSetOf ms None = is_shared (map label_of ms) ≡ false
 IsSetOf ms (Some s) = (is_shared (map label_of ms) ≡ true) × IsSet ms s
 
+-- what a set adds to a list of sets: itself, if there is one
 abbrev pub kept : Option Shared → List Shared
 kept None = []
 kept (Some s) = s ∷ []

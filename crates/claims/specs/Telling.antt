@@ -1,5 +1,6 @@
--- How the actions of a list are told: an action is shared where at least two of the list are equal to it, itself counted, and no two
--- of these have one owner. It is told once, where the least of its owners is, with the labels of all. (This project's own rule.)
+-- How the actions of a list are told: an action is shared where at least two of the list are equal
+-- to it, itself counted, and no two of these have one owner. It is told once, where the least of
+-- its owners is, with the labels of all. (This project's own rule.)
 use Rattle.std.specs.Prelude.{ℕ, Bool, ◌&&◌, not, if◌then◌else◌, List, [], ◌∷◌, length, map, nat_lt}
 use Rattle.std.specs.List.{filter}
 use Rattle.std.specs.BTreeSet.{insert_key}
@@ -25,15 +26,20 @@ abbrev pub in_text_order : List (List ℕ) → List (List ℕ)
 in_text_order [] = []
 in_text_order (x ∷ xs) = insert_key (slice_cmp nat_cmp) (in_text_order xs) x
 
--- where these are the owners of the actions that are equal to one, itself counted, and this is its own
+-- where these are the owners of the actions that are equal to one, itself counted, and this is its
+-- own
 abbrev pub telling_of : List (List ℕ) → List ℕ → Telling
 telling_of labels own =
-    if is_shared labels then (if is_first own (in_text_order labels) then Owners (in_text_order labels) else Elsewhere) else Alone
+    if is_shared labels
+    then (if is_first own (in_text_order labels) then Owners (in_text_order labels) else Elsewhere)
+    else Alone
 
 module _ (listing : Rose Own → List Element) (os : List Owned) where
   -- the actions that are equal to one
   abbrev pub equals : Owned → List Owned
   equals o = filter (λ p. same_action listing o.action p.action) os
 
+  -- how an action of the list is told: by itself, for all its owners, or where the least of these
+  -- is
   abbrev pub telling : Owned → Telling
   telling o = telling_of (map (λ p. p.label) (equals o)) o.label

@@ -13,7 +13,8 @@ pub(crate) fn buckets(
     owned: &[Owned<'_>],
     leaders: &[usize],
 ) -> Result<Vec<Members>, AllocError>
-    ensures { IfOk result (λ v. v.items ≡ put_all leaders.now (map no_members owned.now) 0 owned.now) }
+    ensures { IfOk result (λ v. v.items
+        ≡ put_all leaders.now (map no_members owned.now) 0 owned.now) }
 {
     let mut buckets = empty(alloc, owned)?;
     fill(&mut buckets, owned, leaders)?;

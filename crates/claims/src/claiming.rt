@@ -1,5 +1,7 @@
-//! What actions declare: as it comes, and then in order, by path, then by label, then by place in the list.
-ghost use Rattle.std.specs.Prelude.{◌≡◌, ◌+◌, ◌++◌, ◌∷◌, ◌<◌, [], Some, IfOk, OnOk, length, slice_get};
+//! What actions declare: as it comes, and then in order, by path, then by label, then by place in
+//! the list.
+ghost use Rattle.std.specs.Prelude.{◌≡◌, ◌+◌, ◌++◌, ◌∷◌, ◌<◌, [], Some, IfOk, OnOk, length};
+ghost use Rattle.std.specs.Prelude.{slice_get};
 ghost use Rattle.claims.specs.Claims.{claim_on, claims_of, claims_from, in_order};
 
 use crate::owned::Owned;
@@ -8,7 +10,8 @@ use depsets::FileRef;
 use plain::{Shared, Text};
 use std::alloc::{AllocError, Global};
 
-/// An action declares a path: the path, the label of the action's owner, and the action's place in the list.
+/// An action declares a path: the path, the label of the action's owner, and the action's place in
+/// the list.
 #[derive(PartialEq, Eq, PartialOrd, Ord, Drop)]
 pub(crate) struct Claim {
     pub path: Text,

@@ -11,11 +11,13 @@ use actions::Words;
 use plain::Text;
 use std::alloc::{AllocError, Global};
 
-/// A path that actions declare that have one owner or aren't equal, and the labels of the owners of all that declare it, in
-/// order: one for each action.
+/// A path that actions declare that have one owner or aren't equal, and the labels of the owners of
+/// all that declare it, in order: one for each action.
 #[derive(Drop)]
 pub struct Conflict {
+    /// The path that clashes.
     pub path: Text,
+    /// The labels of the actions that declare it, by label and then by place, one for each.
     pub labels: Words,
 }
 

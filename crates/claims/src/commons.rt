@@ -11,7 +11,8 @@ use plain::Text;
 use std::alloc::{AllocError, Global};
 use std::mem;
 
-/// A path that at least two actions declare, and these actions, by label and then by place in the list.
+/// A path that at least two actions declare, and these actions, by label and then by place in the
+/// list.
 #[derive(Drop)]
 pub(crate) struct Common {
     pub path: Text,
@@ -61,7 +62,8 @@ impl Gatherer {
     fn take(&mut self, alloc: Global, claim: &Claim) -> Result<(), AllocError>
         ensures { OnOk result ((rest : List Claimed)
             → (self.new.found.items ++ gathered self.new.path self.new.members rest)
-            ≡ (self.old.found.items ++ gathered self.old.path self.old.members (claim.now ∷ rest))) }
+            ≡ (self.old.found.items
+            ++ gathered self.old.path self.old.members (claim.now ∷ rest))) }
     {
         if self.path != claim.path {
             self.close(alloc)?;

@@ -1,4 +1,5 @@
-//! What the definitions of conflicts and of shared actions come to, as laws of every list of actions.
+//! What the definitions of conflicts and of shared actions come to, as laws of every list of
+//! actions.
 ghost use Rattle.std.specs.Prelude.{◌≡◌, List, ℕ};
 ghost use Rattle.depsets.specs.Own.{Own};
 ghost use Rattle.depsets.specs.Rose.{Rose};
@@ -10,7 +11,8 @@ ghost use Rattle.claims.specs.Sharing.{AreShared};
 ghost use Rattle.claims.specs.declared.clashes.Conflict.{Conflict as Clash};
 ghost use Rattle.claims.specs.declared.sets.Shared.{Shared as Set};
 
-/// At most one list of conflicts meets the law that [`conflicts`](crate::conflicts) keeps, by any listing.
+/// At most one list of conflicts meets the law that [`conflicts`](crate::conflicts) keeps, by any
+/// listing.
 pub fn actions_have_one_list_of_conflicts()
     ensures { (listing : Rose Own → List Listed) (os : List Registered) (cs ds : List Clash) →
         AreConflicts listing os cs → AreConflicts listing os ds → cs ≡ ds }
@@ -22,8 +24,8 @@ pub fn actions_have_one_list_of_sets()
         AreShared listing os ss → AreShared listing os ts → ss ≡ ts }
 {}
 
-/// The labels of a path, also of one that is no conflict, are said without sorting: in the order of their bytes, each
-/// as often as its actions declare the path.
+/// The labels of a path, also of one that is no conflict, are said without sorting: in the order of
+/// their bytes, each as often as its actions declare the path.
 pub fn owners_of_a_path_are_its_labels()
     ensures { (os : List Registered) (p : List ℕ) → AreLabels os p (owners p os) }
 {}

@@ -1,7 +1,8 @@
 //! Which actions are equal: each gets the place of the first that is equal to it.
 ghost use Rattle.std.specs.Prelude.{◌≡◌, ◌++◌, ◌∷◌, [], None, true, IfOk, OnOk, slice_index_or};
 ghost use Rattle.depsets.specs.Listed.{walked};
-ghost use Rattle.claims.specs.Leaders.{first_in, known_in, leaders_from, next_firsts, next_leader, with_first};
+ghost use Rattle.claims.specs.Leaders.{first_in, known_in, leaders_from, next_firsts, next_leader};
+ghost use Rattle.claims.specs.Leaders.{with_first};
 ghost use Rattle.claims.specs.Same.{compared};
 ghost use Rattle.claims.specs.Seen.{parts_of};
 
@@ -57,7 +58,8 @@ impl Firsts {
         }
     }
 
-    /// The place of the first that is equal to this action, where only those that are marked may be equal to others.
+    /// The place of the first that is equal to this action, where only those that are marked may be
+    /// equal to others.
     fn leader(
         &mut self,
         alloc: Global,

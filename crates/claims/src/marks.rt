@@ -1,4 +1,5 @@
-//! Which actions may be equal to others: those that declare nothing, or a path that another declares too.
+//! Which actions may be equal to others: those that declare nothing, or a path that another
+//! declares too.
 ghost use Rattle.std.specs.Prelude.{◌≡◌, true, IfOk, map, set};
 ghost use Rattle.claims.specs.Marks.{is_bare, marked_all, marked_by};
 

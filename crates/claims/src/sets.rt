@@ -1,16 +1,20 @@
 //! Sets of equal actions, no two of which have one owner.
 ghost use Rattle.std.specs.Prelude.{◌≡◌, ◌++◌, ◌<◌, [], None, IfOk, OnOk, length, option_copied};
 ghost use Rattle.std.specs.List.{AllZip};
-ghost use Rattle.claims.specs.Sets.{AddsSetOf, AreSetsOf, IsSetOf, IsSorting, is_twin, set_from, some_twin};
+ghost use Rattle.claims.specs.Sets.{AddsSetOf, AreSetsOf, IsSetOf, IsSorting, is_twin, set_from};
+ghost use Rattle.claims.specs.Sets.{some_twin};
 
 use crate::members::{Member, Members, Places, labels_of, places_of};
 use actions::Words;
 use std::alloc::{AllocError, Global};
 
-/// Actions that are shared: the places of equal actions, by the labels of their owners, and these labels.
+/// Actions that are shared: the places of equal actions, by the labels of their owners, and these
+/// labels.
 #[derive(Drop)]
 pub struct Shared {
+    /// Where its actions stand in the list, by the labels of their owners.
     pub places: Places,
+    /// The labels of these owners, no two the same.
     pub owners: Words,
 }
 

@@ -24,7 +24,9 @@ use std::alloc::{AllocError, Global};
 /// What a report tells of the actions of a list: its conflicts, and how each action is told.
 #[derive(Drop)]
 pub struct Told {
+    /// The conflicts, by bytes of the path.
     pub conflicts: Vec<Conflict>,
+    /// How each action is told, one for each, in the order of the list.
     pub tellings: Vec<Telling>,
 }
 
@@ -48,11 +50,12 @@ pub fn tell(alloc: Global, owned: &[Owned<'_>]) -> Result<Told, AllocError>
     })
 }
 
-/// The conflicts of these actions, by bytes of the path; the labels of one are in order, by bytes, and a label
-/// stands there as often as its actions declare the path.
+/// The conflicts of these actions, by bytes of the path; the labels of one are in order, by bytes,
+/// and a label stands there as often as its actions declare the path.
 ///
-/// It takes n log n comparisons of paths for n outputs, and lists the inputs once of each action that declares a path
-/// that another declares too, or none. Where inputs are coherent, they are compared as the plain listing has them.
+/// It takes n log n comparisons of paths for n outputs, and lists the inputs once of each action
+/// that declares a path that another declares too, or none. Where inputs are coherent, they are
+/// compared as the plain listing has them.
 ///
 /// # Errors
 ///
@@ -136,9 +139,9 @@ fn told_by_sets(
     Ok(found)
 }
 
-/// The shared actions: each set of at least two equal actions, no two of which have one owner, whole and by the labels of the
-/// owners; the sets by the least of their places in the list. Where inputs are coherent, they are compared as the plain listing
-/// has them.
+/// The shared actions: each set of at least two equal actions, no two of which have one owner,
+/// whole and by the labels of the owners; the sets by the least of their places in the list. Where
+/// inputs are coherent, they are compared as the plain listing has them.
 ///
 /// # Errors
 ///

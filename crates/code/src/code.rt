@@ -92,8 +92,8 @@ impl Model for Code {
 }
 
 impl Code {
-    /// The code of its functions, by number: 0 is that of the top level. It is the code of a file, so what is said of runs of
-    /// compiled code is so of it.
+    /// The code of its functions, by number: 0 is that of the top level. It is the code of a file,
+    /// so what is said of runs of compiled code is so of it.
     pub fn functions(&self) -> &[FunctionCode]
         ensures all { result.now ≡ self.now }
         ensures compiled { IsFileCode self.now }

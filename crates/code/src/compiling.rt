@@ -67,7 +67,8 @@ fn compile_function(
     })
 }
 
-/// The code of the function that a step of the top level defines, if it is a `def`, behind those before it.
+/// The code of the function that a step of the top level defines, if it is a `def`, behind those
+/// before it.
 fn add_function(
     alloc: Global,
     globals: &IndexSet<Text>,
@@ -110,8 +111,9 @@ fn functions(alloc: Global, parsed: &Parsed) -> Result<Vec<FunctionCode>, AllocE
     Ok(all)
 }
 
-/// Compiles a file: its code is the one that the definitions give for it, instruction by instruction. It takes time in
-/// proportion to the tree. Its texts are those of the tree, which it names once more and doesn't copy.
+/// Compiles a file: its code is the one that the definitions give for it, instruction by
+/// instruction. It takes time in proportion to the tree. Its texts are those of the tree, which it
+/// names once more and doesn't copy.
 ///
 /// # Errors
 ///

@@ -1,7 +1,8 @@
 //! The instructions of a function while they are written, from its last one to its first.
 //!
-//! Whoever writes puts instructions before those that are there. So the number of a jump is known when it is written, since
-//! all that it passes stands already, and the list that a contract sees has the first instruction at its head.
+//! Whoever writes puts instructions before those that are there. So the number of a jump is known
+//! when it is written, since all that it passes stands already, and the list that a contract sees
+//! has the first instruction at its head.
 
 ghost use Rattle.std.specs.Prelude.{◌≡◌, ◌-◌, [], ◌∷◌, length, OnOk};
 ghost use Rattle.code.specs.View.{instruction_seen, lines_seen};

@@ -1,9 +1,11 @@
-//! The compiler: from the tree of a file whose names are resolved to the instructions of its functions.
+//! The compiler: from the tree of a file whose names are resolved to the instructions of its
+//! functions.
 //!
-//! What a file means, which instructions do it, and that they do, is said by crate `meaning`: this crate makes exactly those
-//! instructions ([`compile`]). It writes the instructions of a function from the last one to the first ([`emitter`]), so a jump
-//! is written when what it passes stands already, and none is changed afterwards. Expressions with the clauses of
-//! comprehensions ([`terms`]) and statements ([`steps`]) put their instructions before those behind them.
+//! What a file means, which instructions do it, and that they do, is said by crate `meaning`: this
+//! crate makes exactly those instructions ([`compile`]). It writes the instructions of a function
+//! from the last one to the first ([`emitter`]), so a jump is written when what it passes stands
+//! already, and none is changed afterwards. Expressions with the clauses of comprehensions
+//! ([`terms`]) and statements ([`steps`]) put their instructions before those behind them.
 #![tactic(auto)]
 
 mod code;

@@ -1,4 +1,5 @@
--- When depsets that are seen together are one tree for an id, and fresh for an owner (this project's own notions: Bazel compares depsets by identity, and a report tells them by id).
+-- When depsets that are seen together are one tree for an id, and fresh for an owner (this
+-- project's own notions: Bazel compares depsets by identity, and a report tells them by id).
 use Rattle.std.specs.Prelude.{◌≡◌, ◌≢◌, ◌⊎◌, ℕ, ◌≤◌}
 
 -- a collection of depsets
@@ -14,7 +15,8 @@ module _ {D I O : Type 0} (id : D → I) (owner : I → O) where
   abbrev pub AreFresh : O → Depsets D → Type 0
   AreFresh o S = (a : D) → S a → owner (id a) ≢ o
 
-  -- What an evaluation of this owner made, from what it was given: with that it is coherent, and what is new is the owner's, with a serial from 1.
+  -- What an evaluation of this owner made, from what it was given: with that it is coherent, and
+  -- what is new is the owner's, with a serial from 1.
   pub record IsMade (serial : I → ℕ) (o : O) (given made : Depsets D) : Type 0 where
     pub together : AreCoherent (λ d. given d ⊎ made d)
     pub theirs : (d : D) → made d → given d ⊎ ((owner (id d) ≡ o) × (1 ≤ serial (id d)))

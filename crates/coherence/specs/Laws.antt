@@ -4,7 +4,8 @@ use Rattle.std.specs.List.{list_any}
 use Rattle.coherence.specs.Coherent.{Depsets, AreCoherent, AreFresh, IsMade}
 use Rattle.coherence.specs.Together.{Graph, EachKeeps, AllCoherent, Fits}
 
--- a graph whose collections are told by tests, and whose nodes with dependencies are listed
+-- A graph whose collections are told by tests, which say true of what is in them. `same` tests
+-- whether two nodes are one, and `listed` has every node that has dependencies.
 pub record Told (N V D I O : Type 0) : Type 0 where
   pub deps : N → List N
   pub out : N → V
@@ -20,6 +21,7 @@ pub record Told (N V D I O : Type 0) : Type 0 where
   pub finite : (t d : N) → Contains (deps t) d → list_any (same t) listed ≡ true
 
 module _ {N V D I O : Type 0} (g : Told N V D I O) where
+  -- the graph that these tests tell, as the definitions of coherence take it
   abbrev pub graph : Graph N V D I O
   graph = record {
     deps = g.deps;
@@ -40,12 +42,15 @@ module _ {N V D I O : Type 0} (g : Told N V D I O) where
   abbrev pub HandedFits : Type 0
   HandedFits = EachKeeps graph → (t : N) → g.named t ≡ true → Fits graph t (map g.out (g.deps t))
 
-module _ {D I O : Type 0} (id : D → I) (owner : I → O) (serial : I → ℕ) (o : O) (given made : D → Bool) where
+module _ {D I O : Type 0} (id : D → I) (owner : I → O) (serial : I → ℕ) (o : O)
+    (given made : D → Bool) where
+  -- the collection of what a test says yes to
   abbrev pub In : (D → Bool) → Depsets D
   In S d = S d ≡ true
 
   -- A depset of the owner with serial 0 joins what its evaluation made, which counts from 1.
   abbrev pub FirstJoins : Type 0
   FirstJoins =
-      AreFresh id owner o (In given) → IsMade id owner serial o (In given) (In made) → (z : D) → owner (id z) ≡ o → serial (id z) ≡ 0
+      AreFresh id owner o (In given) → IsMade id owner serial o (In given) (In made) → (z : D)
+      → owner (id z) ≡ o → serial (id z) ≡ 0
       → AreCoherent id owner (λ d. In given d ⊎ (In made d ⊎ (d ≡ z)))

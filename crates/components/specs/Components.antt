@@ -1,4 +1,5 @@
--- Strongly connected components: sets of nodes of which each leads to each other along dependencies.
+-- Strongly connected components: sets of nodes of which each leads to each other along
+-- dependencies.
 use Rattle.std.specs.Prelude.{◌≡◌, ◌↔◌, ℕ, ◌<◌, ◌≤◌, true, List, length, slice_index}
 use Rattle.edges.specs.Rows.{row, has}
 use Rattle.edges.specs.Walks.{Leads}
@@ -11,10 +12,13 @@ IsRowInside ds nodes = (d : ℕ) → has ds d ≡ true → d < nodes
 abbrev pub AreInside : List (List ℕ) → Type 0
 AreInside deps = (n : ℕ) → IsRowInside (row deps n) (length deps)
 
--- The numbers of the nodes' components: two nodes have one number exactly where each leads to the other, and no dependency has a greater number.
+-- The numbers of the nodes' components: two nodes have one number exactly where each leads to the
+-- other, and no dependency has a greater number.
 pub record AreComponents (deps : List (List ℕ)) (numbers : List ℕ) : Type 0 where
   pub size : length numbers ≡ length deps
-  pub together : (n m : ℕ) → n < length deps → m < length deps → (slice_index numbers n ≡ slice_index numbers m) ↔ (Leads (row deps) n m × Leads (row deps) m n)
+  pub together : (n m : ℕ) → n < length deps → m < length deps
+      → (slice_index numbers n ≡ slice_index numbers m)
+      ↔ (Leads (row deps) n m × Leads (row deps) m n)
   pub after : (n d : ℕ) → has (row deps n) d ≡ true → slice_index numbers d ≤ slice_index numbers n
 
 -- a graph with the numbers of its nodes' components
@@ -22,6 +26,7 @@ pub record Found : Type 0 where
   pub deps : List (List ℕ)
   pub numbers : List ℕ
 
+-- each dependency is a node, and the numbers are those of the components
 pub record IsFound (f : Found) : Type 0 where
   pub inside : AreInside f.deps
   pub components : AreComponents f.deps f.numbers

@@ -1,8 +1,11 @@
 //! The search for components, depth first along dependencies.
-ghost use Rattle.std.specs.Prelude.{◌≡◌, ◌+◌, ◌<◌, ◌≤◌, [], ◌∷◌, ◌++◌, length, map, All, IfOk, IfSome, None, OnOk, MatchBool};
+ghost use Rattle.std.specs.Prelude.{◌≡◌, ◌+◌, ◌<◌, ◌≤◌, [], ◌∷◌, ◌++◌, length, map, All, IfOk};
+ghost use Rattle.std.specs.Prelude.{IfSome, None, OnOk, MatchBool};
 ghost use Rattle.components.specs.Components.{AreInside};
-ghost use Rattle.components.specs.Search.{place_of, AreAscending, IsBlank, IsSearchBut, IsSearch, IsFrom, IsLast, IsResting, StayMet, number_of};
-ghost use Rattle.components.specs.Turns.{met, left, IsJoined, IsPopped, LastIsBehind, LastIsBefore, closed, closed_all, work_of};
+ghost use Rattle.components.specs.Search.{place_of, AreAscending, IsBlank, IsSearchBut, IsSearch};
+ghost use Rattle.components.specs.Search.{IsFrom, IsLast, IsResting, StayMet, number_of};
+ghost use Rattle.components.specs.Turns.{met, left, IsJoined, IsPopped, LastIsBehind, LastIsBefore};
+ghost use Rattle.components.specs.Turns.{closed, closed_all, work_of};
 
 use edges::{Adjacency, NodeId};
 use std::alloc::{AllocError, Global};
@@ -89,7 +92,8 @@ impl Search {
 
     /// Whether the last open component starts behind a place of the path.
     fn starts_behind(&self, place: usize) -> bool
-        ensures { MatchBool result (LastIsBehind place self.now.starts) (LastIsBefore place self.now.starts) }
+        ensures { MatchBool result (LastIsBehind place self.now.starts)
+            (LastIsBefore place self.now.starts) }
     {
         match self.starts.last() {
             Some(start) => start.nodes > place,

@@ -1,6 +1,9 @@
--- The methods of `ctx.actions` (Bazel documentation, "actions"; what each takes and refuses is docs/PROFILE.md, "Calls for files
--- and actions"). They read the heap, and what they declare is the work.
-use Rattle.std.specs.Prelude.{ℕ, Bool, true, false, not, ◌&&◌, ◌||◌, nat_le, nat_eq, List, [], ◌∷◌, ◌++◌, length, Option, Some, None, option_and_then, Result, Ok, Err, codes, bytes_eq, if◌then◌else◌}
+-- The methods of `ctx.actions` (Bazel documentation, "actions"; what each takes and refuses is
+-- docs/PROFILE.md, "Calls for files and actions"). They read the heap, and what they declare is the
+-- work.
+use Rattle.std.specs.Prelude.{ℕ, Bool, true, false, not, ◌&&◌, ◌||◌, nat_le, nat_eq, List, [], ◌∷◌}
+use Rattle.std.specs.Prelude.{◌++◌, length, Option, Some, None, option_and_then, Result, Ok, Err}
+use Rattle.std.specs.Prelude.{codes, bytes_eq, if◌then◌else◌}
 use Rattle.std.specs.List.{list_all}
 use Rattle.depsets.specs.Own.{Own}
 use Rattle.depsets.specs.Rose.{Rose}
@@ -57,7 +60,8 @@ file_named l name = record { path = label_path (below l name); owner = label_tex
 abbrev pub with_file : Work → FileRef → Work
 with_file w f = record w { files = w.files ++ f ∷ [] }
 
--- `type` where package and name don't make a path, and then `key` where the File is declared already
+-- `type` where package and name don't make a path, and then `key` where the File is declared
+-- already
 abbrev pub declared : LabelParts → Work → List ℕ → Working
 declared l w name =
     if not (is_label (below l name)) then Err fault.Wrong else
@@ -66,10 +70,11 @@ declared l w name =
 
 -- a call of it, for the target of a label; a name that is no string is `type`
 abbrev pub declare_file : LabelParts → List Cell → Given → Work → Working
-declare_file l h g w = then_give (argument (codes "name") g) (λ v. of_type (string_in (shape h v)) (declared l w))
+declare_file l h g w =
+    then_give (argument (codes "name") g) (λ v. of_type (string_in (shape h v)) (declared l w))
 
--- ---- an action more: an output that isn't among the declared Files is `place`, as each File is whose owner is another label;
--- and one that stands there twice is `key`
+-- ---- an action more: an output that isn't among the declared Files is `place`, as each File is
+-- whose owner is another label; and one that stands there twice is `key`
 
 -- the work with one registered action more
 abbrev pub with_action : Work → Action → Work
@@ -101,7 +106,13 @@ write_parameters = wanted (codes "output") ∷ wanted (codes "content") ∷ []
 -- the action that writes these bytes to a File; it has no inputs and no words
 abbrev pub file_write : FileRef → List ℕ → Action
 file_write f content =
-    record { mnemonic = codes "FileWrite"; outputs = f ∷ []; inputs = inputs.Files []; words = []; content = Some content }
+    record {
+      mnemonic = codes "FileWrite";
+      outputs = f ∷ [];
+      inputs = inputs.Files [];
+      words = [];
+      content = Some content;
+    }
 
 -- `type` where the output is no File or the content is no string, and else the action is registered
 abbrev pub written : Work → Option FileRef → Option (List ℕ) → Working
@@ -117,7 +128,8 @@ write_with h w _ = Err fault.Arity
 abbrev pub write : List Cell → Given → Work → Working
 write h g w = then_give (bound write_parameters g) (write_with h w)
 
--- ---- ctx.actions.run(*, outputs, executable, inputs = [], arguments = [], mnemonic = "Action"), and run_shell with a command
+-- ---- ctx.actions.run(*, outputs, executable, inputs = [], arguments = [], mnemonic = "Action"),
+-- and run_shell with a command
 
 -- a parameter that is given by name alone, and has to be
 abbrev pub needed : List ℕ → Parameter
@@ -126,7 +138,8 @@ needed x = record { name = x; by_name = true; may_miss = false }
 -- the parameters of both methods, which differ in one word: `executable` or `command`
 abbrev pub run_parameters : List ℕ → List Parameter
 run_parameters word =
-    needed (codes "outputs") ∷ needed word ∷ named_only (codes "inputs") ∷ named_only (codes "arguments") ∷ named_only (codes "mnemonic") ∷ []
+    needed (codes "outputs") ∷ needed word ∷ named_only (codes "inputs")
+    ∷ named_only (codes "arguments") ∷ named_only (codes "mnemonic") ∷ []
 
 -- no output is `arity`, before any `type`
 abbrev pub some_outputs : Option (List Value) → Result (List Value) Kind
@@ -134,12 +147,12 @@ some_outputs None = Err fault.Wrong
 some_outputs (Some []) = Err fault.Arity
 some_outputs (Some (v ∷ vs)) = Ok (v ∷ vs)
 
--- an executable: a string, or the path of a File
+-- the path of the File that a leaf is, if it is one
 abbrev pub leaf_path : Leaf → Option (List ℕ)
 leaf_path (plain.File f) = Some f.path
 leaf_path _ = None
 
--- the first word of the action that `executable` gives, if it is one of these
+-- the first word of the action that `executable` gives: a string, or the path of a File
 abbrev pub executable_in : Shape → Option (List ℕ)
 executable_in (key (index.Text t)) = Some t
 executable_in (atom l) = leaf_path l
@@ -171,11 +184,11 @@ abbrev pub inputs_in : List Cell → Option Value → Result Inputs Kind
 inputs_in h None = Ok (inputs.Files [])
 inputs_in h (Some v) = shown_inputs h (shape h v)
 
--- `mnemonic`: one or more letters
+-- whether a byte is a letter, A-Z or a-z
 abbrev pub is_letter : ℕ → Bool
 is_letter b = (nat_le 65 b && nat_le b 90) || (nat_le 97 b && nat_le b 122)
 
--- whether a text is made of letters alone, of one at least
+-- whether a text may be a mnemonic: one or more letters
 abbrev pub is_mnemonic : List ℕ → Bool
 is_mnemonic t = not (nat_eq (length t) 0) && list_all is_letter t
 
@@ -188,7 +201,7 @@ abbrev pub mnemonic_in : List Cell → Option Value → Result (List ℕ) Kind
 mnemonic_in h None = Ok (codes "Action")
 mnemonic_in h (Some v) = of_type (option_and_then if_mnemonic (string_in (shape h v))) Ok
 
--- the words: the first, and then the strings of `arguments`
+-- the words of an action, with the strings of `arguments` put behind those that there are
 abbrev pub with_strings : List Cell → List Value → List (List ℕ) → Result (List (List ℕ)) Kind
 with_strings h vs words = gathered (λ v ws. put_last ws (string_in (shape h v))) vs words
 
@@ -203,9 +216,11 @@ action_with outputs from words mnemonic =
     record { mnemonic = mnemonic; outputs = outputs; inputs = from; words = words; content = None }
 
 -- the action of outputs, of which there are some, and of what else a call got
-abbrev pub action_of : List Cell → List Value → Option (List ℕ) → Option Value → Option Value → Option Value → Result Action Kind
+abbrev pub action_of : List Cell → List Value → Option (List ℕ) → Option Value → Option Value
+    → Option Value → Result Action Kind
 action_of h outputs word from arguments mnemonic =
-    then_give (all_in file_in h outputs) (λ fs. of_type word (λ t. then_give (inputs_in h from) (λ is.
+    then_give (all_in file_in h outputs) (λ fs. of_type word (λ t.
+    then_give (inputs_in h from) (λ is.
     then_give (words_in h t arguments) (λ ws. then_give (mnemonic_in h mnemonic) (λ m.
     Ok (action_with fs is ws m))))))
 

@@ -1,5 +1,7 @@
--- Fields of targets, of `ctx` and of its parts (Bazel documentation, "ctx"; docs/PROFILE.md, "Fields").
-use Rattle.std.specs.Prelude.{ℕ, ◌+◌, List, [], ◌∷◌, length, map, Option, Some, None, option_map, Result, Ok, Err, nat_lt, slice_get, codes, bytes_eq, if◌then◌else◌}
+-- Fields of targets, of `ctx` and of its parts (Bazel documentation, "ctx"; docs/PROFILE.md,
+-- "Fields").
+use Rattle.std.specs.Prelude.{ℕ, ◌+◌, List, [], ◌∷◌, length, map, Option, Some, None, option_map}
+use Rattle.std.specs.Prelude.{Result, Ok, Err, nat_lt, slice_get, codes, bytes_eq, if◌then◌else◌}
 use Rattle.std.specs.List.{flat_map}
 use Rattle.depsets.specs.Listed.{walked}
 use Rattle.depsets.specs.Own.{Own}
@@ -110,7 +112,9 @@ listed_files None = []
 
 -- the frozen list of these, or `large` where they are more than a list may have
 abbrev pub unless_large : List Element → Result Value Kind
-unless_large es = if nat_lt LARGEST (length es) then Err fault.Large else Ok (frozen_list (map element_tree es))
+unless_large es =
+    if nat_lt LARGEST (length es) then Err fault.Large
+    else Ok (frozen_list (map element_tree es))
 
 -- the labels of an attribute of labels
 abbrev pub attribute_labels : AttributeValue → Option (List LabelParts)
@@ -127,7 +131,8 @@ module _ (ds : List Dependency) where
   abbrev pub target_tree : LabelParts → FrozenTree
   target_tree l = leaf (plain.Target (place_of ds l))
 
-  -- what `ctx.attr` gives for an attribute: the target of each label, and None where there is no label
+  -- what `ctx.attr` gives for an attribute: the target of each label, and None where there is no
+  -- label
   abbrev pub attribute_value : AttributeValue → Value
   attribute_value (has.Key k) = value.Key k
   attribute_value (has.Strings ts) = value.Frozen (list_of_texts ts)
@@ -157,7 +162,8 @@ module _ (t : Target) (ds : List Dependency) where
   -- `name` is the target's name, and any other field is what the target has for that attribute
   abbrev pub attr_field : LabelParts → List ℕ → Option Value
   attr_field l x =
-      if bytes_eq x (codes "name") then Some (text l.name) else option_map (attribute_value ds) (value_for t x)
+      if bytes_eq x (codes "name") then Some (text l.name)
+      else option_map (attribute_value ds) (value_for t x)
 
   -- ---- `ctx.files`, of attributes of labels alone
 

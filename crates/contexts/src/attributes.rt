@@ -1,5 +1,6 @@
 //! What a target has for its attributes, as values.
-ghost use Rattle.std.specs.Prelude.{◌≡◌, ◌++◌, ◌∷◌, [], IfOk, IfSome, OnOk, map, option_map, slice_get};
+ghost use Rattle.std.specs.Prelude.{◌≡◌, ◌++◌, ◌∷◌, [], IfOk, IfSome, OnOk, map, option_map};
+ghost use Rattle.std.specs.Prelude.{slice_get};
 ghost use Rattle.values.specs.Tree.{leaf};
 ghost use Rattle.operations.specs.Items.{at_place};
 ghost use Rattle.contexts.specs.Fields.{attribute_value, target_tree, frozen_list};
@@ -13,9 +14,10 @@ use targets::AttributeValue;
 use values::{Branch, Frozen, Item, Leaf, Value};
 use workspace::Label;
 
-/// What a target has for each attribute of its rule, as a value. What lies in the target is lent, strings in lists and
-/// dicts too; what depends on the dependencies is made here, once, and lent to each that reads it. A target has this where
-/// it has a list of labels, which takes as long to make as it has labels; all else is as soon made at each read.
+/// What a target has for each attribute of its rule, as a value. What lies in the target is lent,
+/// strings in lists and dicts too; what depends on the dependencies is made here, once, and lent to
+/// each that reads it. A target has this where it has a list of labels, which takes as long to make
+/// as it has labels; all else is as soon made at each read.
 #[derive(Drop)]
 pub(crate) struct AttributeValues<'a> {
     values: Vec<Operand<'a>>,

@@ -24,9 +24,10 @@ use targets::Target;
 use values::{Broken, Item, Key, Kind, Leaf, Provider, Value};
 use workspace::Label;
 
-/// A label, its target and the target's dependencies with their outcomes; and what is made of them once, and lent to all
-/// that reads it: the label as a value, what a target with lists of labels has for its attributes, and the lists of
-/// `ctx.files` that were read. In the type of these, `I` stands for the target.
+/// A label, its target and the target's dependencies with their outcomes; and what is made of them
+/// once, and lent to all that reads it: the label as a value, what a target with lists of labels
+/// has for its attributes, and the lists of `ctx.files` that were read. In the type of these, `I`
+/// stands for the target.
 #[derive(Drop)]
 pub struct TargetContext<'a, I: FileLists> {
     /// The target's label.
@@ -45,9 +46,9 @@ pub struct TargetContext<'a, I: FileLists> {
 }
 
 impl<'a, I: FileLists> TargetContext<'a, I> {
-    /// That of the target of a label with these dependencies. Where they are many, the place of each label is noted
-    /// once. What `I` is to give is a matter of proofs alone: whoever calls picks it, and no target or dependency is
-    /// refused.
+    /// That of the target of a label with these dependencies. Where they are many, the place of
+    /// each label is noted once. What `I` is to give is a matter of proofs alone: whoever calls
+    /// picks it, and no target or dependency is refused.
     ///
     /// # Errors
     ///
@@ -120,7 +121,8 @@ impl<'a, I: FileLists> TargetContext<'a, I> {
         }
     }
 
-    /// `ctx.files` of the attribute at a place: it is listed at its first read, and lent from then on.
+    /// `ctx.files` of the attribute at a place: it is listed at its first read, and lent from then
+    /// on.
     pub(crate) fn files_at(&self, alloc: Global, place: usize) -> Result<Operand<'_>, Broken>
         ensures { Gives (files_at self.now.target.now self.now.dependencies place) result }
     {

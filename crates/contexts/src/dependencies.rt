@@ -22,8 +22,8 @@ pub(crate) const FEW: usize = 8;
 /// A label by which a dependency is found: its package and its name.
 type PlaceKey<'a> = (&'a str, &'a str);
 
-/// The dependencies of a target with their outcomes, each found by its place and by its label; and `DefaultInfo`. Few are found by
-/// going through them, which takes no memory.
+/// The dependencies of a target with their outcomes, each found by its place and by its label; and
+/// `DefaultInfo`. Few are found by going through them, which takes no memory.
 #[derive(Drop)]
 pub struct Dependencies<'a> {
     all: &'a [Dependency<'a>],
@@ -56,6 +56,10 @@ impl<'a> Model for Dependencies<'a> {
 
 impl<'a> Dependencies<'a> {
     /// These dependencies. Where they are many, the place of each label is noted once.
+    ///
+    /// # Errors
+    ///
+    /// `AllocError` where memory was refused.
     pub fn new(
         alloc: Global,
         all: &'a [Dependency<'a>],
@@ -124,7 +128,8 @@ fn is_same(a: &Label, b: &Label) -> bool
     a.package() == b.package() && a.name() == b.name()
 }
 
-/// The first place of a label among dependencies, by going through them; past all of them where it is none of theirs.
+/// The first place of a label among dependencies, by going through them; past all of them where it
+/// is none of theirs.
 fn place_among(all: &[Dependency<'_>], label: &Label) -> usize
     ensures { result ≡ place_of (dependencies_seen all.now) label.now }
 {

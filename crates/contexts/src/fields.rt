@@ -1,10 +1,13 @@
 //! Fields of targets, of `ctx` and of its parts.
-ghost use Rattle.std.specs.Prelude.{◌≡◌, Ok, Err, Some, None, MatchResult, IfOk, option_map, slice_get};
+ghost use Rattle.std.specs.Prelude.{◌≡◌, Ok, Err, Some, None, MatchResult, IfOk, option_map};
+ghost use Rattle.std.specs.Prelude.{slice_get};
 ghost use Rattle.ticks.specs.Ticking.{FaultOr};
 ghost use Rattle.operations.specs.Items.{or_fault};
 ghost use Rattle.operations.specs.States.{Gives};
 ghost use Rattle.analysis.specs.Seen.{dependency_seen};
-ghost use Rattle.contexts.specs.Fields.{field, object_field, attr_field, files_field, files_or_name, labels_for, context_field, object_value, target_field, dependency_field, depset_value, label_value};
+ghost use Rattle.contexts.specs.Fields.{field, object_field, attr_field, files_field};
+ghost use Rattle.contexts.specs.Fields.{files_or_name, labels_for, context_field, object_value};
+ghost use Rattle.contexts.specs.Fields.{target_field, dependency_field, depset_value, label_value};
 ghost use Rattle.contexts.specs.Offered.{files_of};
 
 use crate::context::{TargetContext, attribute_place};
@@ -16,12 +19,13 @@ use operands::Operand;
 use std::alloc::{AllocError, Global};
 use values::{Broken, Item, Kind, Leaf, Object, Value};
 
-/// A field of a target or of an object, in the implementation of a target. Each is lent, or is soon made; a list of
-/// `ctx.files` is made at its first read.
+/// A field of a target or of an object, in the implementation of a target. Each is lent, or is soon
+/// made; a list of `ctx.files` is made at its first read.
 ///
 /// # Errors
 ///
-/// `name`, where there is no such field; of `ctx.files` `large`, where there are too many Files for a list.
+/// `name`, where there is no such field; of `ctx.files` `large`, where there are too many Files for
+/// a list.
 pub fn field<'a, 'b, I: FileLists>(
     alloc: Global,
     context: &'a TargetContext<'b, I>,

@@ -7,9 +7,10 @@ use std::cell::OnceCell;
 use std::marker::{Brand, PhantomData};
 use values::{Item, Value};
 
-/// What `ctx.files` gives in the implementation of one target: by the place of the attribute among those of the rule, a list or
-/// a fault. It has a ghost member alone, which is picked where an implementation is called, so that a type can say of a list
-/// that it is the list of an attribute of that target.
+/// What `ctx.files` gives in the implementation of one target: by the place of the attribute among
+/// those of the rule, a list or a fault. It has a ghost member alone, which is picked where an
+/// implementation is called, so that a type can say of a list that it is the list of an attribute
+/// of that target.
 pub trait FileLists {
     ghost use Rattle.std.specs.Prelude.{ℕ, Result};
     ghost use Rattle.ticks.specs.declared.ticks.Kind.{Kind};
@@ -34,8 +35,9 @@ struct Kept<I: FileLists> {
     ghost listed: { I.list_at place ≡ Ok list },
 }
 
-/// The lists that were made so far, which are kept to the end of the call. There is a cell for each attribute; the cells are made
-/// when the first list is kept, since not every target is asked for one.
+/// The lists that were made so far, which are kept to the end of the call. There is a cell for each
+/// attribute; the cells are made when the first list is kept, since not every target is asked for
+/// one.
 #[derive(Drop)]
 pub(crate) struct KeptLists<I: FileLists> {
     cells: OnceCell<Vec<OnceCell<Kept<I>>>>,
@@ -54,7 +56,8 @@ impl<I: FileLists> KeptLists<I> {
         ensures { MatchOption result ⊤ (λ i. I.list_at place ≡ Ok (item_value i)) }
     {
         let kept = self.cells.get()?.get(place)?.get()?;
-        // A cell holds the list of its own place; no clause says it of a cell, so the place is compared.
+        // A cell holds the list of its own place; no clause says it of a cell, so the place is
+        // compared.
         if kept.place == place {
             Some(Item::Value(&kept.list))
         } else {

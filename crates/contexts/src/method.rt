@@ -5,9 +5,13 @@ ghost use Rattle.contexts.specs.Actions.{method_named};
 /// A method of `ctx.actions`.
 #[derive(Clone, Copy, PartialEq, Eq, Debug)]
 pub enum ActionMethod {
+    /// `declare_file`.
     DeclareFile,
+    /// `write`.
     Write,
+    /// `run`.
     Run,
+    /// `run_shell`.
     RunShell,
 }
 

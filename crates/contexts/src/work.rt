@@ -10,7 +10,8 @@ use std::alloc::{AllocError, Global};
 use std::marker::Model;
 use targets::Actions;
 
-/// The Files that an implementation has declared and the actions that it has registered, both in order.
+/// The Files that an implementation has declared and the actions that it has registered, both in
+/// order.
 #[derive(Drop)]
 pub struct Work {
     /// The Files that were declared.
@@ -22,7 +23,8 @@ pub struct Work {
 /// So many Files, at most, are gone through rather than found by hash.
 const FEW: usize = 8;
 
-/// Files that are declared, in order, each once. Few are gone through, which takes one list alone; many are found by hash.
+/// Files that are declared, in order, each once. Few are gone through, which takes one list alone;
+/// many are found by hash.
 #[derive(Drop)]
 pub struct DeclaredFiles {
     alloc: Global,
@@ -80,6 +82,10 @@ impl DeclaredFiles {
     }
 
     /// Puts a File last. After a refusal of memory they are as they were.
+    ///
+    /// # Errors
+    ///
+    /// `AllocError` where memory was refused.
     pub fn push(&mut self, file: Shared<FileRef>) -> Result<(), AllocError>
         requires { is_among file self.old ≡ false }
         ensures ok { OnOk result (self.new ≡ self.old ++ file ∷ []) }
@@ -93,8 +99,8 @@ impl DeclaredFiles {
     }
 }
 
-/// Puts a File last where there are none of the many: behind the few, or, where these would be more than [`FEW`], behind them among
-/// those that are found by hash.
+/// Puts a File last where there are none of the many: behind the few, or, where these would be more
+/// than [`FEW`], behind them among those that are found by hash.
 #[tactic(auto, using(crate::proofs::Declared::distinct_more, crate::proofs::Declared::many_made))]
 fn push_to_few(
     alloc: Global,

@@ -1,6 +1,8 @@
--- Names that a module gives to fields of providers and to attributes of rules, and `doc`, which its calls take and nothing uses
--- (Bazel documentation, "provider" and "rule"; which names there are is docs/PROFILE.md, "Tokens").
-use Rattle.std.specs.Prelude.{ℕ, Bool, true, false, List, Option, Some, None, option_and_then, if◌then◌else◌}
+-- Names that a module gives to fields of providers and to attributes of rules, and `doc`, which its
+-- calls take and nothing uses (Bazel documentation, "provider" and "rule"; which names there are is
+-- docs/PROFILE.md, "Tokens").
+use Rattle.std.specs.Prelude.{ℕ, Bool, true, false, List, Option, Some, None, option_and_then}
+use Rattle.std.specs.Prelude.{if◌then◌else◌}
 use Rattle.lexer.specs.Names.{spells_name}
 use Rattle.values.specs.Shape.{Shape, key, atom, shape}
 use Rattle.values.specs.declared.cells.Cell.{Cell}
@@ -23,6 +25,7 @@ is_doc (key (index.Text t)) = true
 is_doc (atom plain.None) = true
 is_doc _ = false
 
+-- what a call gives as `doc`, which may be missing
 abbrev pub may_be_doc : List Cell → Option Value → Bool
 may_be_doc h None = true
 may_be_doc h (Some v) = is_doc (shape h v)

@@ -1,6 +1,8 @@
--- The call of `provider` (Bazel documentation, "provider"; that `fields` has to be there, and what is refused, is this project's
--- own; docs/PROFILE.md, "Calls for providers and rules").
-use Rattle.std.specs.Prelude.{ℕ, ◌+◌, Bool, true, false, not, ◌&&◌, List, [], ◌∷◌, Option, Some, None, option_and_then, Result, Ok, Err, codes, bytes_eq, if◌then◌else◌}
+-- The call of `provider` (Bazel documentation, "provider"; that `fields` has to be there, and what
+-- is refused, is this project's own; docs/PROFILE.md, "Calls for providers and rules").
+use Rattle.std.specs.Prelude.{ℕ, ◌+◌, Bool, true, false, not, ◌&&◌, List, [], ◌∷◌, Option, Some}
+use Rattle.std.specs.Prelude.{None, option_and_then, Result, Ok, Err, codes, bytes_eq}
+use Rattle.std.specs.Prelude.{if◌then◌else◌}
 use Rattle.std.specs.List.{list_any}
 use Rattle.values.specs.Shape.{Shape, key, items, entries, shape}
 use Rattle.values.specs.declared.cells.Cell.{Cell}
@@ -22,12 +24,15 @@ use Rattle.declaring.specs.declared.table.Declarations.{Declarations}
 
 -- provider(doc = "", *, fields)
 abbrev pub provider_parameters : List Parameter
-provider_parameters = optional (codes "doc") ∷ record { name = codes "fields"; by_name = true; may_miss = false } ∷ []
+provider_parameters =
+    optional (codes "doc") ∷ record { name = codes "fields"; by_name = true; may_miss = false } ∷ []
 
+-- whether no name of a field stands twice
 abbrev pub are_distinct : List (List ℕ) → Bool
 are_distinct [] = true
 are_distinct (n ∷ ns) = not (list_any (bytes_eq n) ns) && are_distinct ns
 
+-- the names of the fields of a list or a tuple, unless one stands twice
 abbrev pub if_distinct : List (List ℕ) → Option (List (List ℕ))
 if_distinct ns = if are_distinct ns then Some ns else None
 
@@ -49,17 +54,26 @@ next_provider s d fields = record {
   fields = fields;
 }
 
+-- one more provider of the module, so that the next number is taken
 abbrev pub with_provider : Declarations → Declarations
 with_provider d = record d { providers = d.providers + 1 }
 
-abbrev pub provider_declared : State → Declarations → Bool → Option (List (List ℕ)) → Result (Value × Declarations) Kind
-provider_declared s d true (Some fields) = Ok (value.Leaf (plain.Provider (next_provider s d fields)), with_provider d)
+-- the provider that the call gives, and the declarations then, by whether `doc` is right and by the
+-- fields; `type` where something isn't as it has to be
+abbrev pub provider_declared : State → Declarations → Bool → Option (List (List ℕ))
+    → Result (Value × Declarations) Kind
+provider_declared s d true (Some fields) =
+    Ok (value.Leaf (plain.Provider (next_provider s d fields)), with_provider d)
 provider_declared s d _ _ = Err Wrong
 
-abbrev pub provider_with : State → Declarations → Result Bound Kind → Result (Value × Declarations) Kind
-provider_with s d (Ok (doc ∷ Some fields ∷ [])) = provider_declared s d (may_be_doc s.heap doc) (fields_in s.heap (shape s.heap fields))
+-- the call of `provider`, with what each parameter got
+abbrev pub provider_with : State → Declarations → Result Bound Kind
+    → Result (Value × Declarations) Kind
+provider_with s d (Ok (doc ∷ Some fields ∷ [])) =
+    provider_declared s d (may_be_doc s.heap doc) (fields_in s.heap (shape s.heap fields))
 provider_with s d (Ok _) = Err Arity
 provider_with s d (Err k) = Err k
 
+-- the call of `provider`
 abbrev pub new_provider : Given → State → Declarations → Result (Value × Declarations) Kind
 new_provider g s d = provider_with s d (bound provider_parameters g)

@@ -1,9 +1,11 @@
 //! The calls of `attr.string` and its kin.
-ghost use Rattle.std.specs.Prelude.{◌≡◌, Ok, Err, Some, MatchResult, IfOk, codes, option_copied, map};
+ghost use Rattle.std.specs.Prelude.{◌≡◌, Ok, Err, Some, MatchResult, IfOk, codes, option_copied};
+ghost use Rattle.std.specs.Prelude.{map};
 ghost use Rattle.ticks.specs.Ticking.{Changes, FaultOr};
 ghost use Rattle.operations.specs.Arguments.{given, bound};
 ghost use Rattle.calls.specs.Parameters.{taken, got_from};
-ghost use Rattle.declaring.specs.AttributeCalls.{attribute_parameters, named, attribute_in, attribute_value};
+ghost use Rattle.declaring.specs.AttributeCalls.{attribute_parameters, named, attribute_in};
+ghost use Rattle.declaring.specs.AttributeCalls.{attribute_value};
 ghost use Rattle.declaring.specs.AttributeCalls.{attribute_declared, new_attribute};
 
 use crate::Declarations;

@@ -4,7 +4,8 @@ ghost use Rattle.std.specs.List.{list_all};
 ghost use Rattle.values.specs.Seeing.{seen, table_entries, item_value};
 ghost use Rattle.targets.specs.Attributes.{is_attribute, are_attributes};
 ghost use Rattle.targets.specs.RuleCalls.{each_of};
-ghost use Rattle.declaring.specs.RuleMaking.{reference_in, declaration, declaration_in, attribute_entry};
+ghost use Rattle.declaring.specs.RuleMaking.{reference_in, declaration, declaration_in};
+ghost use Rattle.declaring.specs.RuleMaking.{attribute_entry};
 ghost use Rattle.declaring.specs.RuleMaking.{attributes_shown, attributes_in, if_attributes};
 
 use crate::Declarations;
@@ -17,7 +18,8 @@ use std::alloc::{AllocError, Global};
 use targets::{Attribute, NamedAttribute, Sequence, is_private};
 use values::{AttributeRef, Item, Key, Leaf, Seen, Table, Value};
 
-/// What a module sees of declarations while it is evaluated: its own, and those of the modules before it.
+/// What a module sees of declarations while it is evaluated: its own, and those of the modules
+/// before it.
 #[derive(Drop)]
 struct Known<'a, A> {
     linked: &'a A,
@@ -25,7 +27,8 @@ struct Known<'a, A> {
     declared: &'a Declarations,
 }
 
-/// The attributes that `attrs` says: none where it is missing, and None where it is of another type.
+/// The attributes that `attrs` says: none where it is missing, and None where it is of another
+/// type.
 pub(crate) fn attributes_in<A: Attributes>(
     alloc: Global,
     linked: &A,
@@ -164,8 +167,8 @@ fn are_attributes(named: &[NamedAttribute]) -> bool
     true
 }
 
-/// Whether a rule may have an attribute of this name: `name` it has already, and a private one has a default that was
-/// given.
+/// Whether a rule may have an attribute of this name: `name` it has already, and a private one has
+/// a default that was given.
 fn is_attribute(named: &NamedAttribute) -> bool
     ensures { result ≡ is_attribute named.now }
 {

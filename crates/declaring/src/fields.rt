@@ -4,7 +4,8 @@ ghost use Rattle.values.specs.Seeing.{seen, group_items, table_entries, item_val
 ghost use Rattle.values.specs.Shape.{shape};
 ghost use Rattle.targets.specs.RuleCalls.{each_of};
 ghost use Rattle.declaring.specs.NewNames.{name_in};
-ghost use Rattle.declaring.specs.ProviderCalls.{are_distinct, if_distinct, documented_name, fields_in};
+ghost use Rattle.declaring.specs.ProviderCalls.{are_distinct, if_distinct, documented_name};
+ghost use Rattle.declaring.specs.ProviderCalls.{fields_in};
 
 use crate::lists::{name_in, names};
 use heap::Heap;
@@ -14,7 +15,8 @@ use state::text_of;
 use std::alloc::{AllocError, Global};
 use values::{Group, Item, Key, Names, Seen, Table};
 
-/// The fields that a value says: a sequence of distinct names, or a dict from names to strings; None for another value.
+/// The fields that a value says: a sequence of distinct names, or a dict from names to strings;
+/// None for another value.
 pub(crate) fn fields_in(
     alloc: Global,
     heap: &Heap,

@@ -1,9 +1,12 @@
-//! The calls of `attr.string` and its kin, of `provider` and of `rule`, which declare while a module is evaluated.
+//! The calls of `attr.string` and its kin, of `provider` and of `rule`, which declare while a
+//! module is evaluated.
 //!
-//! `specs/` has one definition a call, of what it declares or refuses: `AttributeCalls`, `ProviderCalls` and `RuleMaking`.
-//! [`new_attribute`], [`new_provider`] and [`new_rule`] do so, for every state of the evaluation, which they only read. What a
-//! module has declared stands in its [`Declarations`], by numbers; the values of the language that name it have these numbers.
-//! After an error the module has declared what it had. What other modules declared is [`Attributes`].
+//! `specs/` has one definition a call, of what it declares or refuses: `AttributeCalls`,
+//! `ProviderCalls` and `RuleMaking`. [`new_attribute`], [`new_provider`] and [`new_rule`] do so,
+//! for every state of the evaluation, which they only read. What a module has declared stands in
+//! its [`Declarations`], by numbers; the values of the language that name it have these numbers.
+//! After an error the module has declared what it had. What other modules declared is
+//! [`Attributes`].
 #![tactic(auto)]
 
 mod attribute_calls;

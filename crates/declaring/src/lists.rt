@@ -1,11 +1,13 @@
-//! Items of a sequence, each read as what is asked. None stands for a sequence with an item of another type.
+//! Items of a sequence, each read as what is asked. None stands for a sequence with an item of
+//! another type.
 ghost use Rattle.std.specs.Prelude.{◌≡◌, IfOk, None, option_and_then};
 ghost use Rattle.values.specs.Seeing.{seen, group_items};
 ghost use Rattle.values.specs.Shape.{shape};
 ghost use Rattle.operations.specs.Reading.{string_in, sequence_in};
 ghost use Rattle.workspace.specs.Labels.{label_of};
 ghost use Rattle.targets.specs.RuleCalls.{each_of};
-ghost use Rattle.declaring.specs.AttributeCalls.{key_of_kind, provider_in, all_providers, whole_label_in};
+ghost use Rattle.declaring.specs.AttributeCalls.{key_of_kind, provider_in, all_providers};
+ghost use Rattle.declaring.specs.AttributeCalls.{whole_label_in};
 ghost use Rattle.declaring.specs.NewNames.{name_in};
 
 use crate::names::name_of;

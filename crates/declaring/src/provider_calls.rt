@@ -1,11 +1,13 @@
 //! The call of `provider`.
-ghost use Rattle.std.specs.Prelude.{◌≡◌, true, Ok, Err, Some, IfOk, MatchResult, map, option_copied};
+ghost use Rattle.std.specs.Prelude.{◌≡◌, true, Ok, Err, Some, IfOk, MatchResult, map};
+ghost use Rattle.std.specs.Prelude.{option_copied};
 ghost use Rattle.values.specs.Shape.{shape};
 ghost use Rattle.ticks.specs.Ticking.{Changes, FaultOr};
 ghost use Rattle.operations.specs.Arguments.{given};
 ghost use Rattle.calls.specs.Parameters.{taken};
 ghost use Rattle.declaring.specs.NewNames.{may_be_doc};
-ghost use Rattle.declaring.specs.ProviderCalls.{provider_parameters, provider_declared, provider_with};
+ghost use Rattle.declaring.specs.ProviderCalls.{provider_parameters, provider_declared};
+ghost use Rattle.declaring.specs.ProviderCalls.{provider_with};
 ghost use Rattle.declaring.specs.ProviderCalls.{new_provider, fields_in};
 ghost use Rattle.declaring.specs.Steps.{provider_numbered};
 

@@ -1,4 +1,5 @@
-//! What attributes restrict: `mandatory`, `values`, `providers` and `allow_files`. None stands for what is of another type.
+//! What attributes restrict: `mandatory`, `values`, `providers` and `allow_files`. None stands for
+//! what is of another type.
 ghost use Rattle.std.specs.Prelude.{◌≡◌, ◌∷◌, [], IfOk, option_copied, option_map};
 ghost use Rattle.values.specs.Seeing.{seen, group_items};
 ghost use Rattle.values.specs.Shape.{shape};

@@ -22,8 +22,8 @@ use std::alloc::{AllocError, Global};
 use targets::{Rule, RuleAttributes};
 use values::{Broken, ExportName, Exported, FunctionRef, Kind, Leaf, MadeId, RuleRef, Seen, Value};
 
-/// A call of `rule`, which makes a rule of a function and of attributes. Those may be of this module, or of the modules
-/// before it, which are linked.
+/// A call of `rule`, which makes a rule of a function and of attributes. Those may be of this
+/// module, or of the modules before it, which are linked.
 ///
 /// # Errors
 ///

@@ -1,5 +1,6 @@
 -- The elements of a depset: when two are the same, and which type they have.
-use Rattle.std.specs.Prelude.{Bool, true, false, ◌&&◌, List, [], ◌∷◌, Option, Some, None, if◌then◌else◌}
+use Rattle.std.specs.Prelude.{Bool, true, false, ◌&&◌, List, [], ◌∷◌, Option, Some, None}
+use Rattle.std.specs.Prelude.{if◌then◌else◌}
 use Rattle.std.specs.List.{list_all}
 use Rattle.std.specs.Ordering.{int_eq}
 use Rattle.std.specs.Str.{bytes_eq}
@@ -11,13 +12,15 @@ use Rattle.depsets.specs.declared.element.Element.TheVariants.{Text, Number, Tru
 use Rattle.depsets.specs.declared.element.ElementType.{ElementType}
 use Rattle.depsets.specs.declared.element.ElementType.TheVariants as kind
 
+-- whether two bools are equal
 abbrev pub same_truth : Bool → Bool → Bool
 same_truth true true = true
 same_truth false false = true
 same_truth _ _ = false
 
--- Two elements are the same where their types and contents are: a File's content is its path and its
--- owner, a label's its text. So `True` and `1` are two elements, and so are a string and a label.
+-- Two elements are the same where their types and contents are: a File's content is its path and
+-- its owner, a label's its text. So `True` and `1` are two elements, and so are a string and a
+-- label.
 -- (Starlark's specification, "Comparison": values of different types are unequal.)
 abbrev pub same_element : Element → Element → Bool
 same_element (Text a) (Text b) = bytes_eq a b
@@ -27,6 +30,7 @@ same_element (Label a) (Label b) = bytes_eq a b
 same_element (File a) (File b) = bytes_eq a.path b.path && bytes_eq a.owner b.owner
 same_element _ _ = false
 
+-- the type of an element: all elements of a depset have one (Bazel's documentation of depsets)
 abbrev pub type_of : Element → ElementType
 type_of (Text s) = kind.Text
 type_of (Number n) = kind.Number
@@ -34,6 +38,7 @@ type_of (Truth b) = kind.Truth
 type_of (Label s) = kind.Label
 type_of (File f) = kind.File
 
+-- whether two types are one
 abbrev pub same_type : ElementType → ElementType → Bool
 same_type kind.Text kind.Text = true
 same_type kind.Number kind.Number = true
@@ -46,6 +51,7 @@ same_type _ _ = false
 abbrev pub elements : Rose Own → List Element
 elements d = walk own_direct true d
 
+-- the elements at these depsets and below them, one depset after the other
 abbrev pub elements_of : Roses Own → List Element
 elements_of ds = walks own_direct true ds
 
@@ -73,7 +79,8 @@ abbrev pub type_after : Option ElementType → List Element → Option ElementTy
 type_after None es = first_type es
 type_after (Some t) es = Some t
 
--- the type of two groups of elements, None where they have two
+-- The type of two groups of elements, whose types are given so far as they have elements: None
+-- where the two types differ, and then the depset is refused as `Mixed`.
 abbrev pub joined : Option ElementType → Option ElementType → Option (Option ElementType)
 joined None next = Some next
 joined (Some a) None = Some (Some a)

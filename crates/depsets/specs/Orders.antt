@@ -5,15 +5,15 @@ use Rattle.depsets.specs.Own.{Own}
 use Rattle.depsets.specs.declared.depset.Order.{Order}
 use Rattle.depsets.specs.declared.depset.Order.TheVariants.{Default, Postorder, Preorder}
 
--- Whether the direct elements come before the children's. The default order is postorder, which is this
--- project's choice: Bazel's documentation of depsets leaves it open.
+-- Whether the direct elements come before the children's. The default order is postorder, which is
+-- this project's choice: Bazel's documentation of depsets leaves it open.
 abbrev pub is_preorder : Order → Bool
 is_preorder Default = false
 is_preorder Postorder = false
 is_preorder Preorder = true
 
--- Whether a depset of the first order may have a child of the second (Bazel's documentation of depsets,
--- "Order": merging depsets of different orders is an error, but for the default).
+-- Whether a depset of the first order may have a child of the second (Bazel's documentation of
+-- depsets, "Order": merging depsets of different orders is an error, but for the default).
 abbrev pub fits : Order → Order → Bool
 fits Default child = true
 fits Postorder Preorder = false

@@ -8,9 +8,9 @@ use Rattle.depsets.specs.declared.depset.DepsetError.{DepsetError}
 use Rattle.depsets.specs.declared.depset.DepsetError.TheVariants.{Mixed, Order, Deep}
 use Rattle.depsets.specs.declared.depset.TheConstants.{LEVELS}
 
--- The first reason to refuse the depset of this tree: elements of two types, at it or below it; a child whose
--- order is another, neither being the default; more than 1,000 levels. None where it is made.
--- (Bazel's documentation of depsets; the limit of levels is this project's own.)
+-- The first reason to refuse the depset of this tree: elements of two types, at it or below it; a
+-- child whose order is another, neither being the default; more than 1,000 levels. None where it is
+-- made. (Bazel's documentation of depsets; the limit of levels is this project's own.)
 abbrev pub refusal : Rose Own → Option DepsetError
 refusal (node own ts) =
     if not (is_uniform (elements (node own ts))) then Some Mixed

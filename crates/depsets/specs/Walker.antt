@@ -4,5 +4,6 @@ use Rattle.depsets.specs.declared.depset.Id.{Id}
 use Rattle.depsets.specs.declared.element.Element.{Element}
 use Rattle.depsets.specs.declared.listing.Walker.{Walker}
 
+-- how far a walker is, as the walk of the listing's contracts
 abbrev pub walk_of : Walker → Walk Id Element
 walk_of w = record { seen = w.seen; items = w.items; steps = w.cursor.steps }

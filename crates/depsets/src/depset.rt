@@ -1,12 +1,15 @@
 //! Depsets as shared trees.
 //!
-//! A depset is one counted node, which has its children as a list by place, so a second name of it costs
-//! a count, and a depset over others costs its direct elements and its children. What the tests of a new
-//! depset ask of the whole tree below is kept in each node: its levels, and the type of the elements.
-ghost use Rattle.std.specs.Prelude.{◌≡◌, ◌<◌, ◌≤◌, ◌+◌, ◌↔◌, ◌⊎◌, Bool, true, false, None, Some, [], IfOk, IsTrue, MatchResult};
+//! A depset is one counted node, which has its children as a list by place, so a second name of it
+//! costs a count, and a depset over others costs its direct elements and its children. What the
+//! tests of a new depset ask of the whole tree below is kept in each node: its levels, and the type
+//! of the elements.
+ghost use Rattle.std.specs.Prelude.{◌≡◌, ◌<◌, ◌≤◌, ◌+◌, ◌↔◌, ◌⊎◌, Bool, true, false, None, Some};
+ghost use Rattle.std.specs.Prelude.{[], IfOk, IsTrue, MatchResult};
 ghost use Rattle.depsets.specs.Rose.{children, label, node, roses, depth, depths};
 ghost use Rattle.depsets.specs.Orders.{fits, all_fit};
-ghost use Rattle.depsets.specs.Elements.{elements, elements_of, is_uniform, first_type, goes_on, type_after, joined};
+ghost use Rattle.depsets.specs.Elements.{elements, elements_of, is_uniform, first_type, goes_on};
+ghost use Rattle.depsets.specs.Elements.{type_after, joined};
 ghost use Rattle.depsets.specs.Refusals.{refusal};
 ghost use Rattle.depsets.specs.Own.{Own};
 ghost use Rattle.depsets.specs.Orders.{is_preorder};
@@ -27,12 +30,18 @@ pub const LEVELS: u32 = 1000;
 /// The owner is the path of the file or the label of the target whose evaluation made the depset.
 #[derive(PartialEq, Eq, Hash, Drop)]
 pub struct Id {
+    /// The path of a file, or the label of a target.
     pub owner: Text,
+    /// Its number among the depsets of that owner.
     pub serial: u64,
 }
 
 impl Id {
     /// Another name of the same id. Its text is shared and not copied.
+    ///
+    /// # Errors
+    ///
+    /// `AllocError` where the count of the names of its text is at its greatest.
     pub fn share(&self) -> Result<Id, AllocError>
         ensures { IfOk result (λ i. i ≡ self.now) }
     {
@@ -63,7 +72,8 @@ impl Order {
         matches!(self, Order::Preorder)
     }
 
-    /// Whether a depset of this order may have a child of that one: they are equal, or one is the default.
+    /// Whether a depset of this order may have a child of that one: they are equal, or one is the
+    /// default.
     pub fn fits(self, child: Order) -> bool
         ensures { result ≡ fits self child }
     {
@@ -107,11 +117,13 @@ struct Node {
     room: Room,
 }
 
-/// The greatest room: a depset can have one child a million times, and its listing takes no memory for that.
+/// The greatest room: a depset can have one child a million times, and its listing takes no memory
+/// for that.
 const GREATEST_ROOM: u32 = 4096;
 
-/// For how many ids and items a listing takes memory at its beginning, 4,096 at most. It is a guess, of which no contract speaks: the
-/// depset, its own elements, what a child has that has most, and one for each other child.
+/// For how many ids and items a listing takes memory at its beginning, 4,096 at most. It is a
+/// guess, of which no contract speaks: the depset, its own elements, what a child has that has
+/// most, and one for each other child.
 #[derive(Clone, Copy)]
 pub(crate) struct Room {
     pub(crate) ids: u32,
@@ -140,11 +152,13 @@ impl Model for Depset {
 }
 
 impl Depset {
-    /// A depset of these parts. It costs the direct elements and the children, and nothing below them.
+    /// A depset of these parts. It costs the direct elements and the children, and nothing below
+    /// them.
     ///
     /// # Errors
     ///
-    /// The first that applies of `Mixed`, `Order` and `Deep`; `NoMemory` may stand in place of any answer.
+    /// The first that applies of `Mixed`, `Order` and `Deep`; `NoMemory` may stand in place of any
+    /// answer.
     pub fn new(
         alloc: Global,
         id: Id,
@@ -193,6 +207,10 @@ impl Depset {
     }
 
     /// Another name of the same depset: one count more, and no copy.
+    ///
+    /// # Errors
+    ///
+    /// `AllocError` where the count of its names is at its greatest.
     pub fn share(&self) -> Result<Depset, AllocError>
         ensures { IfOk result (λ d. d ≡ self.now) }
     {
@@ -221,7 +239,8 @@ impl Depset {
         self.node.order
     }
 
-    /// Its own elements, without those of its children. Each is lent with the digest by which a listing looks it up.
+    /// Its own elements, without those of its children. Each is lent with the digest by which a
+    /// listing looks it up.
     pub fn direct(&self) -> &[DigestedElement]
         ensures { result.now ≡ (label self.now).direct }
     {
@@ -275,7 +294,8 @@ fn digested(alloc: Global, elements: Vec<Element>) -> Result<Vec<DigestedElement
     Ok(all)
 }
 
-/// The room for a depset of these elements over these children: each child but the one that has most counts as one.
+/// The room for a depset of these elements over these children: each child but the one that has
+/// most counts as one.
 fn room_over(direct: &[DigestedElement], children: &[Depset]) -> Room {
     let mut most = Room { ids: 0, items: 0 };
     for child in children {

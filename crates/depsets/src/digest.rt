@@ -1,7 +1,7 @@
 //! Ids and elements with their digests.
 //!
-//! A listing looks up each id and each element that it meets. Their texts are gone through once, when a depset is made, and
-//! not at each listing that comes by.
+//! A listing looks up each id and each element that it meets. Their texts are gone through once,
+//! when a depset is made, and not at each listing that comes by.
 ghost use Rattle.std.specs.Prelude.{◌≡◌, ◌++◌, fold};
 ghost use Rattle.std.specs.Hash as fed;
 ghost use Rattle.std.specs.Hash.FoldHasher as folding;

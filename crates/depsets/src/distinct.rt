@@ -11,7 +11,8 @@ use std::marker::Model;
 
 /// Items that lie elsewhere, each once, in the order in which they were put.
 ///
-/// No item is copied and no count is touched, so that several threads can list the same depset beside each other.
+/// No item is copied and no count is touched, so that several threads can list the same depset
+/// beside each other.
 #[derive(Drop)]
 pub(crate) struct Distinct<'a, T: Eq + Hash> {
     items: IndexSet<&'a T>,

@@ -8,10 +8,13 @@ use std::alloc::AllocError;
 
 /// A file: its path, and the label of the target or of the source file that it belongs to.
 ///
-/// Two are equal where path and owner are. The path is kept as a key, since it is lent wherever it is read.
+/// Two are equal where path and owner are. The path is kept as a key, since it is lent wherever it
+/// is read.
 #[derive(PartialEq, Eq, Hash, Drop)]
 pub struct FileRef {
+    /// Where the file lies.
     pub path: TextKey,
+    /// The label of the target or of the source file that it belongs to.
     pub owner: Text,
 }
 
@@ -30,10 +33,15 @@ impl FileRef {
 /// An element of a depset. A label is its text.
 #[derive(PartialEq, Eq, Hash, Drop)]
 pub enum Element {
+    /// A string.
     Text(Text),
+    /// A whole number of 64 bits, signed.
     Number(i64),
+    /// A bool.
     Truth(bool),
+    /// A label, by its text.
     Label(Text),
+    /// A File.
     File(Shared<FileRef>),
 }
 
@@ -49,6 +57,10 @@ pub enum ElementType {
 
 impl Element {
     /// Another name of the same element. Its texts are shared and not copied.
+    ///
+    /// # Errors
+    ///
+    /// `AllocError` where the count of the names of its text or of its File is at its greatest.
     pub fn share(&self) -> Result<Element, AllocError>
         ensures { IfOk result (λ e. e ≡ self.now) }
     {

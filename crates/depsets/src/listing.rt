@@ -1,16 +1,19 @@
 //! The listing of a depset, by a walk that visits no id twice.
 //!
-//! The plain meaning of a listing walks the whole tree, which can have 2^1000 paths where children are
-//! shared, and then keeps the first occurrence of each element. The walk here skips each depset whose id
-//! it has left before. An id is marked when its depset is left, and not when it is entered: then the ids
-//! that are marked and the items that were taken are both 'the first occurrences so far', and skipping
-//! adds nothing to either. Every link and element is read through a `Cursor`, which counts each read.
-ghost use Rattle.std.specs.Prelude.{◌≡◌, ◌+◌, ◌<◌, ◌≤◌, ℕ, List, IfOk, OnOk, IfSome, length, slice_get, Some, Err, false};
+//! The plain meaning of a listing walks the whole tree, which can have 2^1000 paths where children
+//! are shared, and then keeps the first occurrence of each element. The walk here skips each depset
+//! whose id it has left before. An id is marked when its depset is left, and not when it is
+//! entered: then the ids that are marked and the items that were taken are both 'the first
+//! occurrences so far', and skipping adds nothing to either. Every link and element is read through
+//! a `Cursor`, which counts each read.
+ghost use Rattle.std.specs.Prelude.{◌≡◌, ◌+◌, ◌<◌, ◌≤◌, ℕ, List, IfOk, OnOk, IfSome, length};
+ghost use Rattle.std.specs.Prelude.{slice_get, Some, Err, false};
 ghost use Rattle.depsets.specs.Rose.{children, label, node, roses};
 ghost use Rattle.depsets.specs.Walker.{walk_of};
 ghost use Rattle.depsets.specs.Keys.{has, keep};
 ghost use Rattle.depsets.specs.Elements.{same_element};
-ghost use Rattle.depsets.specs.Listed.{visited, visited_all, inside, took, same_id, flat, work, walked, walked_steps, IsCoherent};
+ghost use Rattle.depsets.specs.Listed.{visited, visited_all, inside, took, same_id, flat, work};
+ghost use Rattle.depsets.specs.Listed.{walked, walked_steps, IsCoherent};
 
 use crate::Depset;
 use crate::digest::{DigestedElement, DigestedId};
@@ -26,7 +29,9 @@ pub const ITEMS: usize = 1_048_576;
 /// A step is the depset itself, one link to a child, or one direct element.
 #[derive(Drop)]
 pub struct Listing<'a> {
+    /// The first occurrence of each element, in the order of the walk.
     pub items: Elements<'a>,
+    /// How many steps the walk took, 1 at least.
     pub steps: u64,
 }
 
@@ -44,9 +49,10 @@ pub enum ListError {
 impl Depset {
     /// The listing of the depset in its own order.
     ///
-    /// It takes as many steps as there is work: 1, and over the distinct ids the direct elements and the
-    /// links to children. What it promises of items and steps speaks of coherent depsets: those where any
-    /// two parts with one id are the same tree. Of others the items are still those of the walk.
+    /// It takes as many steps as there is work: 1, and over the distinct ids the direct elements
+    /// and the links to children. What it promises of items and steps speaks of coherent depsets:
+    /// those where any two parts with one id are the same tree. Of others the items are still those
+    /// of the walk.
     ///
     /// # Errors
     ///
@@ -63,7 +69,8 @@ impl Depset {
         Ok(listing)
     }
 
-    /// The listing where there is no child and at most one element: then it takes no walk and no memory.
+    /// The listing where there is no child and at most one element: then it takes no walk and no
+    /// memory.
     fn listed_alone(&self) -> Option<Listing<'_>>
         ensures items { IfSome result (λ l. l.items ≡ walked self.now) }
         ensures steps { IfSome result (λ l. l.steps ≡ walked_steps self.now) }
@@ -175,7 +182,8 @@ impl<'a> Walker<'a> {
         Ok(())
     }
 
-    /// Visits the depset, unless its id was seen. Where parts are shared most links lead to one that was, which is found in the loop.
+    /// Visits the depset, unless its id was seen. Where parts are shared most links lead to one
+    /// that was, which is found in the loop.
     #[cycle(walk)]
     #[inline(always)]
     fn visit(&mut self, d: &'a Depset, preorder: bool) -> Result<(), AllocError>

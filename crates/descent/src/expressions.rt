@@ -1,12 +1,15 @@
-//! Expressions, read from a line by descent: one loop over the levels of operators, and a function for each form of an
-//! atom. What reads the expressions inside of others is a parameter, so that each is proved by itself.
+//! Expressions, read from a line by descent: one loop over the levels of operators, and a function
+//! for each form of an atom. What reads the expressions inside of others is a parameter, so that
+//! each is proved by itself.
 //!
-//! A part is kept behind a `Box`, and functions through which expressions stand inside of others are not inlined: so a level
-//! takes hundreds of bytes of the stack and not thousands. That is measured, and said by no clause.
+//! A part is kept behind a `Box`, and functions through which expressions stand inside of others
+//! are not inlined: so a level takes hundreds of bytes of the stack and not thousands. That is
+//! measured, and said by no clause.
 //!
-//! A reader is given room: how deep the expression may be. It goes down by one for the parts of a form. What begins with
-//! a sign or a bracket is refused before it is read where it would be too deep; of an operator, a field, an index or a
-//! call the parts are read first, so that a tree of one level more is made and let go.
+//! A reader is given room: how deep the expression may be. It goes down by one for the parts of a
+//! form. What begins with a sign or a bracket is refused before it is read where it would be too
+//! deep; of an operator, a field, an index or a call the parts are read first, so that a tree of
+//! one level more is made and let go.
 
 ghost use Rattle.std.specs.Prelude.{◌≡◌, ◌≤◌, ◌<◌, Some};
 ghost use Rattle.grammar.specs.Ahead.{Negates, Reads, behind_if, bracket_at};
@@ -14,7 +17,8 @@ ghost use Rattle.grammar.specs.Front.{behind_close, behind_comma};
 ghost use Rattle.grammar.specs.Reading.{then_read};
 ghost use Rattle.lexer.specs.declared.layout.Bracket.TheVariants.{Square, Curly};
 ghost use Rattle.grammar.specs.Descent as spec;
-ghost use Rattle.grammar.specs.Descended.{Nests, part_seen, pair_seen, several_seen, pairs_seen, arguments_seen, conditions_seen};
+ghost use Rattle.grammar.specs.Descended.{Nests, part_seen, pair_seen, several_seen, pairs_seen};
+ghost use Rattle.grammar.specs.Descended.{arguments_seen, conditions_seen};
 
 use grammar::ahead::{Ahead, Head, Stop, Suffix};
 use grammar::parts::{Arguments, Conditions, Pairs, Part, Row, Several};
@@ -475,7 +479,8 @@ impl<F: for<'t> Fn(Global, &mut Ahead<'_, 't>, usize, Row, usize) -> Result<Part
         Ok(left)
     }
 
-    /// Goes on with the operators of a level and of the tighter ones below `top`, the tightest first.
+    /// Goes on with the operators of a level and of the tighter ones below `top`, the tightest
+    /// first.
     #[cycle(levels)]
     #[inline(never)]
     fn onward<'t>(
@@ -573,12 +578,14 @@ impl<F: for<'t> Fn(Global, &mut Ahead<'_, 't>, usize, Row, usize) -> Result<Part
     }
 }
 
-/// The expression that comes next, of at most `turns` expressions inside of one another and no deeper than `room`. Ask for
-/// as many turns as there are tokens, so that nothing is refused for want of them.
+/// The expression that comes next, of at most `turns` expressions inside of one another and no
+/// deeper than `room`. Ask for as many turns as there are tokens, so that nothing is refused for
+/// want of them.
 ///
 /// # Errors
 ///
-/// [`Stop::NoForm`] where there is none, or a deeper one; [`Stop::NoMemory`] where memory was refused.
+/// [`Stop::NoForm`] where there is none, or a deeper one; [`Stop::NoMemory`] where memory was
+/// refused.
 pub fn expression<'t>(
     alloc: Global,
     ahead: &mut Ahead<'_, 't>,

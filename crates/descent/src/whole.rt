@@ -40,8 +40,9 @@ fn read_all<'t>(
     }
 }
 
-/// The tree of the expression that the logical line at this place is; None where the line is no expression, or one that
-/// is deeper than [`MAX_DEPTH`]. The expressions are those of the Starlark specification in this project's profile.
+/// The tree of the expression that the logical line at this place is; None where the line is no
+/// expression, or one that is deeper than [`MAX_DEPTH`]. The expressions are those of the Starlark
+/// specification in this project's profile.
 ///
 /// # Errors
 ///

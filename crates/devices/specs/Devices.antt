@@ -1,8 +1,9 @@
 -- What devices tell of their bytes and of their failures (this project's own choice).
 --
--- A device counts its failures: each error, an interrupted call too, and each write that takes none of a piece that
--- isn't empty. The count stays at the greatest `u64`.
-use Rattle.std.specs.Prelude.{◌≡◌, ◌≤◌, ◌<◌, ◌+◌, ◌-◌, ◌^◌, ◌++◌, ℕ, Bool, true, false, List, [], length, take, min, Option, Result, MatchResult}
+-- A device counts its failures: each error, an interrupted call too, and each write that takes none
+-- of a piece that isn't empty. The count stays at the greatest `u64`.
+use Rattle.std.specs.Prelude.{◌≡◌, ◌≤◌, ◌<◌, ◌+◌, ◌-◌, ◌^◌, ◌++◌, ℕ, Bool, true, false, List, []}
+use Rattle.std.specs.Prelude.{length, take, min, Option, Result, MatchResult}
 use Rattle.std.specs.Io.KnownBytes.{Appends, Consumes, IsAtEnd}
 
 -- the count after one more failure
@@ -13,19 +14,22 @@ one_more n = min (n + 1) (2 ^ 64 - 1)
 abbrev pub CountsFailure : {T E : Type 0} → ℕ → ℕ → Result T E → Type 0
 CountsFailure old new r = MatchResult r (λ _. new ≡ old) (λ _. new ≡ one_more old)
 
--- so does a write that takes none of a piece that isn't empty
+-- a write that fails counts, and so does one that takes none of a piece that isn't empty; no other
+-- write counts
 abbrev pub CountsStall : {E : Type 0} → ℕ → ℕ → Result ℕ E → List ℕ → Type 0
 CountsStall old new r piece = MatchResult r
-    (λ n. ((0 < n → new ≡ old) × (length piece ≡ 0 → new ≡ old)) × (n ≡ 0 → 0 < length piece → new ≡ one_more old))
+    (λ n. ((0 < n → new ≡ old) × (length piece ≡ 0 → new ≡ old))
+    × (n ≡ 0 → 0 < length piece → new ≡ one_more old))
     (λ _. new ≡ one_more old)
 
 -- some call failed; a count that has reached its greatest value can't tell
 abbrev pub Failed : ℕ → ℕ → Type 0
 Failed old new = old < 2 ^ 64 - 1 → old < new
 
--- the bytes bs came from a source and stand at the end of a text: some if `more` says so, and else the source is at
--- its end
-pub record TakesMore (old new : Option (List ℕ)) (before after : List ℕ) (more : Bool) : Type 0 where
+-- the bytes bs came from a source and stand at the end of a text: some if `more` says so, and else
+-- the source is at its end
+pub record TakesMore (old new : Option (List ℕ)) (before after : List ℕ)
+    (more : Bool) : Type 0 where
   pub bytes : List ℕ
   pub grown : after ≡ before ++ bytes
   pub taken : Consumes old new bytes

@@ -1,4 +1,5 @@
-//! Devices that bytes are read from and written to, which tell what they know of their bytes and count their failures.
+//! Devices that bytes are read from and written to, which tell what they know of their bytes and
+//! count their failures.
 
 ghost use Rattle.std.specs.Prelude.{◌≡◌, ◌≤◌, ℕ, Bool, false, List, Option, IfOk, is_ok, length};
 ghost use Rattle.std.specs.Io.KnownBytes.{Keeps, ReadConsumes, WriteAppends};
@@ -45,8 +46,8 @@ pub trait Sink {
     ///
     /// # Errors
     ///
-    /// Where the device failed, or was interrupted. Each error is counted, and so is a call that takes none of a
-    /// piece that isn't empty.
+    /// Where the device failed, or was interrupted. Each error is counted, and so is a call that
+    /// takes none of a piece that isn't empty.
     fn write(&mut self, piece: &[u8]) -> io::Result<usize>
         ensures bound { IfOk result (λ n. n ≤ length piece.now) }
         ensures bytes { WriteAppends (contents self.old) (contents self.new) result piece.now }

@@ -1,6 +1,7 @@
 //! The loops that read all that a source has and write all of a text.
 
-ghost use Rattle.std.specs.Prelude.{◌≡◌, ◌≢◌, ◌<◌, ◌≤◌, ◌+◌, true, IfOk, OnOk, OnErr, Err, string_bytes, vec_len};
+ghost use Rattle.std.specs.Prelude.{◌≡◌, ◌≢◌, ◌<◌, ◌≤◌, ◌+◌, true, IfOk, OnOk, OnErr, Err};
+ghost use Rattle.std.specs.Prelude.{string_bytes, vec_len};
 ghost use Rattle.std.specs.List.{flat_map};
 ghost use Rattle.std.specs.Io.KnownBytes.{Appends, Consumes, IsAtEnd, Keeps};
 ghost use Rattle.devices.specs.Devices.{Failed, GaveBytes, TakesMore, WritesBeginning};
@@ -22,7 +23,8 @@ pub enum InputStop {
     NoMemory,
 }
 
-/// One read, of at most `room` bytes, which are put at the end of `input`. It says whether there were any.
+/// One read, of at most `room` bytes, which are put at the end of `input`. It says whether there
+/// were any.
 fn read_some<S: Source>(source: &mut S, input: &mut Vec<u8>, room: usize) -> Result<bool, InputStop>
     requires { 0 < room }
     ensures ok { IfOk result (λ more. TakesMore (S.remaining source.old) (S.remaining source.new)
@@ -49,8 +51,8 @@ fn read_some<S: Source>(source: &mut S, input: &mut Vec<u8>, room: usize) -> Res
 ///
 /// # Errors
 ///
-/// `Read` at the first read that fails, `TooLong` at the first byte past the limit, `NoMemory` where memory was
-/// refused.
+/// `Read` at the first read that fails, `TooLong` at the first byte past the limit, `NoMemory`
+/// where memory was refused.
 pub fn read_input<S: Source>(
     alloc: Global,
     source: &mut S,
@@ -119,7 +121,8 @@ fn flush<K: Sink>(sink: &mut K) -> Result<(), WriteFailed>
 ///
 /// # Errors
 ///
-/// `WriteFailed` at the first call that fails or takes no byte; then a beginning of the text was written.
+/// `WriteFailed` at the first call that fails or takes no byte; then a beginning of the text was
+/// written.
 pub fn write_all<K: Sink>(sink: &mut K, text: &[u8]) -> Result<(), WriteFailed>
     ensures ok { OnOk result (Appends (K.contents sink.old) (K.contents sink.new) text.now) }
     ensures counted { OnOk result (K.failures sink.new ≡ K.failures sink.old) }
@@ -155,7 +158,8 @@ fn write_each<K: Sink>(sink: &mut K, texts: &[String]) -> Result<(), WriteFailed
 ///
 /// # Errors
 ///
-/// `WriteFailed` at the first call that fails or takes no byte; then a beginning of the texts was written.
+/// `WriteFailed` at the first call that fails or takes no byte; then a beginning of the texts was
+/// written.
 pub fn write_parts<K: Sink>(sink: &mut K, texts: &[String]) -> Result<(), WriteFailed>
     ensures ok { OnOk result
         (Appends (K.contents sink.old) (K.contents sink.new) (flat_map string_bytes texts.now)) }

@@ -10,7 +10,8 @@ flat_row starts entries n = slice_range entries (slice_index starts n) (slice_in
 abbrev pub flat_rows : List ℕ → List ℕ → List (List ℕ)
 flat_rows starts entries = map (flat_row starts entries) (range_with_len 0 (length starts - 1))
 
--- the first row starts with the entries, no row starts before an earlier one, and the last one ends with the entries
+-- the first row starts with the entries, no row starts before an earlier one, and the last one ends
+-- with the entries
 pub record IsFlat (starts entries : List ℕ) : Type 0 where
   pub some : 0 < length starts
   pub begins : slice_index starts 0 ≡ 0

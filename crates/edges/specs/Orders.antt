@@ -1,5 +1,6 @@
 -- An order of nodes in which each comes after all its dependencies, as far as that can be.
-use Rattle.std.specs.Prelude.{◌≡◌, ℕ, ◌<◌, ◌≤◌, true, not, List, length, map, take, filter, slice_index, nat_eq}
+use Rattle.std.specs.Prelude.{◌≡◌, ℕ, ◌<◌, ◌≤◌, true, not, List, length, map, take, filter}
+use Rattle.std.specs.Prelude.{slice_index, nat_eq}
 use Rattle.std.specs.List.{IsDistinct, range_with_len}
 use Rattle.edges.specs.Walks.{Cyclic}
 use Rattle.edges.specs.Rows.{row, has}
@@ -8,14 +9,16 @@ use Rattle.edges.specs.Rows.{row, has}
 abbrev pub rest : List ℕ → List ℕ
 rest ns = filter (λ n. not (nat_eq (slice_index ns n) 0)) (range_with_len 0 (length ns))
 
--- An order of all nodes: the first `acyclic` come after all their dependencies, and the others are cyclic.
+-- An order of all nodes: the first `acyclic` come after all their dependencies, and the others are
+-- cyclic.
 pub record IsOrder (given : List (List ℕ)) (order : List ℕ) (acyclic : ℕ) : Type 0 where
   pub once : IsDistinct nat_eq order
   pub listed : length order ≡ length given
   pub nodes : (k : ℕ) → k < length given → slice_index order k < length given
   pub all : (v : ℕ) → v < length given → has order v ≡ true
   pub within : acyclic ≤ length given
-  pub after : (k d : ℕ) → k < acyclic → has (row given (slice_index order k)) d ≡ true → has (take k order) d ≡ true
+  pub after : (k d : ℕ) → k < acyclic → has (row given (slice_index order k)) d ≡ true
+      → has (take k order) d ≡ true
   pub behind : (k : ℕ) → acyclic ≤ k → k < length given → Cyclic (row given) (slice_index order k)
 
 -- the dependencies of each node in order, as places in the order

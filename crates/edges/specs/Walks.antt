@@ -1,4 +1,5 @@
--- Walks along dependencies, and the nodes that no order can put after all their dependencies. A node is anything that has a list of dependencies: a number, a label, a file.
+-- Walks along dependencies, and the nodes that no order can put after all their dependencies. A
+-- node is anything that has a list of dependencies: a number, a label, a file.
 use Rattle.std.specs.Prelude.{◌≡◌, ℕ, zero, suc, Bool, true, List, Contains}
 use Rattle.std.specs.List.{list_any}
 
@@ -25,6 +26,7 @@ module _ {L : Type 0} (deps : L → List L) where
   goes_on zero t = true
   goes_on (suc n) t = list_any (goes_on n) (deps t)
 
-  -- Whether t is cyclic, where at most so many nodes have dependencies: a walk of more edges than that comes to one of them twice.
+  -- Whether t is cyclic, where at most so many nodes have dependencies: a walk of more edges than
+  -- that comes to one of them twice.
   abbrev pub is_cyclic : ℕ → L → Bool
   is_cyclic nodes t = goes_on (suc nodes) t

@@ -31,6 +31,10 @@ impl Model for Adjacency {
 
 impl Adjacency {
     /// No rows, with room for so many, and for so many entries in all.
+    ///
+    /// # Errors
+    ///
+    /// `AllocError` where memory was refused.
     pub fn with_capacity(
         alloc: Global,
         rows: usize,
@@ -54,6 +58,10 @@ impl Adjacency {
     }
 
     /// Adds the row of the next node. Where memory is refused, nothing is added.
+    ///
+    /// # Errors
+    ///
+    /// `AllocError` where memory was refused.
     pub fn push(&mut self, list: &[NodeId]) -> Result<(), AllocError>
         ensures { self.new ≡ (if is_ok result then self.old ++ list.now ∷ [] else self.old) }
     {

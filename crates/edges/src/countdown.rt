@@ -70,6 +70,10 @@ fn settle(
 }
 
 /// The order in which nodes have no dependency left, and what is left to count of each at the end.
+///
+/// # Errors
+///
+/// `AllocError` where memory was refused.
 pub fn count_down(
     alloc: Global,
     deps: &Adjacency,

@@ -61,7 +61,9 @@ impl Edges {
     /// order in which each node comes after its dependencies, with the cyclic nodes at its end. It
     /// takes time by the number of nodes and edges.
     ///
-    /// It fails where the allocator refuses memory.
+    /// # Errors
+    ///
+    /// `AllocError` where memory was refused.
     pub fn of(alloc: Global, given: Adjacency) -> Result<Numbered, AllocError>
         requires graph { IsGraph given }
         ensures same { IfOk result (λ r. IsRenumbered given r.origin.items r.edges.deps) }
@@ -78,7 +80,9 @@ impl Edges {
     /// The graph in which each node depends on the nodes of its row, which stand before it already:
     /// the nodes keep their numbers, and none is cyclic.
     ///
-    /// It fails where the allocator refuses memory.
+    /// # Errors
+    ///
+    /// `AllocError` where memory was refused.
     pub fn in_order(alloc: Global, deps: Adjacency) -> Result<Edges, AllocError>
         requires graph { IsGraph deps }
         requires order { IsOrdered deps (length deps) }

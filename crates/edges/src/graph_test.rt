@@ -32,7 +32,9 @@ impl Adjacency {
     /// Whether the rows are a graph's: each entry is the number of a row, and none stands in a row
     /// twice. It takes time by the number of rows and entries, and memory by that of rows.
     ///
-    /// It fails where the allocator refuses memory.
+    /// # Errors
+    ///
+    /// `AllocError` where memory was refused.
     pub fn is_graph(&self, alloc: Global) -> Result<bool, AllocError>
         ensures { IfOk result (λ b. IsTrue b ↔ IsGraph self.now) }
     {

@@ -25,6 +25,10 @@ fn append_rest(order: &mut Vec<NodeId>, left: &[usize]) -> Result<(), AllocError
 
 /// All nodes, each after its dependencies, and behind them the cyclic ones; and how many are not
 /// cyclic.
+///
+/// # Errors
+///
+/// `AllocError` where memory was refused.
 pub fn order_of(alloc: Global, given: &Adjacency) -> Result<(Vec<NodeId>, usize), AllocError>
     requires graph { IsGraph given.now }
     ensures { IfOk result (λ r. IsOrder given.now r.0.items r.1) }
@@ -37,6 +41,10 @@ pub fn order_of(alloc: Global, given: &Adjacency) -> Result<(Vec<NodeId>, usize)
 }
 
 /// The place of each node in the order.
+///
+/// # Errors
+///
+/// `AllocError` where memory was refused.
 pub fn places_of(alloc: Global, order: &[NodeId]) -> Result<Vec<NodeId>, AllocError>
     requires once { IsDistinct nat_eq order.now }
     requires nodes { AreNodes order.now (length order.now) }
@@ -63,6 +71,10 @@ fn fill_with(list: &mut Vec<NodeId>, nodes: &[NodeId], places: &[NodeId]) -> Res
 }
 
 /// The dependencies of each node in order, as places in the order.
+///
+/// # Errors
+///
+/// `AllocError` where memory was refused.
 pub fn replace_all(
     alloc: Global,
     given: &Adjacency,

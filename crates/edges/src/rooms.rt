@@ -53,6 +53,10 @@ fn layout(
 
 impl Rooms {
     /// Empty lists with room for so many entries each, `total` in all.
+    ///
+    /// # Errors
+    ///
+    /// `AllocError` where memory was refused.
     pub fn of(alloc: Global, sizes: &[usize], total: usize) -> Result<Rooms, AllocError>
         requires total { total ≡ sum sizes.now }
         ensures len { IfOk result (λ r. length r.lists ≡ length sizes.now) }

@@ -52,6 +52,10 @@ fn file_row(users: &mut Rooms, list: &[NodeId], user: NodeId)
 
 /// The users of each node, each once and by number: two walks over all edges, one that counts and
 /// one that sorts.
+///
+/// # Errors
+///
+/// `AllocError` where memory was refused.
 pub fn users_of(alloc: Global, deps: &Adjacency) -> Result<Adjacency, AllocError>
     requires graph { IsGraph deps.now }
     ensures { IfOk result (λ u. u ≡ all_users deps.now) }

@@ -1,5 +1,6 @@
--- What a module made is told apart by numbers, and called by names; how both agree. (That each provider and each rule
--- is a global of its module is this project's own; docs/PROFILE.md, "Names of providers and rules".)
+-- What a module made is told apart by numbers, and called by names; how both agree. (That each
+-- provider and each rule is a global of its module is this project's own; docs/PROFILE.md, "Names
+-- of providers and rules".)
 use Rattle.std.specs.Prelude.{◌≡◌, ℕ, ◌<◌, true, List, length, Option, Some, slice_get}
 use Rattle.values.specs.Tree.{leaf}
 use Rattle.values.specs.View.{FrozenTree}
@@ -18,9 +19,11 @@ use Rattle.evaluation.specs.Runs.{naming_of}
 
 -- ---- by number: the i-th provider, and the i-th rule, that the module of number n made
 
+-- what tells apart the things that modules make: the module's number, and a number within it
 abbrev pub made_id : ℕ → ℕ → MadeId
 made_id n i = record { «module» = n; number = i }
 
+-- this provider, or this rule, is the i-th that the module made
 abbrev pub IsProvider : ℕ → ℕ → Provider → Type 0
 IsProvider n i p = p.id ≡ Some (made_id n i)
 
@@ -29,14 +32,15 @@ IsRule n i r = r.id ≡ made_id n i
 
 -- ---- by name: of the first global that is it
 
--- each of them as the value of a global
+-- each of them as the value of a global, once that is frozen
 abbrev pub provider_value : Provider → FrozenTree
 provider_value p = leaf (plain.Provider p)
 
 abbrev pub rule_value : RuleRef → FrozenTree
 rule_value r = leaf (plain.Rule r)
 
--- x is the name of the first global that is such a thing: at its place one stands as the value, and at no place before
+-- x is the name of the first global that is such a thing: at its place one stands as the value, and
+-- at no place before
 pub record IsFirstName {A : Type 0} (value : A → FrozenTree) (Is : A → Type 0) (names : List Name)
     (globals : List (Option FrozenTree)) (x : Name) : Type 0 where
   pub place : ℕ
@@ -49,13 +53,16 @@ pub record IsFirstName {A : Type 0} (value : A → FrozenTree) (Is : A → Type 
 -- ---- numbers and names
 
 -- what has this number has a name, that of the first global that is it
-abbrev pub IsCalled : {A : Type 0} → (A → FrozenTree) → (A → Type 0) → List Name → List (Option FrozenTree) →
-    Option (Option Name) → Type 0
+abbrev pub IsCalled : {A : Type 0} → (A → FrozenTree) → (A → Type 0) → List Name
+    → List (Option FrozenTree) → Option (Option Name) → Type 0
 IsCalled value Is names globals given =
     (x : Name) × (given ≡ Some (Some x)) × IsFirstName value Is names globals x
 
--- the path and the number of a module; the names of its top level, and the values of its globals; what it made
-module _ (path : Path) (n : ℕ) (names : List Name) (globals : List (Option FrozenTree)) (made : Made) where
+-- the path and the number of a module; the names of its top level, and the values of its globals;
+-- what it made
+module _ (path : Path) (n : ℕ) (names : List Name) (globals : List (Option FrozenTree))
+    (made : Made) where
+  -- the names that the module's globals give to what it made
   abbrev given_names : Naming
   given_names = naming_of path n names globals made
 
@@ -74,8 +81,10 @@ module _ (path : Path) (n : ℕ) (names : List Name) (globals : List (Option Fro
   -- where each is the value of a global, everything has a name
   abbrev pub EverythingIsNamed : Type 0
   EverythingIsNamed =
-      ((i : ℕ) → i < made.providers → (x : Name) × IsFirstName provider_value (IsProvider n i) names globals x)
-      → ((i : ℕ) → i < length made.rules → (x : Name) × IsFirstName rule_value (IsRule n i) names globals x)
+      ((i : ℕ) → i < made.providers
+      → (x : Name) × IsFirstName provider_value (IsProvider n i) names globals x)
+      → ((i : ℕ) → i < length made.rules
+      → (x : Name) × IsFirstName rule_value (IsRule n i) names globals x)
       → all_named given_names ≡ true
 
 -- No name is that of two: of two providers, of two rules, or of a provider and a rule.
@@ -93,7 +102,8 @@ pub record NamesAreOwn (ns : Naming) : Type 0 where
 abbrev pub exported : Path → Name → Exported
 exported path x = record { path = path; name = export.Global x }
 
--- Each provider and each rule that it made is the value of the global that it is called by, and of no global before it.
+-- Each provider and each rule that it made is the value of the global that it is called by, and of
+-- no global before it.
 pub record MadeIsCalled (path : Path) (n : ℕ) (m : Module) : Type 0 where
   pub providers : (i : ℕ) → i < m.made.providers
       → (x : Name) × (f : IsFirstName provider_value (IsProvider n i) m.names m.globals x)

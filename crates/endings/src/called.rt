@@ -2,7 +2,8 @@
 ghost use Rattle.std.specs.Prelude.{◌≡◌, IfOk, Some, option_copied, slice_get, unwrap_or};
 ghost use Rattle.values.specs.Tree.{leaf};
 ghost use Rattle.evaluation.specs.Evaluated.{held};
-ghost use Rattle.evaluation.specs.Naming.{exported_as, leaf_named, provider_named, rule_named, with_provider_name, with_rule_name};
+ghost use Rattle.evaluation.specs.Naming.{exported_as, leaf_named, provider_named, rule_named};
+ghost use Rattle.evaluation.specs.Naming.{with_provider_name, with_rule_name};
 
 use crate::naming::Naming;
 use plain::{Shared, Text};
@@ -81,7 +82,8 @@ impl Naming {
         alloc: Global,
         provider: &Shared<Provider>,
     ) -> Result<Option<Shared<Provider>>, AllocError>
-        ensures { IfOk result (λ o. unwrap_or o provider.now ≡ provider_named self.now provider.now) }
+        ensures { IfOk result
+            (λ o. unwrap_or o provider.now ≡ provider_named self.now provider.now) }
     {
         let Some(id) = provider.get().id else {
             return Ok(None);

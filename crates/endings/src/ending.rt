@@ -98,13 +98,13 @@ fn not_frozen(path: &Text, kind: Kind) -> Result<Ending<Kind>, AllocError>
     }))
 }
 
-/// What the module of a path comes to whose top level, of these names, ended in this state and made this: its globals
-/// and its defaults are frozen, and what it made gets its names.
+/// What the module of a path comes to whose top level, of these names, ended in this state and made
+/// this: its globals and its defaults are frozen, and what it made gets its names.
 ///
 /// # Errors
 ///
-/// `AllocError` where memory was refused. The answer is an [`Ending`] where freezing has a fault, or where no global
-/// names a provider or a rule that the module made.
+/// `AllocError` where memory was refused. The answer is an [`Ending`] where freezing has a fault,
+/// or where no global names a provider or a rule that the module made.
 pub fn end_module(
     alloc: Global,
     path: &Text,

@@ -1,5 +1,6 @@
 //! What a module hands on, under the names that were given.
-ghost use Rattle.std.specs.Prelude.{◌≡◌, ◌<◌, ◌++◌, ◌∷◌, [], IfOk, OnOk, Some, length, map, slice_get};
+ghost use Rattle.std.specs.Prelude.{◌≡◌, ◌<◌, ◌++◌, ◌∷◌, [], IfOk, OnOk, Some, length, map};
+ghost use Rattle.std.specs.Prelude.{slice_get};
 ghost use Rattle.values.specs.Shape.{value_of};
 ghost use Rattle.evaluation.specs.Naming.{named, slot_named};
 

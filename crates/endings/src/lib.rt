@@ -1,7 +1,9 @@
-//! How the evaluation of a module ends: its globals and defaults are frozen, and what it made gets its names.
+//! How the evaluation of a module ends: its globals and defaults are frozen, and what it made gets
+//! its names.
 //!
-//! What a module made is told apart by numbers, and is called by the names of its globals. `specs/Called` says how both agree, and the
-//! contract of [`numbers_and_names_agree`] that they do.
+//! What a module made is told apart by numbers, and is called by the names of its globals.
+//! `specs/Called` says how both agree, and the contract of [`numbers_and_names_agree`] that they
+//! do.
 #![tactic(auto)]
 
 mod called;

@@ -1,7 +1,9 @@
 //! The names that globals give to what their module made.
-ghost use Rattle.std.specs.Prelude.{◌≡◌, ◌<◌, IfOk, OnOk, is_some, None, Some, length, replicate, slice_get};
+ghost use Rattle.std.specs.Prelude.{◌≡◌, ◌<◌, IfOk, OnOk, is_some, None, Some, length, replicate};
+ghost use Rattle.std.specs.Prelude.{slice_get};
 ghost use Rattle.std.specs.List.{list_all};
-ghost use Rattle.evaluation.specs.Naming.{unnamed, given_once, leaf_given, global_given, names_given, all_named};
+ghost use Rattle.evaluation.specs.Naming.{unnamed, given_once, leaf_given, global_given};
+ghost use Rattle.evaluation.specs.Naming.{names_given, all_named};
 
 use evaluation::{Made, TopNames};
 use plain::Text;

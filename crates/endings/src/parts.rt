@@ -1,5 +1,7 @@
 //! The parts of frozen values, of which some are new.
-ghost use Rattle.std.specs.Prelude.{◌≡◌, ◌<◌, ◌≤◌, ◌++◌, ◌∷◌, ◌||◌, [], IfOk, OnOk, Some, None, is_some, length, min, slice_get, take, unwrap_or, if◌then◌else◌};
+ghost use Rattle.std.specs.Prelude.{◌≡◌, ◌<◌, ◌≤◌, ◌++◌, ◌∷◌, ◌||◌, [], IfOk, OnOk, Some, None};
+ghost use Rattle.std.specs.Prelude.{is_some, length, min, slice_get, take, unwrap_or};
+ghost use Rattle.std.specs.Prelude.{if◌then◌else◌};
 ghost use Rattle.values.specs.Tree.{dict, instance, list, pairs, slots, trees, tuple};
 ghost use Rattle.evaluation.specs.Evaluated.{first_of};
 
@@ -143,7 +145,8 @@ fn is_new(maker: &Option<Shared<Provider>>, parts: &Parts<Option<Frozen>>) -> bo
     maker.is_some() || parts.changed
 }
 
-/// An instance of a provider, or of the new one in its place, with new parts, if anything of it is new.
+/// An instance of a provider, or of the new one in its place, with new parts, if anything of it is
+/// new.
 pub(crate) fn new_instance(
     alloc: Global,
     provider: &Shared<Provider>,

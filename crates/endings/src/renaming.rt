@@ -1,8 +1,9 @@
 //! Frozen values, with what they hold under the names that it was given.
 //!
-//! What holds nothing that got a name stays the same node, of which another name is kept. A value is at most as deep
-//! as what can be frozen.
-ghost use Rattle.std.specs.Prelude.{◌≡◌, ◌<◌, IfOk, Some, false, length, map, option_map, slice_get, unwrap_or};
+//! What holds nothing that got a name stays the same node, of which another name is kept. A value
+//! is at most as deep as what can be frozen.
+ghost use Rattle.std.specs.Prelude.{◌≡◌, ◌<◌, IfOk, Some, false, length, map, option_map};
+ghost use Rattle.std.specs.Prelude.{slice_get, unwrap_or};
 ghost use Rattle.values.specs.Tree.{branch};
 ghost use Rattle.values.specs.View.{node_branch};
 ghost use Rattle.evaluation.specs.Evaluated.{first_of};

@@ -5,5 +5,6 @@ use Rattle.leaves.specs.LeafCodes.{leaf_code, key_code, provider_code}
 use Rattle.values.specs.Tree.{coded_tree}
 use Rattle.values.specs.View.{FrozenTree}
 
+-- by number, with None where a global isn't bound
 abbrev pub globals_code : Coded (List (Option FrozenTree))
 globals_code = coded_list (coded_option (coded_tree leaf_code key_code provider_code))

@@ -1,8 +1,10 @@
--- The names of providers and rules (that each is a global of its module is this project's own; docs/PROFILE.md, "Names
--- of providers and rules").
-use Rattle.std.specs.Prelude.{ℕ, Bool, true, false, ◌&&◌, nat_eq, List, [], ◌∷◌, length, replicate, Option, Some, None, is_some, slice_get, slice_set, if◌then◌else◌}
+-- The names of providers and rules (that each is a global of its module is this project's own;
+-- docs/PROFILE.md, "Names of providers and rules").
+use Rattle.std.specs.Prelude.{ℕ, Bool, true, false, ◌&&◌, nat_eq, List, [], ◌∷◌, length, replicate}
+use Rattle.std.specs.Prelude.{Option, Some, None, is_some, slice_get, slice_set, if◌then◌else◌}
 use Rattle.std.specs.List.{list_all}
-use Rattle.values.specs.Tree.{Trees, Pairs, Slots, key, leaf, branch, list, tuple, dict, instance, none, more, stop, pair, end, missing, given}
+use Rattle.values.specs.Tree.{Trees, Pairs, Slots, key, leaf, branch, list, tuple, dict, instance}
+use Rattle.values.specs.Tree.{none, more, stop, pair, end, missing, given}
 use Rattle.values.specs.View.{FrozenTree, FrozenBranch}
 use Rattle.keys.specs.declared.key.Key.{Key}
 use Rattle.leaves.specs.declared.leaf.Leaf.{Leaf}
@@ -17,8 +19,8 @@ use Rattle.loading.specs.Loads.{Path, Name}
 use Rattle.evaluation.specs.Evaluated.{held}
 use Rattle.evaluation.specs.declared.made.Made.{Made}
 
--- The names that the module of a path and a number gives, by the numbers of the providers and of the rules that it
--- made.
+-- The names that the module of a path and a number gives, by the numbers of the providers and of
+-- the rules that it made.
 pub record Naming : Type 0 where
   pub path : Path
   pub file : ℕ
@@ -37,6 +39,7 @@ unnamed path file made =
 
 -- ---- names are given by globals
 
+-- whether this is among what the module made, and has no name yet
 abbrev pub is_unnamed : Option (Option Name) → Bool
 is_unnamed (Some None) = true
 is_unnamed _ = false
@@ -45,10 +48,13 @@ is_unnamed _ = false
 abbrev pub given_once : ℕ → Name → List (Option Name) → List (Option Name)
 given_once n x names = if is_unnamed (slice_get names n) then slice_set names n (Some x) else names
 
+-- a name for a provider, for a rule, or for any value, unless it isn't this module's or has a name;
+-- `DefaultInfo` gets none
 abbrev pub provider_given : Naming → Name → Option MadeId → Naming
 provider_given ns x None = ns
 provider_given ns x (Some id) =
-    if nat_eq id.«module» ns.file then record ns { providers = given_once id.number x ns.providers } else ns
+    if nat_eq id.«module» ns.file then record ns { providers = given_once id.number x ns.providers }
+    else ns
 
 abbrev pub rule_given : Naming → Name → MadeId → Naming
 rule_given ns x id =
@@ -76,9 +82,11 @@ all_named ns = list_all is_some ns.providers && list_all is_some ns.rules
 
 -- ---- what has a name is called by it, and by the module's path
 module _ (ns : Naming) where
+  -- a name of the module, as a value tells it: with the module's path
   abbrev pub exported_as : Name → Exported
   exported_as x = record { path = ns.path; name = export.Global x }
 
+  -- a provider or a rule by the name that it got, if it got one
   abbrev pub with_provider_name : Provider → Option Name → Provider
   with_provider_name p None = p
   with_provider_name p (Some x) = record p { name = provider.Exported (exported_as x) }
@@ -87,26 +95,33 @@ module _ (ns : Naming) where
   with_rule_name r None = r
   with_rule_name r (Some x) = record r { name = exported_as x }
 
+  -- a provider by its name, if this module made it; `DefaultInfo` keeps its own
   abbrev pub provider_made_by : Provider → Option MadeId → Provider
   provider_made_by p None = p
   provider_made_by p (Some id) =
-      if nat_eq id.«module» ns.file then with_provider_name p (held (slice_get ns.providers id.number)) else p
+      if nat_eq id.«module» ns.file
+      then with_provider_name p (held (slice_get ns.providers id.number))
+      else p
 
   -- a provider or a rule of another module keeps its name
   abbrev pub provider_named : Provider → Provider
   provider_named p = provider_made_by p p.id
 
+  -- the same, of a rule
   abbrev pub rule_named : RuleRef → RuleRef
   rule_named r =
-      if nat_eq r.id.«module» ns.file then with_rule_name r (held (slice_get ns.rules r.id.number)) else r
+      if nat_eq r.id.«module» ns.file then with_rule_name r (held (slice_get ns.rules r.id.number))
+      else r
 
   -- ---- wherever they stand in values
 
+  -- the same, of any value without parts
   abbrev pub leaf_named : Leaf → Leaf
   leaf_named (plain.Provider p) = plain.Provider (provider_named p)
   leaf_named (plain.Rule r) = plain.Rule (rule_named r)
   leaf_named l = l
 
+  -- a frozen value with this done to all providers and rules in it, whatever it is made of
   abbrev mutual
     pub named : FrozenTree → FrozenTree
     named (key k) = key k
@@ -132,6 +147,7 @@ module _ (ns : Naming) where
     slots_named (missing ss) = missing (slots_named ss)
     slots_named (given t ss) = given (named t) (slots_named ss)
 
+  -- the same, of a global, which may be unbound
   abbrev pub slot_named : Option FrozenTree → Option FrozenTree
   slot_named None = None
   slot_named (Some t) = Some (named t)

@@ -1,7 +1,9 @@
--- What the evaluation of one file, and the call of one implementation, come to: the meaning of the code over the
--- operations of the language, and what is frozen, named and handed on at the end (Starlark specification, "Module
--- execution"; Bazel documentation, "Rules", "Implementation function").
-use Rattle.std.specs.Prelude.{ℕ, List, [], ◌∷◌, map, length, replicate, Option, None, Result, Ok, Err, slice_get, unwrap_or, if◌then◌else◌}
+-- What the evaluation of one file, and the call of one implementation, come to: the meaning of the
+-- code over the operations of the language, and what is frozen, named and handed on at the end
+-- (Starlark specification, "Module execution"; Bazel documentation, "Rules", "Implementation
+-- function").
+use Rattle.std.specs.Prelude.{ℕ, List, [], ◌∷◌, map, length, replicate, Option, None, Result, Ok}
+use Rattle.std.specs.Prelude.{Err, slice_get, unwrap_or, if◌then◌else◌}
 use Rattle.actions.specs.declared.action.Action.{Action}
 use Rattle.depsets.specs.declared.element.FileRef.{FileRef}
 use Rattle.program_tree.specs.Resolved.{Program, no_steps}
@@ -39,8 +41,8 @@ use Rattle.evaluation.specs.Naming.{Naming, unnamed, names_given, all_named, nam
 use Rattle.evaluation.specs.declared.made.Made.{Made}
 use Rattle.evaluation.specs.Worlds.{path_at, world}
 
--- ---- What each place brings: its calls, fields and methods, with the modules that are known; its work at the beginning;
--- and how what was done is read off its work.
+-- ---- What each place brings: its calls, fields and methods, with the modules that are known; its
+-- work at the beginning; and how what was done is read off its work.
 
 -- of a module: what it made
 pub record OfModule (W : Type 0) : Type 0 where
@@ -54,15 +56,16 @@ pub record OfBuild (W : Type 0) : Type 0 where
   pub first : Path → W
   pub declared : W → List Target
 
--- of an implementation, for the target of a label, with the outcomes of its dependencies: the Files that it declared
--- and the actions that it registered, both in order
+-- of an implementation, for the target of a label, with the outcomes of its dependencies: the Files
+-- that it declared and the actions that it registered, both in order
 pub record OfTarget (W : Type 0) : Type 0 where
   pub place : Known → LabelParts → Target → List Dependency → Place W
   pub first : W
   pub files : W → List FileRef
   pub actions : W → List Action
 
--- ---- The state before anything was done: of a file, no name of its top level is bound, and no function has defaults.
+-- ---- The state before anything was done: of a file, no name of its top level is bound, and no
+-- function has defaults.
 
 -- the program of a file without names and statements
 abbrev pub no_program : Program
@@ -86,8 +89,8 @@ state_of_file limit path n p =
       defaults = replicate (length (functions p)) [];
     }
 
--- A target has no names and no functions of its own. Its number is one that no file has, so that all names and all
--- defaults are those of modules.
+-- A target has no names and no functions of its own. Its number is one that no file has, so that
+-- all names and all defaults are those of modules.
 abbrev pub state_of_target : ℕ → LabelParts → ℕ → State
 state_of_target limit l files =
     record {
@@ -104,11 +107,13 @@ state_of_target limit l files =
 -- ---- What is frozen when a module's top level has ended.
 
 -- the globals, in the order in which they were bound
-abbrev pub frozen_globals : List Cell → List (Option Value) → Count → Ticking (List (Option FrozenTree))
+abbrev pub frozen_globals : List Cell → List (Option Value) → Count
+    → Ticking (List (Option FrozenTree))
 frozen_globals h globals c = all_of (frozen_slot (freeze_at VISITED_LEVELS h)) globals c
 
 -- the defaults, by function and by parameter, both in the order of the text
-abbrev pub frozen_defaults : List Cell → List (List Value) → Count → Ticking (List (List FrozenTree))
+abbrev pub frozen_defaults : List Cell → List (List Value) → Count
+    → Ticking (List (List FrozenTree))
 frozen_defaults h defaults c = all_of (all_of (freeze_at VISITED_LEVELS h)) defaults c
 
 -- first all globals, then all defaults, with the ticks of the evaluation
@@ -137,21 +142,22 @@ module_named ns names gs loaded ds made =
     }
 
 -- what a module is, if everything that it made has a name
-abbrev pub if_named : Naming → List Name → List (Option FrozenTree) → List (Option Value) → List (List FrozenTree) →
-    Made → Result Module (Ending Kind)
+abbrev pub if_named : Naming → List Name → List (Option FrozenTree) → List (Option Value)
+    → List (List FrozenTree) → Made → Result Module (Ending Kind)
 if_named ns names gs loaded ds made =
     if all_named ns then Ok (module_named ns names gs loaded ds made) else Err Unnamed
 
 -- the module, if freezing ended without a fault; such a fault stands at line 0
 abbrev pub module_of_frozen : Path → ℕ → List Name → List (Option Value) → Made →
     Ticking (List (Option FrozenTree) × List (List FrozenTree)) → Result Module (Ending Kind)
-module_of_frozen path n names loaded made (Err k) = Err (Faulted (record { kind = k; path = path; line = 0 }))
+module_of_frozen path n names loaded made (Err k) =
+    Err (Faulted (record { kind = k; path = path; line = 0 }))
 module_of_frozen path n names loaded made (Ok r) =
     if_named (naming_of path n names r.0.0 made) names r.0.0 loaded r.0.1 made
 
--- What a module comes to whose top level ended in this state, and made this: its globals and its defaults are frozen,
--- and what it made gets its names. The first that applies: the fault of freezing, at line 0; a provider or a rule that
--- no global names.
+-- What a module comes to whose top level ended in this state, and made this: its globals and its
+-- defaults are frozen, and what it made gets its names. The first that applies: the fault of
+-- freezing, at line 0; a provider or a rule that no global names.
 abbrev pub module_ended : Path → ℕ → List Name → State → Made → Result Module (Ending Kind)
 module_ended path n names s made =
     module_of_frozen path n names s.loaded made (all_frozen s.heap s.globals s.defaults s.ticks)
@@ -169,7 +175,8 @@ module _ (limit : ℕ) (files : Files) (paths : List Path) where
     module_after path n (Ok r) =
         module_ended path n (program_at files n).globals r.1.state (own.made r.1.work)
 
-    -- The module of this path and number: the fault of its top level, or what the module comes to once that has ended.
+    -- The module of this path and number: the fault of its top level, or what the module comes to
+    -- once that has ended.
     abbrev pub run_module : Known → Path → ℕ → Result Module (Ending Kind)
     run_module known path n =
         module_after path n
@@ -182,8 +189,8 @@ module _ (limit : ℕ) (files : Files) (paths : List Path) where
     targets_after (Err f) = Err (placed f)
     targets_after (Ok r) = Ok (own.declared r.1.work)
 
-    -- The BUILD file of this path and number: the targets that its top level declares, or its fault. Nothing is frozen
-    -- at its end.
+    -- The BUILD file of this path and number: the targets that its top level declares, or its
+    -- fault. Nothing is frozen at its end.
     abbrev pub run_build : Known → Path → ℕ → Result (List Target) (Placed Kind)
     run_build known path n =
         targets_after
@@ -205,12 +212,15 @@ module _ (limit : ℕ) (files : Files) (paths : List Path) where
         }
 
     -- what an implementation gives, by its frozen result; a fault of freezing stands at the `def`
-    abbrev pub implemented_with : FunctionRef → W → Ticking FrozenTree → Result outcome.Implemented outcome.Fault
+    abbrev pub implemented_with : FunctionRef → W → Ticking FrozenTree
+        → Result outcome.Implemented outcome.Fault
     implemented_with f w (Err k) = Err (at_def f k)
-    implemented_with f w (Ok r) = Ok (record { result = r.0; files = own.files w; actions = own.actions w })
+    implemented_with f w (Ok r) =
+        Ok (record { result = r.0; files = own.files w; actions = own.actions w })
 
     -- what an implementation gives once its call has ended: its result is frozen
-    abbrev pub target_after : FunctionRef → Final (Whole W) Value Kind → Result outcome.Implemented outcome.Fault
+    abbrev pub target_after : FunctionRef → Final (Whole W) Value Kind
+        → Result outcome.Implemented outcome.Fault
     target_after f (Err e) = Err (fault_placed (placed e))
     target_after f (Ok r) =
         implemented_with f r.1.work (freeze_at VISITED_LEVELS r.1.state.heap r.0 r.1.state.ticks)
@@ -219,8 +229,8 @@ module _ (limit : ℕ) (files : Files) (paths : List Path) where
     abbrev pub with_context : Arguments Value
     with_context = record { items = value.Leaf (plain.Object object.Context) ∷ []; named = [] }
 
-    -- The call of the implementation of a target's rule, with `ctx` alone: its result, frozen, with the Files and the
-    -- actions. A fault of the call itself, and of freezing, stands at the `def`.
+    -- The call of the implementation of a target's rule, with `ctx` alone: its result, frozen, with
+    -- the Files and the actions. A fault of the call itself, and of freezing, stands at the `def`.
     abbrev pub run_implementation : Known → LabelParts → Target → List Dependency →
         Result outcome.Implemented outcome.Fault
     run_implementation known l t ds =

@@ -1,5 +1,6 @@
 -- The files of a workspace, as they are read and evaluated.
-use Rattle.std.specs.Prelude.{ℕ, Bool, ◌||◌, List, [], ◌∷◌, map, length, unwrap_or, position, bytes_eq, Result, Ok, Err, if◌then◌else◌}
+use Rattle.std.specs.Prelude.{ℕ, Bool, ◌||◌, List, [], ◌∷◌, map, length, unwrap_or, position}
+use Rattle.std.specs.Prelude.{bytes_eq, Result, Ok, Err, if◌then◌else◌}
 use Rattle.std.specs.List.{filter}
 use Rattle.std.specs.Map.{lookup}
 use Rattle.lexer.specs.declared.fault.FaultKind.{FaultKind}
@@ -24,8 +25,10 @@ use Rattle.loading.specs.declared.faults.Placed.{Placed}
 
 -- ---- load statements
 
+-- a statement's load before those of later lines, if the statement is a load
 abbrev pub with_load : Path → ℕ → Statement → List Load → List Load
-with_load path n (load t is) ls = record { line = n; target = load_path path t; asked = map (λ i. i.asked) is } ∷ ls
+with_load path n (load t is) ls =
+    record { line = n; target = load_path path t; asked = map (λ i. i.asked) is } ∷ ls
 with_load path n _ ls = ls
 
 -- those of a file of this path, in order
@@ -39,17 +42,21 @@ loads_in path (step n st ss) = with_load path n st (loads_in path ss)
 abbrev pub is_starlark : Path → Bool
 is_starlark path = is_build_file path || is_module path
 
+-- by which rules a file is read: those of modules or those of BUILD files
 abbrev pub kind_of : Path → FileKind
 kind_of path = if is_module path then kind.Module else kind.Build
 
+-- the program of a text, its names resolved, or the syntax fault
 abbrev pub as_program : Result Block SyntaxFault → Result Program SyntaxFault
 as_program (Ok tree) = Ok (resolved (bare_lines tree))
 as_program (Err f) = Err f
 
 -- the file that a text is, at this path
 abbrev pub parsed : Path → List ℕ → Result Program SyntaxFault
-parsed path text = if is_starlark path then as_program (syntax text (kind_of path)) else Ok no_program
+parsed path text =
+    if is_starlark path then as_program (syntax text (kind_of path)) else Ok no_program
 
+-- the program that is linked, which is empty where there is a syntax fault
 abbrev pub code_of_parsed : Result Program SyntaxFault → Program
 code_of_parsed (Ok p) = p
 code_of_parsed (Err f) = no_program
@@ -65,6 +72,7 @@ read_as path n (Err f) = Err (f.kind, f.line)
 
 -- the files of a workspace in the order of their paths, by which they are numbered
 module _ (files : List Pair) where
+  -- the number of a file, which is its place; a path that no file has gets the count of files
   abbrev pub number_of : Path → ℕ
   number_of path = unwrap_or (position (bytes_eq path) (paths_of files)) (length files)
 
@@ -72,9 +80,11 @@ module _ (files : List Pair) where
   abbrev pub text_at : Path → List ℕ
   text_at path = unwrap_or (lookup (bytes_eq path) files) []
 
+  -- what loading reads of the file at a path: its loads, or its syntax fault with the line
   abbrev pub read_file : Path → Result (Read ℕ) (FaultKind × ℕ)
   read_file path = read_as path (number_of path) (parsed path (text_at path))
 
+  -- the programs of all files, by number: the code that every evaluation runs
   abbrev pub linked_files : Files
   linked_files = map linked_file files
 
@@ -91,5 +101,6 @@ module _ (files : List Pair) where
         }
 
     -- the targets of a BUILD file, with the modules that are known
-    abbrev pub targets_of : {W : Type 0} → OfBuild W → Known → Path → ℕ → Result (List Target) (Placed Kind)
+    abbrev pub targets_of : {W : Type 0} → OfBuild W → Known → Path → ℕ
+        → Result (List Target) (Placed Kind)
     targets_of own = run_build limit linked_files (paths_of files) own

@@ -3,7 +3,8 @@ ghost use Rattle.std.specs.Prelude.{◌≡◌, bytes_eq, option_and_then, slice_
 ghost use Rattle.std.specs.List.{list_any};
 ghost use Rattle.values.specs.Seeing.{option_value};
 ghost use Rattle.operations.specs.Names.{listed};
-ghost use Rattle.evaluation.specs.Evaluated.{frozen_value, global_names, global_named, held, name_value};
+ghost use Rattle.evaluation.specs.Evaluated.{frozen_value, global_names, global_named, held};
+ghost use Rattle.evaluation.specs.Evaluated.{name_value};
 
 use crate::made::Made;
 use crate::names::TopNames;

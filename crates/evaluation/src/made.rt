@@ -3,7 +3,8 @@
 use plain::Shared;
 use targets::{Attribute, Rule, Sequence};
 
-/// What calls of `provider`, `rule` and `attr` made while a module was evaluated, each by the number in its value.
+/// What calls of `provider`, `rule` and `attr` made while a module was evaluated, each by the
+/// number in its value.
 #[derive(Drop)]
 pub struct Made {
     /// How many providers. Their fields stand in their values.

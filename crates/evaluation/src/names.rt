@@ -1,12 +1,13 @@
 //! The names of the top level of a file.
-ghost use Rattle.std.specs.Prelude.{◌≡◌, length, position, bytes_eq, MatchOption, slice_get, Some, None};
+ghost use Rattle.std.specs.Prelude.{◌≡◌, length, position, bytes_eq, MatchOption, slice_get, Some};
+ghost use Rattle.std.specs.Prelude.{None};
 
 use indexmap::IndexSet;
 use plain::Text;
 use std::marker::Model;
 
-/// The names that the top level of a file binds, by number: first those that its loads bind, then its globals, each
-/// in the order of the text.
+/// The names that the top level of a file binds, by number: first those that its loads bind, then
+/// its globals, each in the order of the text.
 #[derive(Drop)]
 pub struct TopNames {
     names: IndexSet<Text>,

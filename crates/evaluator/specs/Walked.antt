@@ -14,24 +14,31 @@ use Rattle.evaluator.specs.declared.left.KeysLeft.{KeysLeft}
 use Rattle.evaluator.specs.declared.left.Left.{Left}
 use Rattle.evaluator.specs.declared.left.Left.TheVariants as left
 
+-- the keys of entries that are lent, as values, in order of insertion
 abbrev pub table_keys : Table → List Value
 table_keys t = keys_as_values (table_entries t)
 
+-- the items that are left of a list or tuple of the heap
 abbrev pub held_items_seen : HeldItemsLeft → List Value
 held_items_seen l = drop l.place l.items
 
+-- the keys that are left of a dict of the heap
 abbrev pub held_keys_seen : HeldKeysLeft → List Value
 held_keys_seen l = drop l.place (keys_as_values l.entries)
 
+-- what is left of a frozen value that the walk holds a share of
 abbrev pub frozen_seen : FrozenLeft → List Value
 frozen_seen l = drop l.place (walked_items (branch_shape l.branch))
 
+-- the items that are left of a list or tuple that is lent
 abbrev pub items_seen : ItemsLeft → List Value
 items_seen l = drop l.place (group_items l.items)
 
+-- the keys that are left of a dict that is lent
 abbrev pub keys_seen : KeysLeft → List Value
 keys_seen l = drop l.place (table_keys l.entries)
 
+-- what a `for` loop or a comprehension has still to go over, in order
 abbrev pub left_seen : Left → List Value
 left_seen (left.HeldItems l) = held_items_seen l
 left_seen (left.HeldKeys l) = held_keys_seen l

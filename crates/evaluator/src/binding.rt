@@ -1,10 +1,12 @@
 //! Names of top levels, what loads ask for, and what a `def` makes.
-ghost use Rattle.std.specs.Prelude.{◌≡◌, Ok, Err, Some, None, MatchResult, IfOk, option_copied, nat_eq};
+ghost use Rattle.std.specs.Prelude.{◌≡◌, Ok, Err, Some, None, MatchResult, IfOk, option_copied};
+ghost use Rattle.std.specs.Prelude.{nat_eq};
 ghost use Rattle.ticks.specs.Ticking.{FaultOr};
 ghost use Rattle.values.specs.Seeing.{option_value};
 ghost use Rattle.operations.specs.States.{Gives};
 ghost use Rattle.operations.specs.Items.{or_fault};
-ghost use Rattle.operations.specs.Names.{global, set_global, set_loaded, load, define, defaults, listed, name_value};
+ghost use Rattle.operations.specs.Names.{global, set_global, set_loaded, load, define, defaults};
+ghost use Rattle.operations.specs.Names.{listed, name_value};
 ghost use Rattle.language.specs.Place.{of_state};
 ghost use Rattle.language.specs.Language.{made_id};
 ghost use Rattle.frames.specs.Answers.{Says, id_seen};
@@ -122,8 +124,8 @@ pub(crate) fn load<'a, L: Link<'a>, W>(
     }
 }
 
-/// The function that a `def` makes, with the values of its defaults, of which the first is at the top. A number that is
-/// too large for a value is answered as want of memory.
+/// The function that a `def` makes, with the values of its defaults, of which the first is at the
+/// top. A number that is too large for a value is answered as want of memory.
 pub(crate) fn define<W>(
     alloc: Global,
     whole: &mut Whole<W>,

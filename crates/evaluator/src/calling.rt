@@ -4,7 +4,8 @@ ghost use Rattle.ticks.specs.Ticking.{FaultOr};
 ghost use Rattle.values.specs.Seeing.{item_value};
 ghost use Rattle.leaves.specs.declared.leaf.Leaf.{Leaf as Plain};
 ghost use Rattle.operations.specs.Arguments.{given};
-ghost use Rattle.language.specs.Language.{call_of, value_call, leaf_call, leaf_of, or_place, given_of};
+ghost use Rattle.language.specs.Language.{call_of, value_call, leaf_call, leaf_of, or_place};
+ghost use Rattle.language.specs.Language.{given_of};
 ghost use Rattle.language.specs.Language.{method_or_place, place_method, of_place};
 ghost use Rattle.operations.specs.Calls.{built_in_call};
 ghost use Rattle.operations.specs.Fields.{shape_method};
@@ -24,8 +25,9 @@ use plain::Text;
 use std::mem::replace;
 use values::{Broken, BuiltIn, Item, Kind, Leaf, Value};
 
-/// A call of what isn't written in Starlark: its values by position, of which the first is at the top, and those by name
-/// with their names. They are left where they were, in another order, so that their memory serves again.
+/// A call of what isn't written in Starlark: its values by position, of which the first is at the
+/// top, and those by name with their names. They are left where they were, in another order, so
+/// that their memory serves again.
 #[inline(always)]
 pub(crate) fn call<'a, L: Link<'a>, P: Place<'a>>(
     world: &World<'_, L, P>,

@@ -15,8 +15,8 @@ use operands::Operand;
 use places::{Link, Place};
 use values::{Broken, Leaf};
 
-/// What `owner.name` is where it is called: of a target or an object its place's. The owner of a method is moved, and its
-/// name lies in the code.
+/// What `owner.name` is where it is called: of a target or an object its place's. The owner of a
+/// method is moved, and its name lies in the code.
 pub(crate) fn find<'a, L: Link<'a>, P: Place<'a>>(
     world: &World<'_, L, P>,
     whole: &Whole<P::Work>,

@@ -1,4 +1,5 @@
-//! What a file writes out and what the machine names, as values and kinds: numbers, functions, refusals.
+//! What a file writes out and what the machine names, as values and kinds: numbers, functions,
+//! refusals.
 ghost use Rattle.std.specs.Prelude.{◌≡◌, pos, Some, None, IfOk, IfSome, option_map};
 ghost use Rattle.values.specs.Seeing.{item_value};
 ghost use Rattle.operations.specs.Making.{number};
@@ -11,7 +12,8 @@ use language_calls::leaf_of;
 use std::alloc::AllocError;
 use values::{Item, Key, Kind, Leaf, MadeId, Value};
 
-/// A number that a file writes out. One from 2^63 on, which no text that is read has, is answered as want of memory.
+/// A number that a file writes out. One from 2^63 on, which no text that is read has, is answered
+/// as want of memory.
 pub(crate) fn number_value(written: u64) -> Result<Value, AllocError>
     ensures { IfOk result (λ v. v ≡ number (pos written)) }
 {
@@ -21,7 +23,8 @@ pub(crate) fn number_value(written: u64) -> Result<Value, AllocError>
     }
 }
 
-/// The numbers of a function, as a value keeps them; None where they are too large for one, which no function's are.
+/// The numbers of a function, as a value keeps them; None where they are too large for one, which
+/// no function's are.
 pub(crate) fn made_id(function: FunctionId) -> Option<MadeId>
     ensures { IfSome result (λ id. id ≡ made_id (id_seen function)) }
 {

@@ -1,17 +1,20 @@
 //! What walks have left.
-ghost use Rattle.std.specs.Prelude.{◌≡◌, ◌+◌, ◌<◌, ◌^◌, ◌∷◌, [], drop, map, IfOk, MatchOption, Some};
+ghost use Rattle.std.specs.Prelude.{◌≡◌, ◌+◌, ◌<◌, ◌^◌, ◌∷◌, [], drop, map, IfOk, MatchOption};
+ghost use Rattle.std.specs.Prelude.{Some};
 ghost use Rattle.values.specs.Seeing.{seen, item_value, group_items, table_entries};
 ghost use Rattle.values.specs.Shape.{shape};
 ghost use Rattle.values.specs.Visits.{keys_of};
 ghost use Rattle.values.specs.Walks.{walked_items, walked_values};
-ghost use Rattle.evaluator.specs.Walked.{Gives, left_seen, frozen_seen, held_items_seen, held_keys_seen, items_seen, keys_seen, table_keys};
+ghost use Rattle.evaluator.specs.Walked.{Gives, left_seen, frozen_seen, held_items_seen};
+ghost use Rattle.evaluator.specs.Walked.{held_keys_seen, items_seen, keys_seen, table_keys};
 
 use heap::Heap;
 use operands::Operand;
 use std::alloc::AllocError;
 use values::{Branch, Group, HeldEntries, HeldItems, Item, Key, Seen, Table, Value, Walked};
 
-/// The items that a walk has left. Of a value of this evaluation it holds a share, and copies nothing.
+/// The items that a walk has left. Of a value of this evaluation it holds a share, and copies
+/// nothing.
 #[derive(Drop)]
 pub enum Left<'a> {
     /// Those of a list or tuple of the heap.
@@ -76,8 +79,8 @@ impl<'a> Left<'a> {
         }
     }
 
-    /// All that a value of this evaluation shows that is walked. What it is of the heap is shared with the walk, and the heap
-    /// stays as it was.
+    /// All that a value of this evaluation shows that is walked. What it is of the heap is shared
+    /// with the walk, and the heap stays as it was.
     ///
     /// # Errors
     ///

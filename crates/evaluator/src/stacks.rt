@@ -1,4 +1,5 @@
-//! Values that change hands: from a stack to items, and from a sequence that is unpacked to a stack.
+//! Values that change hands: from a stack to items, and from a sequence that is unpacked to a
+//! stack.
 ghost use Rattle.std.specs.Prelude.{◌≡◌, IfOk};
 ghost use Rattle.values.specs.Seeing.{group_items};
 ghost use Rattle.frames.specs.Answers.{Unpacked};
@@ -24,8 +25,8 @@ pub(crate) fn all_of(alloc: Global, stack: Stack<Operand<'_>>) -> Result<Items, 
     Ok(items)
 }
 
-/// The items of a group go onto a stack, the first one at the top, where they are so many: they are lent. Where they aren't,
-/// the stack stays as it was.
+/// The items of a group go onto a stack, the first one at the top, where they are so many: they are
+/// lent. Where they aren't, the stack stays as it was.
 ///
 /// # Errors
 ///

@@ -27,7 +27,8 @@ pub(crate) fn tick<W>(whole: &mut Whole<W>) -> Result<(), Broken>
     Ok(())
 }
 
-/// A walk over a value begins, and gives the items that it goes over. Those of what is lent stay where they are.
+/// A walk over a value begins, and gives the items that it goes over. Those of what is lent stay
+/// where they are.
 pub(crate) fn begin<'a, W>(
     whole: &mut Whole<'_, W>,
     walked: &Operand<'a>,
@@ -65,8 +66,8 @@ pub(crate) fn end<W>(whole: &mut Whole<W>, walked: Item<'_>)
     state::end(&mut whole.state, walked);
 }
 
-/// The items of a sequence that is unpacked go onto a stack, the first one at the top, where they are so many; the answer
-/// is whether they are. Those of what is lent are lent.
+/// The items of a sequence that is unpacked go onto a stack, the first one at the top, where they
+/// are so many; the answer is whether they are. Those of what is lent are lent.
 ///
 /// # Errors
 ///

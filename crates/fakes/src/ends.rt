@@ -1,5 +1,5 @@
-//! Shelves for tests: under a limit of turns, or such that give numbers more than once, lose one, or
-//! have no memory for it.
+//! Shelves for tests: under a limit of turns, or such that give numbers more than once, lose one,
+//! or have no memory for it.
 ghost use Rattle.std.specs.Prelude.{◌≡◌, length, IfOk};
 ghost use Rattle.std.specs.List.{All};
 
@@ -23,12 +23,20 @@ pub struct Watch {
 }
 
 impl Watch {
-    /// For so many nodes. `AllocError` comes where the allocator refuses memory.
+    /// For so many nodes.
+    ///
+    /// # Errors
+    ///
+    /// `AllocError` where memory was refused.
     pub fn of(alloc: Global, nodes: usize) -> Result<Watch, AllocError> {
         Watch::with_turns(alloc, nodes, TURNS)
     }
 
     /// The same, but ends give up after so many looks in a row that bring no new number.
+    ///
+    /// # Errors
+    ///
+    /// `AllocError` where memory was refused.
     pub fn with_turns(alloc: Global, nodes: usize, turns: u64) -> Result<Watch, AllocError> {
         let mut given = Vec::with_capacity(alloc, nodes)?;
         for _ in 0..nodes {
@@ -81,8 +89,8 @@ impl Gate for Watch {
 }
 
 /// An end of a shelf that is watched. Where it has no new number for so long that one must be lost,
-/// it gives up, and gives all numbers in turn: so the run ends, and the test can fail. A number that
-/// was given before is none that could be lost.
+/// it gives up, and gives all numbers in turn: so the run ends, and the test can fail. A number
+/// that was given before is none that could be lost.
 #[derive(Drop)]
 pub struct Watched<'w, S: Shelf> {
     inner: S,
@@ -150,7 +158,11 @@ fn under_watch<S: Shelf>(inner: S, nodes: usize, watch: &Watch) -> Watched<'_, S
     }
 }
 
-/// The same ends, watched. `AllocError` comes where the allocator refuses memory.
+/// The same ends, watched.
+///
+/// # Errors
+///
+/// `AllocError` where memory was refused.
 pub fn all_watched<S: Shelf>(
     alloc: Global,
     ends: Vec<S>,
@@ -221,8 +233,11 @@ fn doubled<S: Shelf>(inner: S, nodes: usize) -> Twice<S>
     }
 }
 
-/// The same ends, but each gives its numbers twice. `AllocError` comes where the allocator refuses
-/// memory.
+/// The same ends, but each gives its numbers twice.
+///
+/// # Errors
+///
+/// `AllocError` where memory was refused.
 pub fn all_twice<S: Shelf>(
     alloc: Global,
     ends: Vec<S>,
@@ -296,8 +311,11 @@ fn at_fault<S: Shelf>(inner: S, nodes: usize, at: usize, fault: Fault) -> Faulty
     }
 }
 
-/// The same ends, but with a fault at one number. `AllocError` comes where the allocator refuses
-/// memory.
+/// The same ends, but with a fault at one number.
+///
+/// # Errors
+///
+/// `AllocError` where memory was refused.
 pub fn all_faulty<S: Shelf>(
     alloc: Global,
     ends: Vec<S>,

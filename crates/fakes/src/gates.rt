@@ -63,8 +63,11 @@ pub struct Counting {
 }
 
 impl Counting {
-    /// None of so many nodes was entered or left yet. `AllocError` comes where the allocator
-    /// refuses memory.
+    /// None of so many nodes was entered or left yet.
+    ///
+    /// # Errors
+    ///
+    /// `AllocError` where memory was refused.
     pub fn of(alloc: Global, nodes: usize) -> Result<Counting, AllocError> {
         Ok(Counting {
             entered: zeros(alloc, nodes)?,

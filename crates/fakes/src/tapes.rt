@@ -1,5 +1,5 @@
-//! Devices over memory: a tape and a page that give and take a few bytes a call, and one of whose calls fails where the
-//! test wants it.
+//! Devices over memory: a tape and a page that give and take a few bytes a call, and one of whose
+//! calls fails where the test wants it.
 
 ghost use Rattle.std.specs.Prelude.{◌≡◌, [], IfOk, string_len};
 
@@ -8,6 +8,10 @@ use std::alloc::{AllocError, Global};
 use std::io;
 
 /// A text of this many bytes, all of them `x`.
+///
+/// # Errors
+///
+/// `AllocError` where memory was refused.
 pub fn long_text(alloc: Global, length: usize) -> Result<String, AllocError>
     ensures { IfOk result (λ text. string_len text ≡ length) }
 {
@@ -36,7 +40,8 @@ pub struct Tape<'a> {
 }
 
 impl Tape<'_> {
-    /// An input that gives at most `piece` bytes a call, and whose call of the number `failing`, from 0 on, fails.
+    /// An input that gives at most `piece` bytes a call, and whose call of the number `failing`,
+    /// from 0 on, fails.
     pub fn new(left: &[u8], piece: usize, failing: Option<u64>) -> Tape<'_>
         ensures { (result.left.now ≡ left.now) × (result.calls ≡ 0) }
     {
@@ -87,7 +92,8 @@ pub struct Page {
 }
 
 impl Page {
-    /// A page that takes at most `piece` bytes a call, and whose call of the number `failing`, from 0 on, fails.
+    /// A page that takes at most `piece` bytes a call, and whose call of the number `failing`, from
+    /// 0 on, fails.
     pub fn new(alloc: Global, piece: usize, failing: Option<u64>, how: Failing) -> Page
         ensures { (result.bytes.items ≡ []) × (result.calls ≡ 0) }
     {

@@ -1,10 +1,12 @@
--- The names behind a dot that built-in values know: methods and fields of lists, dicts, strings, depsets, labels, Files and
--- targets, of `attr`, and of `ctx` and its parts. (Starlark's specification, "Built-in methods"; Bazel's documentation of
--- `Label`, `File`, `Target`, `attr`, `ctx` and `actions`. That they are told apart once is this project's own.)
+-- The names behind a dot that built-in values know: methods and fields of lists, dicts, strings,
+-- depsets, labels, Files and targets, of `attr`, and of `ctx` and its parts. (Starlark's
+-- specification, "Built-in methods"; Bazel's documentation of `Label`, `File`, `Target`, `attr`,
+-- `ctx` and `actions`. That they are told apart once is this project's own.)
 use Rattle.std.specs.Prelude.{ℕ, List, [], ◌∷◌, Option, Some, None, bytes_eq, codes, if◌then◌else◌}
 use Rattle.field_names.specs.declared.known_name.KnownName.{KnownName}
 use Rattle.field_names.specs.declared.known_name.KnownName.TheVariants as name
 
+-- how a known name is written behind the dot
 abbrev pub text_of : KnownName → List ℕ
 text_of name.Actions = codes "actions"
 text_of name.Append = codes "append"
@@ -41,6 +43,7 @@ abbrev pub named_among : List KnownName → List ℕ → Option KnownName
 named_among [] x = None
 named_among (k ∷ ks) x = if bytes_eq x (text_of k) then Some k else named_among ks x
 
+-- all known names
 abbrev pub known_names : List KnownName
 known_names =
     name.Actions ∷

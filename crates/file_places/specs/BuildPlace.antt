@@ -1,5 +1,5 @@
--- What a `BUILD` file has while it runs: a call of a rule declares a target of its package; calls of `provider`, `rule` and `attr`
--- are `place` (docs/PROFILE.md, "Rules of all calls").
+-- What a `BUILD` file has while it runs: a call of a rule declares a target of its package; calls
+-- of `provider`, `rule` and `attr` are `place` (docs/PROFILE.md, "Rules of all calls").
 use Rattle.std.specs.Prelude.{Option, Some, None, Result, Ok, Err}
 use Rattle.leaves.specs.declared.leaf.AttributeKind.{AttributeKind}
 use Rattle.leaves.specs.declared.leaf.BuiltIn.{BuiltIn}
@@ -25,23 +25,26 @@ abbrev pub giving_none : Doing Declared → Result (Value × Whole Declared) Kin
 giving_none (Ok p) = Ok (none, record { state = p.1; work = p.0 })
 giving_none (Err k) = Err k
 
+-- a call of the rule of a number, where there is one: a target is declared
 abbrev pub rule_called : Option Rule → Given → Does Declared Value
 rule_called (Some r) g w = giving_none (call w.work r g w.state)
 rule_called None g w = Err fault.Wrong
 
--- `provider` and `rule` are a module's
+-- `provider` and `rule` are called by a module alone: here they are `place`
 abbrev pub refused_call : BuiltIn → Given → Does Declared Value
 refused_call built_in.Provider g w = Err fault.Place
 refused_call built_in.Rule g w = Err fault.Place
 refused_call _ g w = Err fault.Wrong
 
--- and so are the methods of `attr`
+-- and so are the methods of `attr`; a name that is none of them is `name`
 abbrev pub refused_method : Option AttributeKind → Given → Does Declared Value
 refused_method (Some k) g w = Err fault.Place
 refused_method None g w = Err fault.Name
 
 -- the rules of the modules that are linked, by numbers
 module _ (rules : MadeId → Option Rule) where
+  -- a call that the language leaves to the place: a rule declares a target, `provider` and `rule`
+  -- are refused, and what else it may be is `type`
   abbrev pub build_call : Leaf → Given → Does Declared Value
   build_call (plain.BuiltIn b) g w = refused_call b g w
   build_call (plain.Rule r) g w = rule_called (rules r.id) g w

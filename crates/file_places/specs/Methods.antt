@@ -1,6 +1,7 @@
--- The methods of `attr`, which every file finds bound (Bazel documentation, "attr"). Which of its calls are allowed is said of each
--- place.
-use Rattle.std.specs.Prelude.{ℕ, Bool, List, Option, Some, None, is_some, codes, bytes_eq, if◌then◌else◌}
+-- The methods of `attr`, which every file finds bound (Bazel documentation, "attr"). Which of its
+-- calls are allowed is said of each place.
+use Rattle.std.specs.Prelude.{ℕ, Bool, List, Option, Some, None, is_some, codes, bytes_eq}
+use Rattle.std.specs.Prelude.{if◌then◌else◌}
 use Rattle.leaves.specs.declared.leaf.AttributeKind.{AttributeKind}
 use Rattle.leaves.specs.declared.leaf.AttributeKind.TheVariants as kind
 use Rattle.leaves.specs.declared.leaf.Leaf.{Leaf}
@@ -24,5 +25,6 @@ abbrev pub declared_kind : Leaf → List ℕ → Option AttributeKind
 declared_kind (plain.Object object.Attr) x = kind_named x
 declared_kind _ x = None
 
+-- whether an object that files see has a method of this name
 abbrev pub has_method : Leaf → List ℕ → Bool
 has_method l x = is_some (declared_kind l x)

@@ -1,5 +1,5 @@
--- What a module has while its top level runs: the calls of `provider`, `rule` and `attr` declare; a call of a rule is `place`
--- (docs/PROFILE.md, "Rules of all calls").
+-- What a module has while its top level runs: the calls of `provider`, `rule` and `attr` declare; a
+-- call of a rule is `place` (docs/PROFILE.md, "Rules of all calls").
 use Rattle.std.specs.Prelude.{ℕ, List, Option, Some, None, Result, Ok, Err}
 use Rattle.leaves.specs.declared.leaf.AttributeKind.{AttributeKind}
 use Rattle.leaves.specs.declared.leaf.BuiltIn.{BuiltIn}
@@ -21,22 +21,26 @@ use Rattle.declaring.specs.RuleMaking.{new_rule}
 use Rattle.file_places.specs.Methods.{declared_kind, has_method}
 
 -- what is declared is kept beside the state, which stays
-abbrev pub declared : Whole Declarations → Result (Value × Declarations) Kind → Result (Value × Whole Declarations) Kind
+abbrev pub declared : Whole Declarations → Result (Value × Declarations) Kind
+    → Result (Value × Whole Declarations) Kind
 declared w (Ok p) = Ok (p.0, record w { work = p.1 })
 declared w (Err k) = Err k
 
--- `attr.string(..)` and its kin
+-- `attr.string(..)` and its kin: a new attribute of that kind; no such method is `name`
 abbrev pub attribute_call : Option AttributeKind → Given → Does Declarations Value
 attribute_call (Some k) g w = declared w (new_attribute k g w.state w.work)
 attribute_call None g w = Err fault.Name
 
 -- what other modules declared, by their paths and by numbers
 module _ (linked : List ℕ → ℕ → Option Attribute) where
+  -- a call of `provider` or `rule`, which declares one
   abbrev pub built_in_call : BuiltIn → Given → Does Declarations Value
   built_in_call built_in.Provider g w = declared w (new_provider g w.state w.work)
   built_in_call built_in.Rule g w = declared w (new_rule linked w.state w.work g)
   built_in_call _ g w = Err fault.Wrong
 
+  -- a call that the language leaves to the place: `provider` and `rule` declare, a call of a rule
+  -- is `place`, and what else it may be is `type`
   abbrev pub module_call : Leaf → Given → Does Declarations Value
   module_call (plain.BuiltIn b) g w = built_in_call b g w
   module_call (plain.Rule r) g w = Err fault.Place

@@ -30,10 +30,11 @@ pub trait Rules {
         ensures { option_copied result ≡ rules self.now id };
 }
 
-/// The place of a `BUILD` file, beside the modules whose rules it calls: calls of rules declare targets of its package; calls
-/// of `provider`, `rule` and the methods of `attr` are `place`.
+/// The place of a `BUILD` file, beside the modules whose rules it calls: calls of rules declare
+/// targets of its package; calls of `provider`, `rule` and the methods of `attr` are `place`.
 #[derive(Drop)]
 pub struct BuildPlace<'a, R> {
+    /// The modules whose rules it calls.
     pub linked: &'a R,
 }
 

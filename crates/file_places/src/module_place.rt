@@ -15,10 +15,11 @@ use places::{Place, Works};
 use std::alloc::Global;
 use values::{AttributeKind, Broken, BuiltIn, Item, Kind, Leaf, Value};
 
-/// The place of a module, beside those that were evaluated before: calls of `provider`, `rule` and the methods of `attr`
-/// declare; calls of rules are `place`.
+/// The place of a module, beside those that were evaluated before: calls of `provider`, `rule` and
+/// the methods of `attr` declare; calls of rules are `place`.
 #[derive(Drop)]
 pub struct ModulePlace<'a, A> {
+    /// The modules that were evaluated before.
     pub linked: &'a A,
 }
 

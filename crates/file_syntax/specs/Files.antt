@@ -13,8 +13,8 @@ use Rattle.grammar.specs.BlockReading.{file_reads}
 use Rattle.grammar.specs.BareLines.{bare_lines}
 use Rattle.file_syntax.specs.Scopes.{scope_fault}
 
--- a text is a file of this kind with this tree: it reads as logical lines, which are those of the tree, and no line of
--- it breaks a rule of scopes
+-- a text is a file of this kind with this tree: it reads as logical lines, which are those of the
+-- tree, and no line of it breaks a rule of scopes
 pub record IsFile (text : List ℕ) (kind : FileKind) (tree : Block) : Type 0 where
   pub lines : List (List Placed)
   pub read : IsReading text lines
@@ -31,11 +31,14 @@ abbrev pub with_statements : Result Block ℕ → Result Block SyntaxFault
 with_statements (Err line) = fault kind.Statement line
 with_statements (Ok tree) = with_scopes tree (scope_fault (bare_lines tree))
 
-abbrev pub with_lines : FileKind → Result (List (List Placed)) SyntaxFault → Result Block SyntaxFault
+-- the passes that read a text as logical lines, and what comes behind them
+abbrev pub with_lines : FileKind → Result (List (List Placed)) SyntaxFault
+    → Result Block SyntaxFault
 with_lines kind (Err f) = Err f
 with_lines kind (Ok lines) = with_statements (file_reads (top_of kind) (map laid lines))
 
--- the tree of a text, or the fault of the first of the five passes that finds one, at the first line where it does:
--- characters, tokens, layout, statements, scopes. Each pass goes over the whole text
+-- the tree of a text, or the fault of the first of the five passes that finds one, at the first
+-- line where it does: characters, tokens, layout, statements, scopes. Each pass goes over the whole
+-- text
 abbrev pub syntax : List ℕ → FileKind → Result Block SyntaxFault
 syntax text kind = with_lines kind (reading text)

@@ -1,6 +1,15 @@
--- How deep the parts of a file are inside of one another: what a program that walks it needs of its stack.
+-- How deep the parts of a file are inside of one another: what a program that walks it needs of its
+-- stack.
 use Rattle.std.specs.Prelude.{ℕ, suc, ◌≤◌, max, None, Some}
-use Rattle.program_tree.specs.Resolved.{Term, named, numeral, quoted, tuple, listing, dict, choice, operates, turned, selects, subscript, invokes, each, each_pair, Terms, no_terms, more_terms, Pairs, no_pairs, more_pairs, Keywords, no_keywords, more_keywords, Rounds, done, for_each, only_if, Statement, load, assign, assign_item, add_to, add_to_item, evaluate, pass, break_loop, continue_loop, give_back, branch, loop, define, Branches, no_branches, a_branch, Steps, no_steps, step, Program}
+use Rattle.program_tree.specs.Resolved.{Term, named, numeral, quoted, tuple, listing, dict, choice}
+use Rattle.program_tree.specs.Resolved.{operates, turned, selects, subscript, invokes, each}
+use Rattle.program_tree.specs.Resolved.{each_pair, Terms, no_terms, more_terms, Pairs, no_pairs}
+use Rattle.program_tree.specs.Resolved.{more_pairs, Keywords, no_keywords, more_keywords, Rounds}
+use Rattle.program_tree.specs.Resolved.{done, for_each, only_if, Statement, load, assign}
+use Rattle.program_tree.specs.Resolved.{assign_item, add_to, add_to_item, evaluate, pass}
+use Rattle.program_tree.specs.Resolved.{break_loop, continue_loop, give_back, branch, loop, define}
+use Rattle.program_tree.specs.Resolved.{Branches, no_branches, a_branch, Steps, no_steps, step}
+use Rattle.program_tree.specs.Resolved.{Program}
 
 -- a name or literal is 1 deep, each other expression one more than the deepest of its parts
 abbrev mutual
@@ -57,7 +66,8 @@ abbrev mutual
 
   pub branches_depth : Branches → ℕ
   branches_depth no_branches = 0
-  branches_depth (a_branch n a inner bs) = max (max (term_depth a) (steps_depth inner)) (branches_depth bs)
+  branches_depth (a_branch n a inner bs) =
+      max (max (term_depth a) (steps_depth inner)) (branches_depth bs)
 
   pub steps_depth : Steps → ℕ
   steps_depth no_steps = 0
@@ -79,8 +89,8 @@ abbrev mutual
   steps_nesting no_steps = 0
   steps_nesting (step n st ss) = max (suc (statement_nesting st)) (steps_nesting ss)
 
--- no expression is more than 200 deep; and of blocks no more than 34 are inside of one another: the top level, 32 blocks,
--- and a statement on the line of its head
+-- no expression is more than 200 deep; and of blocks no more than 34 are inside of one another: the
+-- top level, 32 blocks, and a statement on the line of its head
 pub record IsShallow (p : Program) : Type 0 where
   pub expressions : steps_depth p.steps ≤ 200
   pub blocks : steps_nesting p.steps ≤ 34

@@ -1,6 +1,7 @@
 //! Laws of the trees of files, and of their faults.
 
-ghost use Rattle.std.specs.Prelude.{◌≡◌, ◌≤◌, ◌↔◌, ◌∷◌, ◌++◌, ℕ, List, Some, Ok, Err, bytes_eq, length, map, position, true};
+ghost use Rattle.std.specs.Prelude.{◌≡◌, ◌≤◌, ◌↔◌, ◌∷◌, ◌++◌, ℕ, List, Some, Ok, Err, bytes_eq};
+ghost use Rattle.std.specs.Prelude.{length, map, position, true};
 ghost use Rattle.grammar.specs.Blocks.{Block};
 ghost use Rattle.grammar.specs.BareLines.{Lines, Param, bare_lines};
 ghost use Rattle.grammar.specs.BareDepth.{lines_depth};
@@ -8,7 +9,8 @@ ghost use Rattle.file_syntax.specs.Files.{IsFile, syntax};
 ghost use Rattle.file_syntax.specs.FirstFault.{IsFault};
 ghost use Rattle.file_syntax.specs.IsProgram.{IsProgram};
 ghost use Rattle.file_syntax.specs.ProgramDepth.{IsShallow};
-ghost use Rattle.program_tree.specs.Names.{Name, Scope, distinct, function_scope, param_name, slot_of, stands_for};
+ghost use Rattle.program_tree.specs.Names.{Name, Scope, distinct, function_scope, param_name};
+ghost use Rattle.program_tree.specs.Names.{slot_of, stands_for};
 ghost use Rattle.program_tree.specs.Resolved.{resolved};
 ghost use Rattle.program_tree.specs.declared.names.Binding.TheVariants.{Slot as slot};
 
@@ -34,8 +36,8 @@ pub fn faults_stand_where_no_tree_is()
         → (f : SyntaxFault) × (syntax text kind ≡ Err f) }
 {}
 
-/// A fault that the five passes give is the first fault of the text: that of the first pass that finds one, at the first
-/// line where it does. A text has no other fault.
+/// A fault that the five passes give is the first fault of the text: that of the first pass that
+/// finds one, at the first line where it does. A text has no other fault.
 pub fn faults_are_the_first()
     ensures { (text : List ℕ) (kind : FileKind) (f : SyntaxFault)
         → (syntax text kind ≡ Err f) ↔ IsFault text kind f }
@@ -63,8 +65,8 @@ pub fn names_have_places_of_their_own()
         → position (bytes_eq y) s.globals ≡ Some k → x ≡ y }
 {}
 
-/// In a function whose parameters are distinct, as many slots come before that of a parameter as there are parameters
-/// before it.
+/// In a function whose parameters are distinct, as many slots come before that of a parameter as
+/// there are parameters before it.
 pub fn parameters_have_the_first_slots()
     ensures { (s : Scope) (ps : List Param) (inner : Lines) (front behind : List Name) (x : Name)
         → distinct (map param_name ps) ≡ true → map param_name ps ≡ front ++ x ∷ behind

@@ -4,7 +4,8 @@ ghost use Rattle.ticks.specs.Ticking.{FaultOr};
 ghost use Rattle.values.specs.Seeing.{seen, slot_values};
 ghost use Rattle.values.specs.Shape.{shape};
 ghost use Rattle.operations.specs.States.{Does, Stays, Gives};
-ghost use Rattle.operations.specs.Fields.{field, field_in, shape_field, leaf_field, label_field, file_field};
+ghost use Rattle.operations.specs.Fields.{field, field_in, shape_field, leaf_field, label_field};
+ghost use Rattle.operations.specs.Fields.{file_field};
 
 use crate::parts::{basename, name, package};
 use field_names::{FieldName, KnownName};

@@ -15,7 +15,9 @@ use values::{Broken, Kind};
 /// What `value.name` is where it is called: the value of a field, or a method.
 #[derive(Drop)]
 pub enum Found<'a> {
+    /// The value of a field.
     Value(Operand<'a>),
+    /// A method of the value.
     Method(Method),
 }
 

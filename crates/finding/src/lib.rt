@@ -1,7 +1,8 @@
 //! Fields of values, and methods where they are called.
 //!
-//! Each call does what its definition in `operations` says, for every state, or answers that memory was refused. A label's
-//! text begins with two slashes; of another text, which no label has, its package is answered as want of memory.
+//! Each call does what its definition in `operations` says, for every state, or answers that memory
+//! was refused. A label's text begins with two slashes; of another text, which no label has, its
+//! package is answered as want of memory.
 #![tactic(auto)]
 
 mod fields;

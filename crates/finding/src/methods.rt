@@ -1,7 +1,8 @@
 //! Methods by name.
 ghost use Rattle.std.specs.Prelude.{◌≡◌, Some, None};
 ghost use Rattle.values.specs.Seeing.{seen};
-ghost use Rattle.operations.specs.Fields.{shape_method, list_method, dict_method, string_method, depset_method};
+ghost use Rattle.operations.specs.Fields.{shape_method, list_method, dict_method, string_method};
+ghost use Rattle.operations.specs.Fields.{depset_method};
 
 use field_names::{FieldName, KnownName};
 use operations::Method;

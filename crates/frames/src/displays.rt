@@ -12,6 +12,11 @@ use crate::world::Operate;
 use operands::Operand;
 
 /// A list of so many values.
+///
+/// # Errors
+///
+/// [`Stop::Fault`] where the operation ends with a fault: of that kind, at this line.
+/// [`Stop::NoMemory`] where memory is refused.
 #[tactic(auto, using(crate::proofs::Popping::pops_popped))]
 pub fn make_list<'a, W: Operate<'a>>(
     world: &W,
@@ -39,6 +44,11 @@ pub fn make_list<'a, W: Operate<'a>>(
 }
 
 /// A tuple of so many values.
+///
+/// # Errors
+///
+/// [`Stop::Fault`] where the operation ends with a fault: of that kind, at this line.
+/// [`Stop::NoMemory`] where memory is refused.
 #[tactic(auto, using(crate::proofs::Popping::pops_popped))]
 pub fn make_tuple<'a, W: Operate<'a>>(
     world: &W,
@@ -66,6 +76,11 @@ pub fn make_tuple<'a, W: Operate<'a>>(
 }
 
 /// A dict without entries.
+///
+/// # Errors
+///
+/// [`Stop::Fault`] where the operation ends with a fault: of that kind, at this line.
+/// [`Stop::NoMemory`] where memory is refused.
 pub fn new_dict<'a, W: Operate<'a>>(
     world: &W,
     line: usize,
@@ -86,6 +101,11 @@ pub fn new_dict<'a, W: Operate<'a>>(
 }
 
 /// An item for the list below it, which stays.
+///
+/// # Errors
+///
+/// [`Stop::Fault`] where the operation ends with a fault: of that kind, at this line.
+/// [`Stop::NoMemory`] where memory is refused.
 pub fn collect<'a, W: Operate<'a>>(
     world: &W,
     line: usize,
@@ -111,6 +131,11 @@ pub fn collect<'a, W: Operate<'a>>(
 }
 
 /// An entry of a display for the dict below it, which stays.
+///
+/// # Errors
+///
+/// [`Stop::Fault`] where the operation ends with a fault: of that kind, at this line.
+/// [`Stop::NoMemory`] where memory is refused.
 pub fn enter<'a, W: Operate<'a>>(
     world: &W,
     line: usize,
@@ -139,6 +164,11 @@ pub fn enter<'a, W: Operate<'a>>(
 }
 
 /// An entry of a comprehension for the dict below it, which stays.
+///
+/// # Errors
+///
+/// [`Stop::Fault`] where the operation ends with a fault: of that kind, at this line.
+/// [`Stop::NoMemory`] where memory is refused.
 pub fn keep<'a, W: Operate<'a>>(
     world: &W,
     line: usize,

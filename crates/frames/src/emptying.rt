@@ -5,7 +5,8 @@ ghost use Rattle.std.specs.Prelude.{◌≡◌, []};
 /// For so many items the memory is kept where a list is used again.
 const KEPT: usize = 1024;
 
-/// Lets all items go; the memory of 1,024 at most is kept for others. That a list is empty is seen where the call stands.
+/// Lets all items go; the memory of 1,024 at most is kept for others. That a list is empty is seen
+/// where the call stands.
 #[inline(always)]
 pub(crate) fn empty<T: Drop>(items: &mut Vec<T>)
     ensures { items.new.items ≡ [] }

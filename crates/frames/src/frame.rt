@@ -12,7 +12,8 @@ use field_names::FieldName;
 use operands::Operand;
 use std::alloc::Global;
 
-/// A function written in Starlark: the number of its file among those that are linked, and its own number there.
+/// A function written in Starlark: the number of its file among those that are linked, and its own
+/// number there.
 #[derive(Clone, Copy, PartialEq, Eq, Debug)]
 pub struct FunctionId {
     /// The number of its file among those that are linked.
@@ -28,7 +29,8 @@ pub enum Callee<'a> {
     Method(Operand<'a>, &'a FieldName),
 }
 
-/// A walk that is open: what is walked, the items that are left, where its next turn begins, and where it goes on at its end.
+/// A walk that is open: what is walked, the items that are left, where its next turn begins, and
+/// where it goes on at its end.
 #[derive(Drop)]
 pub struct Walk<'a, T> {
     /// What is walked.
@@ -41,8 +43,8 @@ pub struct Walk<'a, T> {
     pub end: usize,
 }
 
-/// A function that runs: the place of its next instruction, its slots, its operands, what it will call, and its open walks,
-/// the innermost of which stands apart.
+/// A function that runs: the place of its next instruction, its slots, its operands, what it will
+/// call, and its open walks, the innermost of which stands apart.
 #[derive(Drop)]
 pub struct Frame<'a, T> {
     /// The function that runs.
@@ -87,7 +89,8 @@ impl<'a, T: Drop> Frame<'a, T> {
         }
     }
 
-    /// The frame stands at the first instruction of a function, with the slots that it has, and nothing else is in it.
+    /// The frame stands at the first instruction of a function, with the slots that it has, and
+    /// nothing else is in it.
     #[inline(always)]
     pub fn start(&mut self, function: FunctionId)
         ensures { (rest : T → List held.Value) → seen rest self.new
@@ -103,7 +106,8 @@ impl<'a, T: Drop> Frame<'a, T> {
         self.outer.clear();
     }
 
-    /// Lets go all that is in the frame; its memory is kept for another function, up to 1,024 items of each list.
+    /// Lets go all that is in the frame; its memory is kept for another function, up to 1,024 items
+    /// of each list.
     pub fn let_go(&mut self)
         ensures { (rest : T → List held.Value) → seen rest self.new
             ≡ record (seen rest self.old) { slots = []; values = []; callees = []; walks = [] } }

@@ -1,11 +1,12 @@
 //! Frames, and what each instruction does to one.
 //!
-//! A frame is a function that runs: its slots, its operands, what it will call, and its open walks ([`Frame`]). What is done
-//! to values is done by a world that implements [`Operate`], of which nothing is known here but its record of operations. Each
-//! instruction that touches one frame alone is a function, exact against what the machine of crate `meaning` does.
+//! A frame is a function that runs: its slots, its operands, what it will call, and its open walks
+//! ([`Frame`]). What is done to values is done by a world that implements [`Operate`], of which
+//! nothing is known here but its record of operations. Each instruction that touches one frame
+//! alone is a function, exact against what the machine of crate `meaning` does.
 //!
-//! Errors: [`Stop`] has the kind of a fault with its file and line, or says that memory was refused; `AllocError` says the
-//! latter alone. Frame and state are open then, and the run ends.
+//! Errors: [`Stop`] has the kind of a fault with its file and line, or says that memory was
+//! refused; `AllocError` says the latter alone. Frame and state are open then, and the run ends.
 #![tactic(auto)]
 
 mod calling;

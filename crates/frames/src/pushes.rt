@@ -12,6 +12,10 @@ use operands::Operand;
 use program_tree::Predeclared;
 
 /// A number that the file writes out.
+///
+/// # Errors
+///
+/// [`Stop::NoMemory`] where memory is refused.
 #[inline(always)]
 pub fn push_number<'a, W: Operate<'a>>(
     world: &W,
@@ -31,6 +35,10 @@ pub fn push_number<'a, W: Operate<'a>>(
 }
 
 /// A string that the file writes out.
+///
+/// # Errors
+///
+/// [`Stop::NoMemory`] where memory is refused.
 #[inline(always)]
 pub fn push_text<'a, W: Operate<'a>>(
     world: &W,
@@ -49,6 +57,10 @@ pub fn push_text<'a, W: Operate<'a>>(
 }
 
 /// `None`.
+///
+/// # Errors
+///
+/// [`Stop::NoMemory`] where memory is refused.
 #[inline(always)]
 pub fn push_none<'a, W: Operate<'a>>(
     world: &W,
@@ -66,6 +78,10 @@ pub fn push_none<'a, W: Operate<'a>>(
 }
 
 /// What each file finds bound.
+///
+/// # Errors
+///
+/// [`Stop::NoMemory`] where memory is refused.
 #[inline(always)]
 pub fn push_builtin<'a, W: Operate<'a>>(
     world: &W,

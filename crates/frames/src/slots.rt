@@ -1,6 +1,7 @@
 //! The slots of a function.
 
-ghost use Rattle.std.specs.Prelude.{◌≡◌, ◌<◌, ◌-◌, [], ◌∷◌, ◌++◌, length, slice_get, slice_set, option_copied, IfOk, Option};
+ghost use Rattle.std.specs.Prelude.{◌≡◌, ◌<◌, ◌-◌, [], ◌∷◌, ◌++◌, length, slice_get, slice_set};
+ghost use Rattle.std.specs.Prelude.{option_copied, IfOk, Option};
 ghost use Rattle.meaning.specs.Outcome.{put, cleared};
 ghost use Rattle.values.specs.declared.value.Value as held;
 
@@ -75,6 +76,10 @@ impl<'a> Slots<'a> {
     }
 
     /// One slot more.
+    ///
+    /// # Errors
+    ///
+    /// Memory was refused.
     #[inline(always)]
     pub fn push(&mut self, value: Option<Operand<'a>>) -> Result<(), AllocError>
         ensures { IfOk result (λ _. self.new ≡ self.old ++ value.entry ∷ []) }
@@ -106,6 +111,10 @@ impl<'a> Slots<'a> {
     }
 
     /// A slot gets a value, or is emptied.
+    ///
+    /// # Errors
+    ///
+    /// Memory was refused.
     #[tactic(auto, using(crate::proofs::Putting::put_there))]
     #[inline(always)]
     pub fn put(&mut self, slot: usize, value: Option<Operand<'a>>) -> Result<(), AllocError>
@@ -117,6 +126,10 @@ impl<'a> Slots<'a> {
     }
 
     /// Nothing is set in the slots from the first one up to the end.
+    ///
+    /// # Errors
+    ///
+    /// Memory was refused.
     #[tactic(auto, using(crate::proofs::Putting::cleared_next))]
     pub fn clear(&mut self, first: usize, end: usize) -> Result<(), AllocError>
         ensures { IfOk result (λ _. self.new ≡ cleared (end - first) first self.old) }

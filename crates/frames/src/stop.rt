@@ -15,7 +15,8 @@ pub enum Step {
     More,
     /// The run is over, with this value.
     Over(Value),
-    /// The values that the instruction takes aren't there. Code that was compiled never comes there.
+    /// The values that the instruction takes aren't there. Code that was compiled never comes
+    /// there.
     Stuck,
 }
 
@@ -23,13 +24,16 @@ pub enum Step {
 #[derive(Drop)]
 pub struct Fault {
     pub kind: Kind,
+    /// The number of its file among those that are linked.
     pub file: usize,
+    /// The first line of the logical line where it is, counted from 1; 0 where there is none.
     pub line: usize,
 }
 
 /// Why a run stops before its end.
 #[derive(Drop)]
 pub enum Stop {
+    /// Evaluation ended with a fault.
     Fault(Fault),
     /// Memory was refused.
     NoMemory,

@@ -7,8 +7,12 @@ use crate::stack::Stack;
 use operands::Operand;
 use std::alloc::AllocError;
 
-/// So many values off the top of a stack, onto another: what was at the top is the lowest of them there. Whether they were
-/// there.
+/// So many values off the top of a stack, onto another: what was at the top is the lowest of them
+/// there. Whether they were there.
+///
+/// # Errors
+///
+/// Memory was refused.
 #[inline(always)]
 pub fn take<'a>(
     count: usize,

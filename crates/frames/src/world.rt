@@ -6,7 +6,8 @@ ghost use Rattle.meaning.specs.Operations.{Operations};
 ghost use Rattle.values.specs.declared.value.Value as held;
 ghost use Rattle.ticks.specs.declared.ticks.Kind as kinds;
 ghost use Rattle.values.specs.Seeing.{item_value};
-ghost use Rattle.frames.specs.Answers.{Says, SaysAs, Unpacks, refusal_seen, id_seen, callee_seen, given};
+ghost use Rattle.frames.specs.Answers.{Says, SaysAs, Unpacks, refusal_seen, id_seen, callee_seen};
+ghost use Rattle.frames.specs.Answers.{given};
 ghost use Rattle.frames.specs.Kept.{defaults_seen};
 
 use crate::defaults::Defaults;
@@ -36,9 +37,10 @@ pub enum Refusal {
     Deep,
 }
 
-/// A world with what never changes while code runs: the linked files, and what only the place of an evaluation has. Its
-/// methods are the operations of a record on its states: each gives what the operation does, with the state after it, or the
-/// fault that the operation has. Where memory was refused nothing is said.
+/// A world with what never changes while code runs: the linked files, and what only the place of an
+/// evaluation has. Its methods are the operations of a record on its states: each gives what the
+/// operation does, with the state after it, or the fault that the operation has. Where memory was
+/// refused nothing is said.
 pub trait Operate<'a> {
     /// All that operations change.
     type State;
@@ -53,7 +55,8 @@ pub trait Operate<'a> {
     fn refusal(&self, refusal: Refusal) -> Kind
         ensures { result ≡ (operations self.now).refusal (refusal_seen refusal) };
 
-    /// A number that a file writes out. One from 2^63 on, which no text that is read has, may be answered as want of memory.
+    /// A number that a file writes out. One from 2^63 on, which no text that is read has, may be
+    /// answered as want of memory.
     fn number(&self, number: u64) -> Result<Value, AllocError>
         ensures { IfOk result (λ v. v ≡ (operations self.now).number number) };
 
@@ -193,8 +196,9 @@ pub trait Operate<'a> {
     fn end(&self, state: &mut Self::State, walked: Item<'_>)
         ensures { state.new ≡ (operations self.now).end (item_value walked.entry) state.old };
 
-    /// The items of a sequence that is unpacked go onto a stack, the first one at the top, where they are so many; the
-    /// answer is whether they are. Where they aren't, the stack stays as it was. Of what is lent they may be lent.
+    /// The items of a sequence that is unpacked go onto a stack, the first one at the top, where
+    /// they are so many; the answer is whether they are. Where they aren't, the stack stays as it
+    /// was. Of what is lent they may be lent.
     fn unpack(
         &self,
         state: &mut Self::State,
@@ -247,7 +251,8 @@ pub trait Operate<'a> {
         ensures { Says ((operations self.now).loaded file from.now name.now state.old)
             result state.new };
 
-    /// The function that a `def` makes, with the values of its defaults, of which the first is at the top.
+    /// The function that a `def` makes, with the values of its defaults, of which the first is at
+    /// the top.
     fn define(
         &self,
         state: &mut Self::State,
@@ -278,8 +283,9 @@ pub trait Operate<'a> {
         ensures { SaysAs callee_seen ((operations self.now).find owner.entry name.now state.old)
             result state.new };
 
-    /// A call of what isn't written in Starlark: its values by position, of which the first is at the top, and those by
-    /// name with their names. The memory of the values is left for the next call.
+    /// A call of what isn't written in Starlark: its values by position, of which the first is at
+    /// the top, and those by name with their names. The memory of the values is left for the next
+    /// call.
     fn call(
         &self,
         state: &mut Self::State,

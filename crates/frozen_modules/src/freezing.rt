@@ -1,5 +1,6 @@
 //! Freezing what a module leaves.
-ghost use Rattle.std.specs.Prelude.{◌≡◌, ◌++◌, ◌∷◌, [], ◌<◌, Ok, Some, OnOk, MatchResult, length, slice_get};
+ghost use Rattle.std.specs.Prelude.{◌≡◌, ◌++◌, ◌∷◌, [], ◌<◌, Ok, Some, OnOk, MatchResult, length};
+ghost use Rattle.std.specs.Prelude.{slice_get};
 ghost use Rattle.ticks.specs.Ticking.{Says, FaultOr};
 ghost use Rattle.values.specs.Visits.{all_of};
 ghost use Rattle.visits.specs.Freeze.{freeze_at, frozen_slot};

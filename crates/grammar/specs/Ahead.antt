@@ -1,5 +1,6 @@
 -- What is left of a logical line, and what is taken from its front.
-use Rattle.std.specs.Prelude.{◌≡◌, ◌≤◌, ◌==◌, ℕ, Bool, true, false, List, [], ◌∷◌, map, Option, Some, None, Result, Ok, Err}
+use Rattle.std.specs.Prelude.{◌≡◌, ◌≤◌, ◌==◌, ℕ, Bool, true, false, List, [], ◌∷◌, map, Option}
+use Rattle.std.specs.Prelude.{Some, None, Result, Ok, Err}
 use Rattle.lexer.specs.declared.token.Token as found
 use Rattle.lexer.specs.declared.token.Word.TheVariants.{If, Not}
 use Rattle.lexer.specs.declared.token.Mark.TheVariants.{OpenParen, OpenBracket, Dot, Assign, Minus}
@@ -32,12 +33,14 @@ Passes o true old new = o ≡ Some new
 Passes o false old new = (o ≡ None) × (new ≡ old)
 
 -- the same of something that is kept
-abbrev pub Takes : {X A : Type 0} → (X → A) → Option (A × List Token) → Option X → List Token → List Token → Type 0
+abbrev pub Takes : {X A : Type 0} → (X → A) → Option (A × List Token) → Option X → List Token
+    → List Token → Type 0
 Takes view o (Some x) old new = o ≡ Some (view x, new)
 Takes view o None old new = (o ≡ None) × (new ≡ old)
 
 -- what a function that reads ensures: the definition's outcome, unless memory is refused
-abbrev pub Reads : {X A : Type 0} → (X → A) → Option (A × List Token) → Result X Stop → List Token → Type 0
+abbrev pub Reads : {X A : Type 0} → (X → A) → Option (A × List Token) → Result X Stop → List Token
+    → Type 0
 Reads view o (Ok x) new = o ≡ Some (view x, new)
 Reads view o (Err stop.NoForm) new = o ≡ None
 Reads view o (Err stop.NoMemory) new = Unit {0}
@@ -57,18 +60,22 @@ abbrev pub of_level : ℕ → Next → Option (Operator × List Token)
 of_level l (operator o u) = given (operator_level o == l) (o, u)
 of_level l _ = None
 
+-- the operator of this level that comes next, if one does, with the tokens behind it
 abbrev pub operator_at : ℕ → List Token → Option (Operator × List Token)
 operator_at l ts = of_level l (next ts)
 
--- the operators before a part (Starlark specification, "Unary operators")
+-- what is behind `not`, where that comes next (Starlark specification, "Unary operators")
 unfoldable pub behind_not : List Token → Option (List Token)
 behind_not (word Not ∷ ts) = Some ts
 behind_not _ = None
 
+-- what is behind `-`, where that comes next (Starlark specification, "Unary operators")
 unfoldable pub behind_minus : List Token → Option (List Token)
 behind_minus (mark Minus ∷ ts) = Some ts
 behind_minus _ = None
 
+-- what is behind the `if` of a conditional, where that comes next (Starlark specification,
+-- "Conditional expressions")
 unfoldable pub behind_if : List Token → Option (List Token)
 behind_if (word If ∷ ts) = Some ts
 behind_if _ = None
@@ -77,7 +84,8 @@ behind_if _ = None
 abbrev pub Ends : List Token → Type 0
 Ends ts = (l : ℕ) → operator_at l ts ≡ None
 
--- `not` was passed by before an expression of a level that may have it, or it doesn't come next there
+-- `not` was passed by before an expression of a level that may have it, or it doesn't come next
+-- there
 abbrev pub Negates : ℕ → Bool → List Token → List Token → Type 0
 Negates l true old new = (l ≤ 4) × (behind_not old ≡ Some new)
 Negates l false old new = (l ≤ 4 → behind_not old ≡ None) × (new ≡ old)
@@ -94,18 +102,22 @@ unfoldable pub named_at : List Token → Option (List ℕ × List Token)
 named_at (name x ∷ mark Assign ∷ ts) = Some (x, ts)
 named_at _ = None
 
+-- a number that comes next, with the tokens behind it
 unfoldable pub number_at : List Token → Option (ℕ × List Token)
 number_at (number n ∷ ts) = Some (n, ts)
 number_at _ = None
 
+-- a string that comes next, with the tokens behind it
 unfoldable pub string_at : List Token → Option (List ℕ × List Token)
 string_at (string s ∷ ts) = Some (s, ts)
 string_at _ = None
 
+-- something that was found, with the tokens behind it
 abbrev pub with_rest : {A B : Type 0} → Option A → B → Option (A × B)
 with_rest None b = None
 with_rest (Some a) b = Some (a, b)
 
+-- the bracket that is opened next, with the tokens behind it
 unfoldable pub bracket_at : List Token → Option (Bracket × List Token)
 bracket_at (mark m ∷ ts) = with_rest (opening m) ts
 bracket_at _ = None

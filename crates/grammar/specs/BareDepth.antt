@@ -1,7 +1,12 @@
 -- How deep the tree of an expression is, without what only its writing has.
 use Rattle.std.specs.Prelude.{ℕ, suc, max, List, [], ◌∷◌, Some}
-use Rattle.grammar.specs.Bare.{Tree, named, numeral, quoted, tuple, listing, dict, choice, operates, turned, selects, subscript, invokes, each, each_entry, Trees, no_trees, more_trees, Entries, no_entries, more_entries, Keywords, no_keywords, more_keywords, Rest, done, for_each, only_if}
-use Rattle.grammar.specs.BareLines.{Param, required, optional, Form, defines, if_head, elif_head, for_head, assigns, assigns_at, increases, increases_at, evaluates, returns, Lines, no_lines, a_line}
+use Rattle.grammar.specs.Bare.{Tree, named, numeral, quoted, tuple, listing, dict, choice, operates}
+use Rattle.grammar.specs.Bare.{turned, selects, subscript, invokes, each, each_entry, Trees}
+use Rattle.grammar.specs.Bare.{no_trees, more_trees, Entries, no_entries, more_entries, Keywords}
+use Rattle.grammar.specs.Bare.{no_keywords, more_keywords, Rest, done, for_each, only_if}
+use Rattle.grammar.specs.BareLines.{Param, required, optional, Form, defines, if_head, elif_head}
+use Rattle.grammar.specs.BareLines.{for_head, assigns, assigns_at, increases, increases_at}
+use Rattle.grammar.specs.BareLines.{evaluates, returns, Lines, no_lines, a_line}
 
 -- a name or literal is 1 deep, each other tree one more than the deepest of its parts
 abbrev mutual
@@ -38,15 +43,17 @@ abbrev mutual
   rest_depth (for_each x xs a r) = max (tree_depth a) (rest_depth r)
   rest_depth (only_if a r) = max (tree_depth a) (rest_depth r)
 
--- the depth of the deepest expression of a line
+-- the depth of a parameter's default; 0 where it has none
 abbrev pub param_depth : Param → ℕ
 param_depth (required x) = 0
 param_depth (optional x a) = tree_depth a
 
+-- the depth of the deepest default of parameters
 abbrev pub params_depth : List Param → ℕ
 params_depth [] = 0
 params_depth (p ∷ ps) = max (param_depth p) (params_depth ps)
 
+-- the depth of the deepest expression of a line; an index that is assigned to is one
 abbrev pub form_depth : Form → ℕ
 form_depth (defines x ps) = params_depth ps
 form_depth (if_head a) = tree_depth a

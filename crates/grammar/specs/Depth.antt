@@ -2,8 +2,15 @@
 use Rattle.std.specs.Prelude.{ℕ, suc, max, Bool, true, false}
 use Rattle.lexer.specs.declared.layout.Bracket.{Bracket}
 use Rattle.lexer.specs.declared.layout.Bracket.TheVariants.{Round}
-use Rattle.grammar.specs.Tree.{Expr, identifier, integer, text, display, comprehension, conditional, operation, signed, field, index, call, Member, plain, keyword, entry, Members, no_members, last_member, next_member, Clauses, no_clauses, for_clause, if_clause}
-use Rattle.grammar.specs.Statements.{Listed, alone, followed, Simple, assigns, assigns_at, increases, increases_at, evaluates, returns_list, Body, block, inline, Param, required, optional, Commas, none_more, last_one, and_more, Form, loads, simple, defines, if_head, elif_head, else_head, for_head}
+use Rattle.grammar.specs.Tree.{Expr, identifier, integer, text, display, comprehension, conditional}
+use Rattle.grammar.specs.Tree.{operation, signed, field, index, call, Member, plain, keyword, entry}
+use Rattle.grammar.specs.Tree.{Members, no_members, last_member, next_member, Clauses, no_clauses}
+use Rattle.grammar.specs.Tree.{for_clause, if_clause}
+use Rattle.grammar.specs.Statements.{Listed, alone, followed, Simple, assigns, assigns_at}
+use Rattle.grammar.specs.Statements.{increases, increases_at, evaluates, returns_list, Body, block}
+use Rattle.grammar.specs.Statements.{inline, Param, required, optional, Commas, none_more, last_one}
+use Rattle.grammar.specs.Statements.{and_more, Form, loads, simple, defines, if_head, elif_head}
+use Rattle.grammar.specs.Statements.{else_head, for_head}
 
 -- brackets alone: round ones around one expression without a comma
 abbrev pub brackets_alone : Bracket → Members → Bool
@@ -15,7 +22,8 @@ abbrev pub one_over : Bool → ℕ → ℕ
 one_over true n = n
 one_over false n = suc n
 
--- a name or literal is 1 deep, each other form one more than the deepest of its parts, brackets alone nothing more
+-- a name or literal is 1 deep, each other form one more than the deepest of its parts, brackets
+-- alone nothing more
 abbrev mutual
   pub depth : Expr → ℕ
   depth (identifier x) = 1
@@ -65,10 +73,12 @@ simple_depth (evaluates a) = depth a
 simple_depth (returns_list l) = listed_depth l
 simple_depth _ = 0
 
+-- the same of the statement behind the `:` of a head; 0 where a block follows
 abbrev pub body_depth : Body → ℕ
 body_depth block = 0
 body_depth (inline s) = simple_depth s
 
+-- the depth of the deepest default of parameters (Starlark specification, "Function definitions")
 abbrev pub params_depth : Commas Param → ℕ
 params_depth none_more = 0
 params_depth (last_one (required x)) = 0
@@ -76,6 +86,7 @@ params_depth (last_one (optional x a)) = depth a
 params_depth (and_more (required x) ps) = params_depth ps
 params_depth (and_more (optional x a) ps) = max (depth a) (params_depth ps)
 
+-- the depth of the deepest expression of a logical line, for which there is a limit
 abbrev pub form_depth : Form → ℕ
 form_depth (loads s items) = 0
 form_depth (simple s) = simple_depth s

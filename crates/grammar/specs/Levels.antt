@@ -2,9 +2,15 @@
 use Rattle.std.specs.Prelude.{◌≡◌, ℕ, suc, ◌≤◌, Bool, true, false}
 use Rattle.lexer.specs.declared.layout.Bracket.{Bracket}
 use Rattle.lexer.specs.declared.layout.Bracket.TheVariants.{Round, Square, Curly}
-use Rattle.grammar.specs.Tree.{Operator, either, both, equal, not_equal, less, greater, less_equal, greater_equal, within, not_within, add, subtract, multiply, divide, remainder, Sign, negation, opposite, Expr, identifier, integer, text, display, comprehension, conditional, operation, signed, field, index, call, Member, plain, keyword, entry, Members, no_members, last_member, next_member, Clauses, no_clauses, for_clause, if_clause}
+use Rattle.grammar.specs.Tree.{Operator, either, both, equal, not_equal, less, greater, less_equal}
+use Rattle.grammar.specs.Tree.{greater_equal, within, not_within, add, subtract, multiply, divide}
+use Rattle.grammar.specs.Tree.{remainder, Sign, negation, opposite, Expr, identifier, integer, text}
+use Rattle.grammar.specs.Tree.{display, comprehension, conditional, operation, signed, field, index}
+use Rattle.grammar.specs.Tree.{call, Member, plain, keyword, entry, Members, no_members}
+use Rattle.grammar.specs.Tree.{last_member, next_member, Clauses, no_clauses, for_clause, if_clause}
 
--- the level of an operator (Starlark specification, "Binary operators": precedence); 9 binds most tightly
+-- the level of an operator (Starlark specification, "Binary operators": precedence); 9 binds most
+-- tightly
 abbrev pub operator_level : Operator → ℕ
 operator_level either = 2
 operator_level both = 3
@@ -22,8 +28,8 @@ operator_level multiply = 7
 operator_level divide = 7
 operator_level remainder = 7
 
--- what stands before an operator may be of the operator's own level, but a comparison is no part of another one
--- (Starlark specification, "Binary operators": comparisons do not associate)
+-- what stands before an operator may be of the operator's own level, but a comparison is no part of
+-- another one (Starlark specification, "Binary operators": comparisons do not associate)
 abbrev pub left_level : Operator → ℕ
 left_level either = 2
 left_level both = 3
@@ -34,7 +40,8 @@ left_level divide = 7
 left_level remainder = 7
 left_level _ = 6
 
--- `not` binds less tightly than a comparison, `-` more tightly than `*` (Starlark specification, "Unary operators")
+-- `not` binds less tightly than a comparison, `-` more tightly than `*` (Starlark specification,
+-- "Unary operators")
 abbrev pub sign_level : Sign → ℕ
 sign_level negation = 4
 sign_level opposite = 8
@@ -99,17 +106,21 @@ abbrev pub starts_with_for : Clauses → Bool
 starts_with_for (for_clause x xs a cs) = true
 starts_with_for _ = false
 
--- each part of an expression has the level that its place asks for (Starlark specification, "Expressions");
--- a place inside of brackets, and the one behind `else`, takes any expression; one of a clause no conditional
+-- each part of an expression has the level that its place asks for (Starlark specification,
+-- "Expressions"); a place inside of brackets, and the one behind `else`, takes any expression; one
+-- of a clause no conditional
 abbrev mutual
   pub IsTree : Expr → Type 0
   IsTree (identifier x) = Unit {0}
   IsTree (integer n) = Unit {0}
   IsTree (text s) = Unit {0}
   IsTree (display b ms) = AreMembers (held b) ms
-  IsTree (comprehension b m cs) = (may_comprehend b ≡ true) × (allowed (held b) m ≡ true) × IsMember m × (starts_with_for cs ≡ true) × AreClauses cs
+  IsTree (comprehension b m cs) =
+      (may_comprehend b ≡ true) × (allowed (held b) m ≡ true) × IsMember m
+      × (starts_with_for cs ≡ true) × AreClauses cs
   IsTree (conditional a c b) = (2 ≤ level a) × IsTree a × (2 ≤ level c) × IsTree c × IsTree b
-  IsTree (operation o a b) = (left_level o ≤ level a) × IsTree a × (suc (operator_level o) ≤ level b) × IsTree b
+  IsTree (operation o a b) =
+      (left_level o ≤ level a) × IsTree a × (suc (operator_level o) ≤ level b) × IsTree b
   IsTree (signed s a) = (sign_level s ≤ level a) × IsTree a
   IsTree (field f x) = (9 ≤ level f) × IsTree f
   IsTree (index f a) = (9 ≤ level f) × IsTree f × IsTree a

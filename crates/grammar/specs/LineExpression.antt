@@ -6,7 +6,8 @@ use Rattle.grammar.specs.Spelling.{Spells}
 use Rattle.grammar.specs.Depth.{depth}
 use Rattle.grammar.specs.Bare.{Tree, bare}
 
--- these tokens are those of an expression that is at most 200 deep, and this is its tree; or they are those of none
+-- these tokens are those of an expression that is at most 200 deep, and this is its tree; or they
+-- are those of none
 abbrev pub IsExpression : List Token → Option Tree → Type 0
 IsExpression ts (Some b) = (t : Expr) × Spells ts t × (depth t ≤ 200) × (bare t ≡ b)
 IsExpression ts None = (t : Expr) → Spells ts t → depth t ≤ 200 → ⊥

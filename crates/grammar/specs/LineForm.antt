@@ -12,8 +12,9 @@ use Rattle.grammar.specs.FormDescent.{Shaped}
 abbrev pub shaped : written.Form → Shaped
 shaped f = (bare_form f, form_body f)
 
--- these tokens are those of a form with no expression that is more than 200 deep, and this is what it is; or they are
--- those of none
+-- these tokens are those of a form with no expression that is more than 200 deep, and this is what
+-- it is; or they are those of none
 abbrev pub IsLineForm : List Token → Option Shaped → Type 0
-IsLineForm ts (Some s) = (f : written.Form) × SpellsForm ts f × (form_depth f ≤ 200) × (shaped f ≡ s)
+IsLineForm ts (Some s) =
+    (f : written.Form) × SpellsForm ts f × (form_depth f ≤ 200) × (shaped f ≡ s)
 IsLineForm ts None = (f : written.Form) → SpellsForm ts f → form_depth f ≤ 200 → ⊥

@@ -7,17 +7,23 @@ use Rattle.grammar.specs.declared.statements.Param.{Param}
 use Rattle.grammar.specs.declared.statements.Param.TheVariants.{Required, Optional}
 use Rattle.grammar.specs.declared.statements.Item.{Item}
 use Rattle.grammar.specs.declared.statements.Form.{Form}
-use Rattle.grammar.specs.declared.statements.Form.TheVariants.{Load, Def, If, Elif, Else, For, Assign, AssignAt, Add, AddAt, Evaluate, Pass, Break, Continue, Return}
+use Rattle.grammar.specs.declared.statements.Form.TheVariants.{Load, Def, If, Elif, Else, For}
+use Rattle.grammar.specs.declared.statements.Form.TheVariants.{Assign, AssignAt, Add, AddAt}
+use Rattle.grammar.specs.declared.statements.Form.TheVariants.{Evaluate, Pass, Break, Continue}
+use Rattle.grammar.specs.declared.statements.Form.TheVariants.{Return}
 use Rattle.grammar.specs.declared.statements.Line.{Line, fold-Line}
 use Rattle.grammar.specs.declared.statements.Line.TheOpen.{Line-F}
 
+-- the parameter that the program's parameter stands for
 abbrev pub param_of : Param → bare.Param
 param_of (Required x) = bare.required x
 param_of (Optional x a) = bare.optional x (tree_of a)
 
+-- what a `load` binds, as the program keeps it
 abbrev pub item_of : Item → bare.Item
 item_of i = record { binds = i.binds; asked = i.asked }
 
+-- the line that the program's form of a line stands for
 abbrev pub form_of : Form → bare.Form
 form_of (Load s items) = bare.loads s (map item_of items.items)
 form_of (Def x ps) = bare.defines x (map param_of ps.items)
@@ -44,8 +50,10 @@ lines_of (l ∷ ls) = l (lines_of ls)
 abbrev pub line_step : Line-F (Lines → Lines) → Lines → Lines
 line_step l rest = a_line l.number (form_of l.form) (lines_of l.block.items) rest
 
+-- a line of the program with its block, before others
 abbrev pub line_of : Line → Lines → Lines
 line_of = fold-Line (Lines → Lines) line_step
 
+-- the lines of a file or of a block, as the program keeps them
 abbrev pub lines : List Line → Lines
 lines ls = lines_of (map line_of ls)

@@ -1,12 +1,22 @@
--- The tokens that spell an expression. Each function has the tokens that come after as its last argument.
+-- The tokens that spell an expression. Each function has the tokens that come after as its last
+-- argument.
 use Rattle.std.specs.Prelude.{◌≡◌, ℕ, List, [], ◌∷◌}
 use Rattle.lexer.specs.declared.token.Word.TheVariants.{And, Else, For, If, In, Not, Or}
 use Rattle.lexer.specs.declared.token.Mark.{Mark}
-use Rattle.lexer.specs.declared.token.Mark.TheVariants.{OpenParen, CloseParen, OpenBracket, CloseBracket, OpenBrace, CloseBrace, Comma, Colon, Dot, Assign, Equal, NotEqual, Less, Greater, LessEqual, GreaterEqual, Plus, Minus, Star, FloorDivide, Percent}
+use Rattle.lexer.specs.declared.token.Mark.TheVariants.{OpenParen, CloseParen, OpenBracket}
+use Rattle.lexer.specs.declared.token.Mark.TheVariants.{CloseBracket, OpenBrace, CloseBrace, Comma}
+use Rattle.lexer.specs.declared.token.Mark.TheVariants.{Colon, Dot, Assign, Equal, NotEqual, Less}
+use Rattle.lexer.specs.declared.token.Mark.TheVariants.{Greater, LessEqual, GreaterEqual, Plus}
+use Rattle.lexer.specs.declared.token.Mark.TheVariants.{Minus, Star, FloorDivide, Percent}
 use Rattle.lexer.specs.declared.layout.Bracket.{Bracket}
 use Rattle.lexer.specs.declared.layout.Bracket.TheVariants.{Round, Square, Curly}
 use Rattle.lexer.specs.Tokens.{Token, name, number, string, word, mark}
-use Rattle.grammar.specs.Tree.{Operator, either, both, equal, not_equal, less, greater, less_equal, greater_equal, within, not_within, add, subtract, multiply, divide, remainder, Sign, negation, opposite, Expr, identifier, integer, text, display, comprehension, conditional, operation, signed, field, index, call, Member, plain, keyword, entry, Members, no_members, last_member, next_member, Clauses, no_clauses, for_clause, if_clause}
+use Rattle.grammar.specs.Tree.{Operator, either, both, equal, not_equal, less, greater, less_equal}
+use Rattle.grammar.specs.Tree.{greater_equal, within, not_within, add, subtract, multiply, divide}
+use Rattle.grammar.specs.Tree.{remainder, Sign, negation, opposite, Expr, identifier, integer, text}
+use Rattle.grammar.specs.Tree.{display, comprehension, conditional, operation, signed, field, index}
+use Rattle.grammar.specs.Tree.{call, Member, plain, keyword, entry, Members, no_members}
+use Rattle.grammar.specs.Tree.{last_member, next_member, Clauses, no_clauses, for_clause, if_clause}
 use Rattle.grammar.specs.Levels.{IsTree}
 
 -- the tokens of an operator (Starlark specification, "Binary operators"); `not in` is two
@@ -32,12 +42,13 @@ abbrev pub sign_token : Sign → Token
 sign_token negation = word Not
 sign_token opposite = mark Minus
 
--- the mark that opens a bracket, and the one that closes it (Starlark specification, "Lexical elements")
+-- the mark that opens a bracket (Starlark specification, "Lexical elements")
 abbrev pub open_mark : Bracket → Mark
 open_mark Round = OpenParen
 open_mark Square = OpenBracket
 open_mark Curly = OpenBrace
 
+-- the mark that closes it
 abbrev pub close_mark : Bracket → Mark
 close_mark Round = CloseParen
 close_mark Square = CloseBracket
@@ -55,7 +66,8 @@ abbrev mutual
   spelled (integer n) ts = number n ∷ ts
   spelled (text s) ts = string s ∷ ts
   spelled (display b ms) ts = mark (open_mark b) ∷ members_spelled ms (mark (close_mark b) ∷ ts)
-  spelled (comprehension b m cs) ts = mark (open_mark b) ∷ member_spelled m (clauses_spelled cs (mark (close_mark b) ∷ ts))
+  spelled (comprehension b m cs) ts =
+      mark (open_mark b) ∷ member_spelled m (clauses_spelled cs (mark (close_mark b) ∷ ts))
   spelled (conditional a c b) ts = spelled a (word If ∷ spelled c (word Else ∷ spelled b ts))
   spelled (operation o a b) ts = spelled a (operator_spelled o (spelled b ts))
   spelled (signed s a) ts = sign_token s ∷ spelled a ts
@@ -75,7 +87,8 @@ abbrev mutual
 
   pub clauses_spelled : Clauses → List Token → List Token
   clauses_spelled no_clauses ts = ts
-  clauses_spelled (for_clause x xs a cs) ts = word For ∷ name x ∷ names_spelled xs (word In ∷ spelled a (clauses_spelled cs ts))
+  clauses_spelled (for_clause x xs a cs) ts =
+      word For ∷ name x ∷ names_spelled xs (word In ∷ spelled a (clauses_spelled cs ts))
   clauses_spelled (if_clause a cs) ts = word If ∷ spelled a (clauses_spelled cs ts)
 
 -- these tokens are those of this expression

@@ -12,8 +12,9 @@ pub record BeginsFile (p : Place) (lines : List Laid) : Type 0 where
   pub is_block : IsBlock p false true 0 tree
   pub whole : lines ++ further ≡ block_laid 0 tree []
 
--- a logical line is the first fault of the statements, where the lines before it begin a file, and with it they don't:
--- it has no form, or its form may not stand there, or has an expression that is too deep
+-- a logical line is the first fault of the statements, where the lines before it begin a file, and
+-- with it they don't: it has no form, or its form may not stand there, or has an expression that is
+-- too deep
 pub record IsStatementFault (p : Place) (lines : List Laid) (n : ℕ) : Type 0 where
   pub before : List Laid
   pub at : Laid
@@ -25,4 +26,5 @@ pub record IsStatementFault (p : Place) (lines : List Laid) (n : ℕ) : Type 0 w
 
 -- the logical lines of a file are refused where their first fault is, and nowhere else
 abbrev pub RefusedAtFirst : Place → List (List Placed) → Type 0
-RefusedAtFirst p lines = (n : ℕ) → (file_reads p (map laid lines) ≡ Err n) ↔ IsStatementFault p (map laid lines) n
+RefusedAtFirst p lines =
+    (n : ℕ) → (file_reads p (map laid lines) ≡ Err n) ↔ IsStatementFault p (map laid lines) n

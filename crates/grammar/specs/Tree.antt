@@ -1,4 +1,5 @@
--- The trees of expressions, as they are written: brackets and commas at the end can still be told from them.
+-- The trees of expressions, as they are written: brackets and commas at the end can still be told
+-- from them.
 use Rattle.std.specs.Prelude.{ℕ, List}
 use Rattle.lexer.specs.declared.layout.Bracket.{Bracket}
 
@@ -13,8 +14,8 @@ pub data Sign : Type 0 where
   negation opposite : Sign
 
 mutual
-  -- an expression (Starlark specification, "Expressions"). A display is a tuple or something in brackets, a list or a
-  -- dict, by its brackets; a comprehension has the brackets of what it makes
+  -- an expression (Starlark specification, "Expressions"). A display is a tuple or something in
+  -- brackets, a list or a dict, by its brackets; a comprehension has the brackets of what it makes
   pub data Expr : Type 0 where
     identifier : List ℕ → Expr
     integer : ℕ → Expr
@@ -41,8 +42,8 @@ mutual
     last_member : Member → Members
     next_member : Member → Members → Members
 
-  -- what stands behind the element of a comprehension (Starlark specification, "Comprehensions"): `for`, with its
-  -- first name and its others, and `if`
+  -- what stands behind the element of a comprehension (Starlark specification, "Comprehensions"):
+  -- `for`, with its first name and its others, and `if`
   pub data Clauses : Type 0 where
     no_clauses : Clauses
     for_clause : List ℕ → List (List ℕ) → Expr → Clauses → Clauses

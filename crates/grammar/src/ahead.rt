@@ -2,8 +2,11 @@
 
 ghost use Rattle.std.specs.Prelude.{◌≡◌, ℕ, List, length, IfSome, IfOk, map, true};
 ghost use Rattle.std.specs.Option.{option_map};
-ghost use Rattle.grammar.specs.Ahead.{is_done, Ends, Passes, Takes, tokens_seen, operator_at, operator_of, behind_not, behind_minus, behind_if, HasHead, suffix_at, named_at, number_at, string_at, bracket_at};
-ghost use Rattle.grammar.specs.Front.{next, behind_comma, behind_colon, behind_else, behind_close, name_at, names_in, head_at, is_for};
+ghost use Rattle.grammar.specs.Ahead.{is_done, Ends, Passes, Takes, tokens_seen, operator_at};
+ghost use Rattle.grammar.specs.Ahead.{operator_of, behind_not, behind_minus, behind_if, HasHead};
+ghost use Rattle.grammar.specs.Ahead.{suffix_at, named_at, number_at, string_at, bracket_at};
+ghost use Rattle.grammar.specs.Front.{next, behind_comma, behind_colon, behind_else, behind_close};
+ghost use Rattle.grammar.specs.Front.{name_at, names_in, head_at, is_for};
 ghost use Rattle.grammar.specs.FormDescent.{opening_at, behind_assign, behind_add, behind_open};
 ghost use Rattle.grammar.specs.FormReading.{names_to};
 ghost use Rattle.grammar.specs.TreeView.{operator_seen};
@@ -346,8 +349,8 @@ impl<'l, 't> Ahead<'l, 't> {
         }
     }
 
-    /// Whether a token comes next that is no operator between two parts, or none at all. Where it answers that there may be
-    /// one, only time is lost.
+    /// Whether a token comes next that is no operator between two parts, or none at all. Where it
+    /// answers that there may be one, only time is lost.
     #[tactic(auto, unfolding(crate::specs::Front::next))]
     pub fn ends_here(&self) -> bool
         ensures { result ≡ true → Ends self.now }
@@ -518,6 +521,10 @@ impl<'l, 't> Ahead<'l, 't> {
     }
 
     /// Takes how a clause of a comprehension begins.
+    ///
+    /// # Errors
+    ///
+    /// `AllocError` where memory was refused.
     #[tactic(auto, unfolding(crate::specs::Front::head_at))]
     pub fn head(&mut self, alloc: Global) -> Result<Head<'t>, AllocError>
         ensures { IfOk result (λ h. HasHead (head_at self.old) h self.old self.new) }
@@ -637,6 +644,10 @@ impl<'l, 't> Ahead<'l, 't> {
     }
 
     /// Takes the names behind commas up to `=`.
+    ///
+    /// # Errors
+    ///
+    /// `AllocError` where memory was refused.
     pub fn names_to(&mut self, alloc: Global) -> Result<Option<Vec<Name<'t>>>, AllocError>
         ensures { IfOk result (λ r. Takes (λ v. v.items) (names_to self.old) r self.old self.new) }
     {
@@ -650,6 +661,10 @@ impl<'l, 't> Ahead<'l, 't> {
     }
 
     /// Takes the names behind commas up to `in`.
+    ///
+    /// # Errors
+    ///
+    /// `AllocError` where memory was refused.
     pub fn names_in(&mut self, alloc: Global) -> Result<Option<Vec<Name<'t>>>, AllocError>
         ensures { IfOk result (λ r. Takes (λ v. v.items) (names_in self.old) r self.old self.new) }
     {

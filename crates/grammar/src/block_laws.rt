@@ -23,21 +23,23 @@ pub fn files_are_read()
         → file_reads p (map laid lines) ≡ Ok b }
 {}
 
-/// The logical lines of a text are refused at the first line with which they no longer begin a file.
+/// The logical lines of a text are refused at the first line with which they no longer begin a
+/// file.
 pub fn faults_are_the_first()
     ensures { (text : List ℕ) (lines : List (List Placed)) → IsReading text lines → (p : Place)
         → RefusedAtFirst p lines }
 {}
 
-/// Brackets alone and commas at the end add nothing to the depth of an expression, and in the lines of a file none is more
-/// than 200 deep.
+/// Brackets alone and commas at the end add nothing to the depth of an expression, and in the lines
+/// of a file none is more than 200 deep.
 pub fn lines_are_shallow()
     ensures depth { (a : Expr) → IsTree a → depth a ≡ tree_depth (bare a) }
     ensures limit { (p : Place) (lines : List (List Placed)) (tree : Block)
         → SpellsFile p lines tree → lines_depth (bare_lines tree) ≤ 200 }
 {}
 
-/// The lines of a file that has a tree, put into their blocks from the last to the first, are those of its tree.
+/// The lines of a file that has a tree, put into their blocks from the last to the first, are those
+/// of its tree.
 pub fn lines_are_put_into_blocks()
     ensures { (p : Place) (lines : List (List Placed)) (tree : Block)
         → file_reads p (map laid lines) ≡ Ok tree

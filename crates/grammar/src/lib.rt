@@ -1,8 +1,9 @@
-//! The grammar of `BUILD` files and modules: its definitions and laws, the trees of expressions and statements, and what
-//! reads them from the front of a logical line.
+//! The grammar of `BUILD` files and modules: its definitions and laws, the trees of expressions and
+//! statements, and what reads them from the front of a logical line.
 //!
-//! Crate `lexer` gives the logical lines. [`ahead`] is what is left of one, [`parts`] makes an expression of parts that
-//! were read, with its depth. Crate `descent` reads expressions by these, crate `statements` whole files.
+//! Crate `lexer` gives the logical lines. [`ahead`] is what is left of one, [`parts`] makes an
+//! expression of parts that were read, with its depth. Crate `descent` reads expressions by these,
+//! crate `statements` whole files.
 #![tactic(auto)]
 
 pub mod ahead;

@@ -1,7 +1,7 @@
 //! Names, as a text that is read has them.
 //!
-//! To a contract a `Name` is the list of its bytes. One that stands in the text itself owns no memory, so a tree is made
-//! with no copy of its names.
+//! To a contract a `Name` is the list of its bytes. One that stands in the text itself owns no
+//! memory, so a tree is made with no copy of its names.
 ghost use Rattle.std.specs.Prelude.{◌≡◌, IfOk};
 
 use plain::Text;

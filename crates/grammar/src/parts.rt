@@ -1,13 +1,14 @@
 //! Parts of an expression, each with its depth, and what is made of them.
 //!
-//! Each function that makes a part is given room: how deep it may be. It answers [`Stop::NoForm`] where the part would be
-//! deeper, and [`Stop::NoMemory`] where memory was refused.
+//! Each function that makes a part is given room: how deep it may be. It answers [`Stop::NoForm`]
+//! where the part would be deeper, and [`Stop::NoMemory`] where memory was refused.
 
 ghost use Rattle.std.specs.Prelude.{◌≡◌, ◌∷◌, ◌++◌, [], IfOk, OnOk, true, false};
 ghost use Rattle.grammar.specs.Ahead.{Makes};
 ghost use Rattle.grammar.specs.Bare as bare;
 ghost use Rattle.grammar.specs.Descent as spec;
-ghost use Rattle.grammar.specs.Descended.{part_seen, pair_seen, several_seen, pairs_seen, arguments_seen, conditions_seen};
+ghost use Rattle.grammar.specs.Descended.{part_seen, pair_seen, several_seen, pairs_seen};
+ghost use Rattle.grammar.specs.Descended.{arguments_seen, conditions_seen};
 ghost use Rattle.grammar.specs.TreeView.{operator_seen, sign_seen, tree_of};
 
 use crate::ahead::Stop;
@@ -29,8 +30,9 @@ pub enum Row {
     Opposed,
 }
 
-/// An expression, how deep it is, and whether it is a name or an index as it is written, to which can be assigned. It is kept
-/// behind a `Box`, so that those who read one inside of another take little of the stack.
+/// An expression, how deep it is, and whether it is a name or an index as it is written, to which
+/// can be assigned. It is kept behind a `Box`, so that those who read one inside of another take
+/// little of the stack.
 #[derive(Drop)]
 pub struct Part<'t> {
     pub expr: Box<Expr<'t>>,
@@ -55,9 +57,13 @@ pub struct Pairs<'t> {
 /// The arguments of a call, and whether those with names come last.
 #[derive(Drop)]
 pub struct Arguments<'t> {
+    /// The positional arguments.
     pub items: Vec<Expr<'t>>,
+    /// The arguments with names.
     pub named: Vec<Keyword<'t>>,
+    /// The depth of the deepest of all of them, or 0.
     pub depth: usize,
+    /// Whether no positional argument came behind one with a name.
     pub in_order: bool,
 }
 
@@ -65,6 +71,7 @@ pub struct Arguments<'t> {
 #[derive(Drop)]
 pub struct Conditions<'t> {
     pub clauses: Vec<Clause<'t>>,
+    /// The depth of the deepest expression in them, or 0.
     pub depth: usize,
 }
 
@@ -90,6 +97,11 @@ fn over<'t>(
 }
 
 /// A name, where there is room.
+///
+/// # Errors
+///
+/// [`Stop::NoForm`] where it would be deeper than `room`; [`Stop::NoMemory`] where memory was
+/// refused.
 #[inline(never)]
 pub fn name<'t>(alloc: Global, name: &'t str, room: usize) -> Result<Part<'t>, Stop>
     ensures { Makes part_seen (spec.over room true (bare.named name.now) 0) result }
@@ -98,6 +110,11 @@ pub fn name<'t>(alloc: Global, name: &'t str, room: usize) -> Result<Part<'t>, S
 }
 
 /// A number.
+///
+/// # Errors
+///
+/// [`Stop::NoForm`] where it would be deeper than `room`; [`Stop::NoMemory`] where memory was
+/// refused.
 #[inline(never)]
 pub fn number<'t>(alloc: Global, value: u64, room: usize) -> Result<Part<'t>, Stop>
     ensures { Makes part_seen (spec.over room false (bare.numeral value) 0) result }
@@ -106,6 +123,11 @@ pub fn number<'t>(alloc: Global, value: u64, room: usize) -> Result<Part<'t>, St
 }
 
 /// A string.
+///
+/// # Errors
+///
+/// [`Stop::NoForm`] where it would be deeper than `room`; [`Stop::NoMemory`] where memory was
+/// refused.
 #[inline(never)]
 pub fn string<'t>(alloc: Global, text: Text, room: usize) -> Result<Part<'t>, Stop>
     ensures { Makes part_seen (spec.over room false (bare.quoted text) 0) result }
@@ -114,6 +136,11 @@ pub fn string<'t>(alloc: Global, text: Text, room: usize) -> Result<Part<'t>, St
 }
 
 /// An operator between two parts.
+///
+/// # Errors
+///
+/// [`Stop::NoForm`] where it would be deeper than `room`; [`Stop::NoMemory`] where memory was
+/// refused.
 #[inline(never)]
 pub fn operated<'t>(
     alloc: Global,
@@ -140,6 +167,11 @@ pub fn operated<'t>(
 }
 
 /// A part with an operator before it.
+///
+/// # Errors
+///
+/// [`Stop::NoForm`] where it would be deeper than `room`; [`Stop::NoMemory`] where memory was
+/// refused.
 #[inline(never)]
 pub fn signed<'t>(
     alloc: Global,
@@ -155,6 +187,11 @@ pub fn signed<'t>(
 }
 
 /// A conditional, with its parts in the order of the text.
+///
+/// # Errors
+///
+/// [`Stop::NoForm`] where it would be deeper than `room`; [`Stop::NoMemory`] where memory was
+/// refused.
 #[inline(never)]
 pub fn chosen<'t>(
     alloc: Global,
@@ -186,6 +223,11 @@ pub fn chosen<'t>(
 }
 
 /// A field.
+///
+/// # Errors
+///
+/// [`Stop::NoForm`] where it would be deeper than `room`; [`Stop::NoMemory`] where memory was
+/// refused.
 #[inline(never)]
 pub fn selected<'t>(
     alloc: Global,
@@ -201,6 +243,11 @@ pub fn selected<'t>(
 }
 
 /// An index.
+///
+/// # Errors
+///
+/// [`Stop::NoForm`] where it would be deeper than `room`; [`Stop::NoMemory`] where memory was
+/// refused.
 #[inline(never)]
 pub fn subscripted<'t>(
     alloc: Global,
@@ -225,6 +272,11 @@ pub fn subscripted<'t>(
 }
 
 /// A call.
+///
+/// # Errors
+///
+/// [`Stop::NoForm`] where it would be deeper than `room`; [`Stop::NoMemory`] where memory was
+/// refused.
 #[inline(never)]
 pub fn called<'t>(
     alloc: Global,
@@ -246,6 +298,11 @@ pub fn called<'t>(
 }
 
 /// A tuple.
+///
+/// # Errors
+///
+/// [`Stop::NoForm`] where it would be deeper than `room`; [`Stop::NoMemory`] where memory was
+/// refused.
 #[inline(never)]
 pub fn tuple<'t>(alloc: Global, several: Several<'t>, room: usize) -> Result<Part<'t>, Stop>
     ensures { Makes part_seen (spec.tuple_part room (several_seen several.entry)) result }
@@ -255,6 +312,11 @@ pub fn tuple<'t>(alloc: Global, several: Several<'t>, room: usize) -> Result<Par
 }
 
 /// A list.
+///
+/// # Errors
+///
+/// [`Stop::NoForm`] where it would be deeper than `room`; [`Stop::NoMemory`] where memory was
+/// refused.
 #[inline(never)]
 pub fn list<'t>(alloc: Global, several: Several<'t>, room: usize) -> Result<Part<'t>, Stop>
     ensures { Makes part_seen (spec.list_part room (several_seen several.entry)) result }
@@ -264,6 +326,11 @@ pub fn list<'t>(alloc: Global, several: Several<'t>, room: usize) -> Result<Part
 }
 
 /// A dict.
+///
+/// # Errors
+///
+/// [`Stop::NoForm`] where it would be deeper than `room`; [`Stop::NoMemory`] where memory was
+/// refused.
 #[inline(never)]
 pub fn dict<'t>(alloc: Global, found: Pairs<'t>, room: usize) -> Result<Part<'t>, Stop>
     ensures { Makes part_seen (spec.dict_part room (pairs_seen found.entry)) result }
@@ -273,6 +340,11 @@ pub fn dict<'t>(alloc: Global, found: Pairs<'t>, room: usize) -> Result<Part<'t>
 }
 
 /// A list comprehension.
+///
+/// # Errors
+///
+/// [`Stop::NoForm`] where it would be deeper than `room`; [`Stop::NoMemory`] where memory was
+/// refused.
 #[inline(never)]
 pub fn list_each<'t>(
     alloc: Global,
@@ -289,6 +361,11 @@ pub fn list_each<'t>(
 }
 
 /// A dict comprehension.
+///
+/// # Errors
+///
+/// [`Stop::NoForm`] where it would be deeper than `room`; [`Stop::NoMemory`] where memory was
+/// refused.
 #[inline(never)]
 pub fn dict_each<'t>(
     alloc: Global,
@@ -359,6 +436,10 @@ fn add_item<'t>(items: &mut Vec<Expr<'t>>, item: Expr<'t>) -> Result<(), AllocEr
 }
 
 /// One expression more.
+///
+/// # Errors
+///
+/// `AllocError` where memory was refused.
 #[inline(never)]
 pub fn with_item<'t>(several: Several<'t>, part: Part<'t>) -> Result<Several<'t>, AllocError>
     ensures { IfOk result (λ s. several_seen s
@@ -387,6 +468,10 @@ pub fn no_pairs<'t>(alloc: Global) -> Pairs<'t>
 }
 
 /// One entry more.
+///
+/// # Errors
+///
+/// `AllocError` where memory was refused.
 #[inline(never)]
 pub fn with_pair<'t>(found: Pairs<'t>, pair: (Part<'t>, Part<'t>)) -> Result<Pairs<'t>, AllocError>
     ensures { IfOk result (λ s. pairs_seen s
@@ -428,6 +513,10 @@ pub fn no_arguments<'t>(alloc: Global) -> Arguments<'t>
 }
 
 /// One positional argument more.
+///
+/// # Errors
+///
+/// `AllocError` where memory was refused.
 #[inline(never)]
 pub fn with_positional<'t>(
     arguments: Arguments<'t>,
@@ -455,6 +544,10 @@ pub fn with_positional<'t>(
 }
 
 /// One argument with a name more.
+///
+/// # Errors
+///
+/// `AllocError` where memory was refused.
 #[inline(never)]
 pub fn with_keyword<'t>(
     arguments: Arguments<'t>,
@@ -493,6 +586,10 @@ pub fn no_conditions<'t>(alloc: Global) -> Conditions<'t>
 }
 
 /// A `for` clause more, with its first name and its others.
+///
+/// # Errors
+///
+/// `AllocError` where memory was refused.
 #[inline(never)]
 pub fn with_for<'t>(
     found: Conditions<'t>,
@@ -518,6 +615,10 @@ pub fn with_for<'t>(
 }
 
 /// An `if` clause more.
+///
+/// # Errors
+///
+/// `AllocError` where memory was refused.
 #[inline(never)]
 pub fn with_if<'t>(found: Conditions<'t>, part: Part<'t>) -> Result<Conditions<'t>, AllocError>
     ensures { IfOk result (λ s. conditions_seen s

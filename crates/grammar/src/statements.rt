@@ -1,5 +1,5 @@
-//! The lines of a file, as the program keeps them: what only their writing has is gone, and a statement on the line of its
-//! head is the one line of a block.
+//! The lines of a file, as the program keeps them: what only their writing has is gone, and a
+//! statement on the line of its head is the one line of a block.
 
 use crate::Name;
 use crate::tree::Expr;
@@ -26,10 +26,12 @@ impl<'t> Drop for Param<'t> {
 #[derive(Drop)]
 pub struct Item<'t> {
     pub binds: Name<'t>,
+    /// The name in the module.
     pub asked: Text,
 }
 
-/// A line, without the lines of its block. Where names are bound, the first stands before the others.
+/// A line, without the lines of its block. Where names are bound, the first stands before the
+/// others.
 pub enum Form<'t> {
     /// `load(MODULE, ..)`.
     Load(Text, Vec<Item<'t>>),
@@ -48,10 +50,12 @@ pub enum Form<'t> {
     Add(Name<'t>, Expr<'t>),
     /// `BASE[INDEX] += VALUE`.
     AddAt(Box<Expr<'t>>, Box<Expr<'t>>, Expr<'t>),
+    /// An expression alone.
     Evaluate(Expr<'t>),
     Pass,
     Break,
     Continue,
+    /// `return`, with its value where it has one.
     Return(Option<Expr<'t>>),
 }
 
@@ -78,7 +82,8 @@ impl<'t> Drop for Form<'t> {
     }
 }
 
-/// A line, with the number of its first line in the file, counted from 1, and the lines of its block.
+/// A line, with the number of its first line in the file, counted from 1, and the lines of its
+/// block.
 #[cycle(lines)]
 #[derive(Drop)]
 pub struct Line<'t> {

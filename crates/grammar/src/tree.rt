@@ -1,5 +1,5 @@
-//! The trees of expressions, as the program keeps them: what only their writing has, as brackets alone and commas at
-//! the end, is gone.
+//! The trees of expressions, as the program keeps them: what only their writing has, as brackets
+//! alone and commas at the end, is gone.
 
 ghost use Rattle.std.specs.Prelude.{◌≡◌};
 ghost use Rattle.std.specs.Option.{option_map};
@@ -7,13 +7,14 @@ ghost use Rattle.grammar.specs.Descent.{target_in};
 ghost use Rattle.grammar.specs.Descended.{target_of};
 ghost use Rattle.grammar.specs.Bare as bare;
 ghost use Rattle.grammar.specs.Levels.{operator_level};
-ghost use Rattle.grammar.specs.TreeView.{operator_seen, sign_seen, tree_of, trees, entries, keywords, rests};
+ghost use Rattle.grammar.specs.TreeView.{operator_seen, sign_seen, tree_of, trees, entries};
+ghost use Rattle.grammar.specs.TreeView.{keywords, rests};
 
 use crate::Name;
 use plain::Text;
 
-/// How deep an expression may be. A name or a literal is 1 deep, each other form one more than the deepest of its
-/// parts; brackets alone add nothing.
+/// How deep an expression may be. A name or a literal is 1 deep, each other form one more than the
+/// deepest of its parts; brackets alone add nothing.
 pub const MAX_DEPTH: usize = 200;
 
 /// An operator between two parts.
@@ -80,7 +81,9 @@ pub enum Expr<'t> {
     Choice(Box<Expr<'t>>, Box<Expr<'t>>, Box<Expr<'t>>),
     Binary(Operator, Box<Expr<'t>>, Box<Expr<'t>>),
     Unary(Sign, Box<Expr<'t>>),
+    /// `BASE.NAME`.
     Attribute(Box<Expr<'t>>, Name<'t>),
+    /// `BASE[INDEX]`.
     Index(Box<Expr<'t>>, Box<Expr<'t>>),
     /// A call, with its positional arguments and then those with names.
     Call(Box<Expr<'t>>, Vec<Expr<'t>>, Vec<Keyword<'t>>),

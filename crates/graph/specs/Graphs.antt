@@ -12,11 +12,14 @@ pub record GraphView : Type 0 where
   pub labels : List LabelParts
   pub edges : EdgesView
 
--- Its nodes are the labels that are reached, each once; each depends on the nodes of the labels that its label needs, in
--- their order; and it is cyclic where its label is.
-pub record IsGraphOf (needs : LabelParts → List LabelParts) (asked : List LabelParts) (g : GraphView) : Type 0 where
+-- Its nodes are the labels that are reached, each once; each depends on the nodes of the labels
+-- that its label needs, in their order; and it is cyclic where its label is.
+pub record IsGraphOf (needs : LabelParts → List LabelParts) (asked : List LabelParts)
+    (g : GraphView) : Type 0 where
   pub nodes : AreReached needs asked same_label g.labels
   pub graph : IsGraph g.edges.deps
   pub size : length g.edges.deps ≡ length g.labels
-  pub deps : (n : ℕ) → n < length g.labels → map (label_at g.labels) (row g.edges.deps n) ≡ needs (label_at g.labels n)
-  pub cyclic : (n : ℕ) → n < length g.labels → Cyclic (row g.edges.deps) n ↔ Cyclic needs (label_at g.labels n)
+  pub deps : (n : ℕ) → n < length g.labels
+      → map (label_at g.labels) (row g.edges.deps n) ≡ needs (label_at g.labels n)
+  pub cyclic : (n : ℕ) → n < length g.labels
+      → Cyclic (row g.edges.deps) n ↔ Cyclic needs (label_at g.labels n)

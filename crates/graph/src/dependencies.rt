@@ -11,7 +11,8 @@ use workspace::Label;
 pub trait Dependencies {
     ghost needs: { Self → LabelParts → List LabelParts };
 
-    /// The labels that a label depends on, in order and each once; none for a label that is no target.
+    /// The labels that a label depends on, in order and each once; none for a label that is no
+    /// target.
     fn deps(&self, label: &Label) -> &[Shared<Label>]
         ensures value { result.now ≡ needs self.now label.now }
         ensures once { IsDistinct same_label result.now };

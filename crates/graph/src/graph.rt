@@ -1,5 +1,6 @@
 //! The graph of what is reached from labels.
-ghost use Rattle.std.specs.Prelude.{◌≡◌, ◌↔◌, ◌<◌, ◌≤◌, ℕ, length, map, IfOk, IfErr, IsTrue, slice_index};
+ghost use Rattle.std.specs.Prelude.{◌≡◌, ◌↔◌, ◌<◌, ◌≤◌, ℕ, length, map, IfOk, IfErr, IsTrue};
+ghost use Rattle.std.specs.Prelude.{slice_index};
 ghost use Rattle.edges.specs.Walks.{Cyclic};
 ghost use Rattle.edges.specs.Rows.{row, users_of, ready_of};
 ghost use Rattle.graph.specs.Same.{same_label, label_at};
@@ -73,13 +74,13 @@ fn labels_of(
 }
 
 impl Graph {
-    /// The graph of all that is reached from these labels, over what each depends on. It takes time by the number of
-    /// nodes and edges.
+    /// The graph of all that is reached from these labels, over what each depends on. It takes time
+    /// by the number of nodes and edges.
     ///
     /// # Errors
     ///
-    /// `TooMany` where more labels are reached than the limit: for these there is never a graph. `NoMemory` where memory
-    /// was refused.
+    /// `TooMany` where more labels are reached than the limit: for these there is never a graph.
+    /// `NoMemory` where memory was refused.
     pub fn of<S: Dependencies>(
         alloc: Global,
         source: &S,

@@ -1,4 +1,5 @@
-//! What the graph of labels means for outcomes. The function does nothing; its contract holds of every graph.
+//! What the graph of labels means for outcomes. The function does nothing; its contract holds of
+//! every graph.
 ghost use Rattle.std.specs.Prelude.{List};
 ghost use Rattle.workspace.specs.Labels.{LabelParts};
 ghost use Rattle.graph.specs.Graphs.{GraphView, IsGraphOf};

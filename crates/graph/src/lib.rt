@@ -1,8 +1,9 @@
-//! The graph of all targets and files that are reached from labels: its nodes are their labels, and an edge leads from
-//! each to every label that it depends on.
+//! The graph of all targets and files that are reached from labels: its nodes are their labels, and
+//! an edge leads from each to every label that it depends on.
 //!
-//! What a label depends on is told by any [`Dependencies`]. [`Graph::of`] finds the labels that are reached, gives each
-//! a number, and puts them in an order in which each comes after all that it depends on, with the cyclic ones behind.
+//! What a label depends on is told by any [`Dependencies`]. [`Graph::of`] finds the labels that are
+//! reached, gives each a number, and puts them in an order in which each comes after all that it
+//! depends on, with the cyclic ones behind.
 #![tactic(auto)]
 
 mod dependencies;

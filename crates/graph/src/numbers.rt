@@ -1,5 +1,6 @@
 //! The numbers of labels.
-ghost use Rattle.std.specs.Prelude.{◌≡◌, ◌∷◌, ◌++◌, [], ◌<◌, ◌≤◌, false, length, IfOk, IfErr, OnOk, OnErr};
+ghost use Rattle.std.specs.Prelude.{◌≡◌, ◌∷◌, ◌++◌, [], ◌<◌, ◌≤◌, false, length, IfOk, IfErr, OnOk};
+ghost use Rattle.std.specs.Prelude.{OnErr};
 ghost use Rattle.std.specs.List.{list_any};
 ghost use Rattle.graph.specs.Same.{same_label, no_label, label_at};
 ghost use Rattle.graph.specs.Numbering.{Grown, AreNumbers};
@@ -54,7 +55,8 @@ impl Numbers {
         &node.label
     }
 
-    /// Gives the next number to a label that has none. After a refusal of memory the labels are as they were.
+    /// Gives the next number to a label that has none. After a refusal of memory the labels are as
+    /// they were.
     fn add(&mut self, label: &Shared<Label>) -> Result<(), AllocError>
         requires new { list_any (same_label label.now) self.old ≡ false }
         ensures ok { OnOk result (self.new ≡ self.old ++ label.now ∷ []) }
@@ -87,6 +89,11 @@ impl Numbers {
     }
 
     /// The numbers of labels, put in the place of those in a list.
+    ///
+    /// # Errors
+    ///
+    /// `TooMany` where there are more labels than the limit then; `NoMemory` where memory was
+    /// refused. Some labels may have new numbers then.
     pub fn number_all(
         &mut self,
         numbers: &mut Vec<NodeId>,

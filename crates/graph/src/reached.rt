@@ -16,6 +16,7 @@ use workspace::Label;
 #[derive(Drop)]
 pub struct Reached {
     pub numbers: Numbers,
+    /// Of the first labels while it is made, and in the end of all.
     pub deps: Adjacency,
 }
 
@@ -45,16 +46,20 @@ fn add_row<S: Dependencies>(
     Ok(())
 }
 
-/// All that is reached from the labels that are asked for. The labels whose turn is still to come are those behind the
-/// rows.
+/// All that is reached from the labels that are asked for. The labels whose turn is still to come
+/// are those behind the rows.
+///
+/// # Errors
+///
+/// `TooMany` where more labels are reached than the limit; `NoMemory` where memory was refused.
 pub fn reached_from<S: Dependencies>(
     alloc: Global,
     source: &S,
     asked: &[Shared<Label>],
     limit: usize,
 ) -> Result<Reached, GraphRefused>
-    ensures numbered { IfOk result (λ r. Numbering same_label no_label (S.needs source.now) asked.now
-        r.numbers r.deps) }
+    ensures numbered { IfOk result
+        (λ r. Numbering same_label no_label (S.needs source.now) asked.now r.numbers r.deps) }
     ensures whole { IfOk result (λ r. length r.deps ≡ length r.numbers) }
     ensures within { IfOk result (λ r. length r.numbers ≤ limit) }
     ensures many { IfErr result (λ e. e ≡ GraphRefused.TooMany

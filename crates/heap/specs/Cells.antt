@@ -1,6 +1,9 @@
--- New cells and changes of cells. Each change is refused by the first of type, frozen, iterating, index and large.
--- (Starlark's specification, "Freezing a value" and "For loops"; the limit of size is this project's own.)
-use Rattle.std.specs.Prelude.{◌≡◌, ℕ, zero, suc, ◌+◌, ◌-◌, ℤ, pos, negsuc, List, [], ◌∷◌, ◌++◌, length, Option, Some, None, ◌<◌, Result, Ok, Err, if◌then◌else◌, nat_lt, ◌&&◌, not, slice_get, slice_set, IsSomeAnd, ◌^◌, ◌≤◌}
+-- New cells and changes of cells. Each change is refused by the first of type, frozen, iterating,
+-- index and large. (Starlark's specification, "Freezing a value" and "For loops"; the limit of size
+-- is this project's own.)
+use Rattle.std.specs.Prelude.{◌≡◌, ℕ, zero, suc, ◌+◌, ◌-◌, ℤ, pos, negsuc, List, [], ◌∷◌, ◌++◌}
+use Rattle.std.specs.Prelude.{length, Option, Some, None, ◌<◌, Result, Ok, Err, if◌then◌else◌}
+use Rattle.std.specs.Prelude.{nat_lt, ◌&&◌, not, slice_get, slice_set, IsSomeAnd, ◌^◌, ◌≤◌}
 use Rattle.indexmap.specs.IndexMap.{insert_entry}
 use Rattle.values.specs.View.{FrozenBranch, is_list, is_dict, is_walkable}
 use Rattle.leaves.specs.Leaves.{same_key}
@@ -24,6 +27,7 @@ abbrev pub place_of : ℤ → ℕ → Option ℕ
 place_of (pos i) n = if nat_lt i n then Some i else None
 place_of (negsuc i) n = if nat_lt i n then Some (n - (i + 1)) else None
 
+-- a change's result with f of what it gave, where it wasn't refused
 abbrev pub after : {A B : Type 0} → (A → B) → Result A Kind → Result B Kind
 after f (Ok x) = Ok (f x)
 after f (Err k) = Err k
@@ -40,6 +44,7 @@ pushed_items v xs = if nat_lt (length xs) LARGEST then Ok (xs ++ v ∷ []) else 
 abbrev pub joined_items : List Value → List Value → Result (List Value) Kind
 joined_items vs xs = if nat_lt LARGEST (length xs + length vs) then Err Large else Ok (xs ++ vs)
 
+-- the items with the value at the place that an index means; `index` where it means none
 abbrev pub set_at : Option ℕ → Value → List Value → Result (List Value) Kind
 set_at None v xs = Err Index
 set_at (Some i) v xs = Ok (slice_set xs i v)
@@ -51,7 +56,8 @@ indexed_items i v xs = set_at (place_of i (length xs)) v xs
 -- a key given the value; a new key may be one too many
 abbrev pub keyed_entries : Key → Value → List (Key × Value) → Result (List (Key × Value)) Kind
 keyed_entries k v es =
-    if not (has_key es k) && not (nat_lt (length es) LARGEST) then Err Large else Ok (insert_entry same_key es k v)
+    if not (has_key es k) && not (nat_lt (length es) LARGEST) then Err Large
+    else Ok (insert_entry same_key es k v)
 
 -- a change of the list of a cell
 abbrev pub in_list : (List Value → Result (List Value) Kind) → Cell → Result Cell Kind
@@ -61,21 +67,26 @@ in_list f (cell.Dict es n) = Err Wrong
 in_list f (cell.Instance p xs) = Err Wrong
 
 -- a change of the dict of a cell
-abbrev pub in_dict : (List (Key × Value) → Result (List (Key × Value)) Kind) → Cell → Result Cell Kind
+abbrev pub in_dict : (List (Key × Value) → Result (List (Key × Value)) Kind) → Cell
+    → Result Cell Kind
 in_dict f (cell.List xs n) = Err Wrong
 in_dict f (cell.Tuple xs) = Err Wrong
 in_dict f (cell.Dict es n) = unless_walked n (after (λ fs. cell.Dict fs n) (f es))
 in_dict f (cell.Instance p xs) = Err Wrong
 
+-- what `append` makes of the cell of a list (Starlark's specification, "list·append")
 abbrev pub pushed : Value → Cell → Result Cell Kind
 pushed v c = in_list (pushed_items v) c
 
+-- what `extend` makes of the cell of a list (Starlark's specification, "list·extend")
 abbrev pub joined : List Value → Cell → Result Cell Kind
 joined vs c = in_list (joined_items vs) c
 
+-- what `x[i] = v` makes of the cell of a list (Starlark's specification, "Assignments")
 abbrev pub indexed : ℤ → Value → Cell → Result Cell Kind
 indexed i v c = in_list (indexed_items i v) c
 
+-- what `x[k] = v` makes of the cell of a dict (Starlark's specification, "Assignments")
 abbrev pub keyed : Key → Value → Cell → Result Cell Kind
 keyed k v c = in_dict (keyed_entries k v) c
 
@@ -98,7 +109,7 @@ abbrev pub IsFullAt : List Cell → Value → Type 0
 IsFullAt h (value.Cell n) = IsSomeAnd (slice_get h n) IsFull
 IsFullAt h v = ⊥
 
--- and ends
+-- and a walk ends: the cell counts one less, and never less than none
 abbrev pub walk_over : Cell → Cell
 walk_over (cell.List xs n) = cell.List xs (n - 1)
 walk_over (cell.Tuple xs) = cell.Tuple xs
@@ -111,9 +122,11 @@ put_at [] i f = Err Wrong
 put_at (c ∷ cs) zero f = after (λ d. d ∷ cs) (f c)
 put_at (c ∷ cs) (suc i) f = after (λ ds. c ∷ ds) (put_at cs i f)
 
+-- why a change of a list is refused of a frozen value: `frozen` where it is a list, and else `type`
 abbrev pub list_refusal : FrozenBranch → Kind
 list_refusal b = if is_list b then Frozen else Wrong
 
+-- why a change of a dict is refused of a frozen value: `frozen` where it is a dict, and else `type`
 abbrev pub dict_refusal : FrozenBranch → Kind
 dict_refusal b = if is_dict b then Frozen else Wrong
 
@@ -131,8 +144,8 @@ dict_changed f h (value.Leaf l) = Err Wrong
 dict_changed f h (value.Cell n) = put_at h n f
 dict_changed f h (value.Frozen b) = Err (dict_refusal b)
 
--- A walk begins over a value, with the cell in which it is counted: a frozen list, tuple or dict may be walked, and
--- nothing is counted.
+-- A walk begins over a value, with the cell in which it is counted: a frozen list, tuple or dict
+-- may be walked, and nothing is counted.
 abbrev pub walk_begun_at : List Cell → Value → Result (Option ℕ × List Cell) Kind
 walk_begun_at h (value.Key k) = Err Wrong
 walk_begun_at h (value.Leaf l) = Err Wrong

@@ -1,6 +1,9 @@
--- What holds of every change of a heap (Starlark's specification, "For loops": what is walked isn't changed).
-use Rattle.std.specs.Prelude.{◌≡◌, ◌≢◌, ℕ, ℤ, Bool, true, false, List, Some, Option, Result, Ok, slice_get, nat_lt}
-use Rattle.heap.specs.Cells.{pushed, joined, indexed, keyed, made, list_changed, dict_changed, walk_begun_at, walk_ended}
+-- What holds of every change of a heap (Starlark's specification, "For loops": what is walked isn't
+-- changed).
+use Rattle.std.specs.Prelude.{◌≡◌, ◌≢◌, ℕ, ℤ, Bool, true, false, List, Some, Option, Result, Ok}
+use Rattle.std.specs.Prelude.{slice_get, nat_lt}
+use Rattle.heap.specs.Cells.{pushed, joined, indexed, keyed, made, list_changed, dict_changed}
+use Rattle.heap.specs.Cells.{walk_begun_at, walk_ended}
 use Rattle.keys.specs.declared.key.Key.{Key}
 use Rattle.values.specs.declared.value.Value.{Value}
 use Rattle.values.specs.declared.value.Value.TheVariants as value
@@ -15,6 +18,7 @@ pub data Change : Type 0 where
   set_index : Value → ℤ → Value → Change
   set_key : Value → Key → Value → Change
 
+-- the value that a change is of
 abbrev pub changed_value : Change → Value
 changed_value (append v x) = v
 changed_value (extend v xs) = v
@@ -49,10 +53,13 @@ OthersStay h g v = (n : ℕ) → v ≢ value.Cell n → slice_get g n ≡ slice_
 -- each cell over which a walk went on has what it had
 abbrev pub WalkedStay : List Cell → List Cell → Type 0
 WalkedStay h g =
-    (n : ℕ) (c : Cell) → slice_get h n ≡ Some c → is_walked c ≡ true → (d : Cell) × ((slice_get g n ≡ Some d) × (contents d ≡ contents c))
+    (n : ℕ) (c : Cell) → slice_get h n ≡ Some c → is_walked c ≡ true
+    → (d : Cell) × ((slice_get g n ≡ Some d) × (contents d ≡ contents c))
 
--- also when another walk begins or ends, and when a cell is made
+-- What is walked has what it had also when another walk begins or ends, and when a cell is made.
 pub record WalksStay : Type 0 where
-  pub begun : (h g : List Cell) (v : Value) (n : Option ℕ) → walk_begun_at h v ≡ Ok (n, g) → WalkedStay h g
+  pub begun : (h g : List Cell) (v : Value) (n : Option ℕ) → walk_begun_at h v ≡ Ok (n, g)
+      → WalkedStay h g
   pub ended : (h : List Cell) (n : Option ℕ) → WalkedStay h (walk_ended h n)
-  pub new_cell : (h g : List Cell) (c : Cell) (parts : ℕ) (v : Value) → made h c parts ≡ Ok (v, g) → WalkedStay h g
+  pub new_cell : (h g : List Cell) (c : Cell) (parts : ℕ) (v : Value) → made h c parts ≡ Ok (v, g)
+      → WalkedStay h g

@@ -1,10 +1,16 @@
 //! The heap: numbered cells that names share, and all that changes them.
 //!
-//! A change is refused by the first of `type`, `frozen`, `iterating`, `index` and `large`, and a refused
-//! change leaves the heap as it was. Each change finds its cell, and has the one cell changed.
-ghost use Rattle.std.specs.Prelude.{◌≡◌, ◌+◌, ◌-◌, ◌++◌, ◌∷◌, [], ◌<◌, Result, Ok, Some, None, length, take, slice_get, option_copied, IfErr, IfOk, IfSome, MatchResult, ◌^◌, ◌≤◌};
+//! A change is refused by the first of `type`, `frozen`, `iterating`, `index` and `large`, and a
+//! refused change leaves the heap as it was. Each change finds its cell, and has the one cell
+//! changed.
+ghost use Rattle.std.specs.Prelude.{◌≡◌, ◌+◌, ◌-◌, ◌++◌, ◌∷◌, [], ◌<◌, Result, Ok, Some, None};
+ghost use Rattle.std.specs.Prelude.{length, take, slice_get, option_copied, IfErr, IfOk, IfSome};
+ghost use Rattle.std.specs.Prelude.{MatchResult, ◌^◌, ◌≤◌};
 ghost use Rattle.ticks.specs.Ticking.{FaultOr};
-ghost use Rattle.heap.specs.Cells.{made, pushed_items, joined_items, indexed_items, keyed_entries, pushed, joined, indexed, keyed, walk_begun, walk_begun_at, IsFull, IsFullAt, walk_over, walk_ended, ended_at, place_of, list_changed, dict_changed, IsWalked};
+ghost use Rattle.heap.specs.Cells.{made, pushed_items, joined_items, indexed_items, keyed_entries};
+ghost use Rattle.heap.specs.Cells.{pushed, joined, indexed, keyed, walk_begun, walk_begun_at};
+ghost use Rattle.heap.specs.Cells.{IsFull, IsFullAt, walk_over, walk_ended, ended_at, place_of};
+ghost use Rattle.heap.specs.Cells.{list_changed, dict_changed, IsWalked};
 ghost use Rattle.values.specs.Shape.{cell_shape};
 ghost use Rattle.values.specs.Walks.{walked_items, walked_values};
 ghost use Rattle.values.specs.declared.cells.Cell.{Cell as Kept};
@@ -69,6 +75,11 @@ impl Heap {
     }
 
     /// A new list in the next cell, or `large`.
+    ///
+    /// # Errors
+    ///
+    /// `large` where it has more items than a list may have; `NoMemory` where memory was refused.
+    /// The heap stays as it was.
     pub fn new_list(&mut self, items: Items) -> Result<Value, Broken>
         ensures { MatchResult result (λ v. made self.old (Cell.List items 0) (length items)
             ≡ Ok (v, self.new)) (λ e. (self.new ≡ self.old)
@@ -79,6 +90,11 @@ impl Heap {
     }
 
     /// A new tuple in the next cell, or `large`.
+    ///
+    /// # Errors
+    ///
+    /// `large` where it has more items than a tuple may have; `NoMemory` where memory was refused.
+    /// The heap stays as it was.
     pub fn new_tuple(&mut self, items: Items) -> Result<Value, Broken>
         ensures { MatchResult result (λ v. made self.old (Cell.Tuple items) (length items)
             ≡ Ok (v, self.new)) (λ e. (self.new ≡ self.old)
@@ -89,6 +105,11 @@ impl Heap {
     }
 
     /// A new dict in the next cell, or `large`.
+    ///
+    /// # Errors
+    ///
+    /// `large` where it has more entries than a dict may have; `NoMemory` where memory was refused.
+    /// The heap stays as it was.
     pub fn new_dict(&mut self, entries: Entries) -> Result<Value, Broken>
         ensures { MatchResult result (λ v. made self.old (Cell.Dict entries 0) (length entries)
             ≡ Ok (v, self.new)) (λ e. (self.new ≡ self.old)
@@ -100,6 +121,10 @@ impl Heap {
     }
 
     /// A new instance of the provider in the next cell, with its fields by place.
+    ///
+    /// # Errors
+    ///
+    /// `NoMemory` where memory was refused. The heap stays as it was.
     #[inline(always)]
     pub fn new_instance(
         &mut self,
@@ -129,7 +154,14 @@ impl Heap {
         }
     }
 
-    /// Puts an item last in a list: refused by `type`, `frozen`, `iterating` and `large`, in this order.
+    /// Puts an item last in a list: refused by `type`, `frozen`, `iterating` and `large`, in this
+    /// order.
+    ///
+    /// # Errors
+    ///
+    /// `type` where it is no list, `frozen` where it is frozen, `iterating` where it is walked, or
+    /// `large` where it is as long as a list may be; `NoMemory` where memory was refused. The heap
+    /// stays as it was.
     pub fn append(&mut self, list: &Value, item: Value) -> Result<(), Broken>
         ensures { MatchResult result (λ _. list_changed (pushed item) self.old list.now
             ≡ Ok self.new) (λ e. (self.new ≡ self.old)
@@ -147,6 +179,10 @@ impl Heap {
     }
 
     /// Puts items last in a list, in place: refused as `append` is.
+    ///
+    /// # Errors
+    ///
+    /// As for `append`; `large` where it would be longer than a list may be.
     pub fn extend(&mut self, list: &Value, items: Items) -> Result<(), Broken>
         ensures { MatchResult result (λ _. list_changed (joined items) self.old list.now
             ≡ Ok self.new) (λ e. (self.new ≡ self.old)
@@ -163,8 +199,14 @@ impl Heap {
         Ok(())
     }
 
-    /// Sets the item of a list at an index, from the end where it is negative: refused by `type`, `frozen`,
-    /// `iterating` and `index`, in this order.
+    /// Sets the item of a list at an index, from the end where it is negative: refused by `type`,
+    /// `frozen`, `iterating` and `index`, in this order.
+    ///
+    /// # Errors
+    ///
+    /// `type` where it is no list, `frozen` where it is frozen, `iterating` where it is walked, or
+    /// `index` where it has no such item; `NoMemory` where memory was refused. The heap stays as it
+    /// was.
     pub fn set_index(&mut self, list: &Value, index: i64, item: Value) -> Result<(), Broken>
         ensures { MatchResult result (λ _. list_changed (indexed index item) self.old list.now
             ≡ Ok self.new) (λ e. (self.new ≡ self.old)
@@ -181,8 +223,14 @@ impl Heap {
         Ok(())
     }
 
-    /// Gives a key of a dict the value; a key that is there keeps its place. Refused by `type`, `frozen`,
-    /// `iterating` and, for a new key, `large`, in this order.
+    /// Gives a key of a dict the value; a key that is there keeps its place. Refused by `type`,
+    /// `frozen`, `iterating` and, for a new key, `large`, in this order.
+    ///
+    /// # Errors
+    ///
+    /// `type` where it is no dict, `frozen` where it is frozen, `iterating` where it is walked, or
+    /// `large` where the key is new and the dict has as many entries as one may have; `NoMemory`
+    /// where memory was refused. The heap stays as it was.
     pub fn set_key(&mut self, dict: &Value, key: Key, item: Value) -> Result<(), Broken>
         ensures { MatchResult result (λ _. dict_changed (keyed key item) self.old dict.now
             ≡ Ok self.new) (λ e. (self.new ≡ self.old)
@@ -199,11 +247,13 @@ impl Heap {
         Ok(())
     }
 
-    /// What a walk over the cell of this number goes over, shared with it and not copied. The heap stays as it was.
+    /// What a walk over the cell of this number goes over, shared with it and not copied. The heap
+    /// stays as it was.
     ///
     /// # Errors
     ///
-    /// `AllocError` where there is no memory for the count of those who share, or where it is at its greatest.
+    /// `AllocError` where there is no memory for the count of those who share, or where it is at
+    /// its greatest.
     pub fn share(&mut self, number: usize) -> Result<Walked, AllocError>
         ensures same { self.new ≡ self.old }
         ensures ok { IfOk result (λ w. walked_values w
@@ -216,9 +266,14 @@ impl Heap {
         share_in(&mut self.cells[number], alloc)
     }
 
-    /// A walk over a list, a tuple or a dict begins: until it is over, a list or a dict isn't changed.
-    /// All else is `type`. It gives the cell in which the walk is counted, where there is one: in a frozen value
-    /// nothing is counted. Want of memory is its answer only where the cell counts 2^64 - 1 walks already.
+    /// A walk over a list, a tuple or a dict begins: until it is over, a list or a dict isn't
+    /// changed. All else is `type`. It gives the cell in which the walk is counted, where there is
+    /// one: in a frozen value nothing is counted.
+    ///
+    /// # Errors
+    ///
+    /// `type` where it is no list, tuple or dict; `NoMemory` only where the cell counts 2^64 - 1
+    /// walks already.
     pub fn begin_walk(&mut self, walked: &Value) -> Result<Option<usize>, Broken>
         ensures begun { MatchResult result
             (λ n. walk_begun_at self.old walked.now ≡ Ok (n, self.new))
@@ -299,7 +354,8 @@ impl Heap {
         }
     }
 
-    /// The number of the cell that a walk counts in, None where it counts in none, or why it is refused.
+    /// The number of the cell that a walk counts in, None where it counts in none, or why it is
+    /// refused.
     fn walked_cell(&self, walked: &Value) -> Result<Option<usize>, Kind>
         ensures { MatchResult result (IsWalked self.now walked.now)
             (λ k. walk_begun_at self.now walked.now ≡ Err k) }

@@ -1,7 +1,8 @@
-//! The heap: the cells that names share, by their numbers, all that changes them, and what a value shows there.
+//! The heap: the cells that names share, by their numbers, all that changes them, and what a value
+//! shows there.
 //!
-//! To a contract the heap is the list of its cells: `specs/` says what each change makes of it, and what holds of all
-//! of them.
+//! To a contract the heap is the list of its cells: `specs/` says what each change makes of it, and
+//! what holds of all of them.
 #![tactic(auto)]
 
 mod heap;

@@ -1,5 +1,5 @@
-//! What values show, those that lie in a heap among them: what equality, freezing and `str` look at. Nothing is shared or
-//! copied to look.
+//! What values show, those that lie in a heap among them: what equality, freezing and `str` look
+//! at. Nothing is shared or copied to look.
 ghost use Rattle.std.specs.Prelude.{◌≡◌};
 ghost use Rattle.values.specs.Seeing.{item_value, seen};
 ghost use Rattle.values.specs.Shape.{shape};

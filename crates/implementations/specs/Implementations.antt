@@ -1,6 +1,8 @@
--- What an implementation has while it runs: the fields and items of the targets that it depends on, `ctx` and its parts, and the
--- methods of `ctx.actions` (docs/PROFILE.md, "Rules of all calls" and "Fields").
-use Rattle.std.specs.Prelude.{ℕ, Bool, false, List, [], ◌∷◌, Option, Some, None, is_some, Result, Ok, Err, codes, bytes_eq, if◌then◌else◌}
+-- What an implementation has while it runs: the fields and items of the targets that it depends on,
+-- `ctx` and its parts, and the methods of `ctx.actions` (docs/PROFILE.md, "Rules of all calls" and
+-- "Fields").
+use Rattle.std.specs.Prelude.{ℕ, Bool, false, List, [], ◌∷◌, Option, Some, None, is_some, Result}
+use Rattle.std.specs.Prelude.{Ok, Err, codes, bytes_eq, if◌then◌else◌}
 use Rattle.std.specs.List.{list_any}
 use Rattle.leaves.specs.declared.leaf.BuiltIn.{BuiltIn}
 use Rattle.leaves.specs.declared.leaf.BuiltIn.TheVariants as built_in
@@ -24,28 +26,33 @@ use Rattle.contexts.specs.Offered.{item, offers}
 use Rattle.contexts.specs.Fields.{field}
 use Rattle.contexts.specs.Actions.{Working, method_named, method_call}
 
--- `provider`, `rule` and the methods of `attr` are a module's, and a rule is called by a `BUILD` file
+-- how a call of a built-in function is refused: `provider` and `rule`, as the methods of `attr`,
+-- are called by a module alone, and a rule by a `BUILD` file
 abbrev pub built_in_refused : BuiltIn → Kind
 built_in_refused built_in.Provider = fault.Place
 built_in_refused built_in.Rule = fault.Place
 built_in_refused _ = fault.Wrong
 
+-- how a call is refused that the language leaves to the place: an implementation may make none
 abbrev pub refused : Leaf → Kind
 refused (plain.BuiltIn b) = built_in_refused b
 refused (plain.Rule r) = fault.Place
 refused _ = fault.Wrong
 
+-- whether `attr` has a method of this name (Bazel documentation, "attr")
 abbrev pub is_attr_method : List ℕ → Bool
 is_attr_method x =
     list_any (bytes_eq x)
-    (codes "string" ∷ codes "int" ∷ codes "bool" ∷ codes "string_list" ∷ codes "string_dict" ∷ codes "label" ∷ codes "label_list" ∷ [])
+    (codes "string" ∷ codes "int" ∷ codes "bool" ∷ codes "string_list"
+    ∷ codes "string_dict" ∷ codes "label" ∷ codes "label_list" ∷ [])
 
+-- whether an object has a method of this name: `attr` and `ctx.actions` have some
 abbrev pub object_has_method : Object → List ℕ → Bool
 object_has_method object.Attr x = is_attr_method x
 object_has_method object.ContextActions x = is_some (method_named x)
 object_has_method _ x = false
 
--- nothing else has methods
+-- whether a value has a method that is its place's: nothing but an object has
 abbrev pub has_method : Leaf → List ℕ → Bool
 has_method (plain.Object o) x = object_has_method o x
 has_method _ x = false
@@ -55,23 +62,28 @@ abbrev pub worked : Whole Work → Working → Result (Value × Whole Work) Kind
 worked w (Ok p) = Ok (p.0, record w { work = p.1 })
 worked w (Err k) = Err k
 
+-- a call of a method of `ctx.actions`; no such method is `name`
 abbrev pub action_call : LabelParts → Option ActionMethod → Given → Does Work Value
 action_call l (Some m) g w = worked w (method_call l m w.state.heap g w.work)
 action_call l None g w = Err fault.Name
 
+-- how a call of a method of `attr` is refused: `place`, or `name` where there is none
 abbrev pub attr_refused : List ℕ → Kind
 attr_refused x = if is_attr_method x then fault.Place else fault.Name
 
+-- a call of a method of an object, for the target of a label
 abbrev pub object_method : LabelParts → Object → List ℕ → Given → Does Work Value
 object_method l object.Attr x g w = Err (attr_refused x)
 object_method l object.ContextActions x g w = action_call l (method_named x) g w
 object_method l _ x g w = Err fault.Name
 
+-- the same, of any value that the language leaves to the place
 abbrev pub call_method : LabelParts → Leaf → List ℕ → Given → Does Work Value
 call_method l (plain.Object o) x g w = object_method l o x g w
 call_method l _ x g w = Err fault.Name
 
--- for the target of a label, with its dependencies and their outcomes
+-- what the implementation of a target has while it runs, by its label, its rule and attributes, and
+-- its dependencies with their outcomes
 abbrev pub implementation_place : LabelParts → Target → List Dependency → Place Work
 implementation_place l t ds = record {
   call = λ c g w. Err (refused c);

@@ -4,7 +4,8 @@ ghost use Rattle.ticks.specs.Ticking.{FaultOr};
 ghost use Rattle.operations.specs.Arguments.{given};
 ghost use Rattle.places.specs.Answers.{Says, Reads};
 ghost use Rattle.contexts.specs.Actions.{method_named};
-ghost use Rattle.implementations.specs.Implementations.{implementation_place, call_method, object_method, action_call, worked};
+ghost use Rattle.implementations.specs.Implementations.{implementation_place, call_method};
+ghost use Rattle.implementations.specs.Implementations.{object_method, action_call, worked};
 
 use crate::methods::{action_named, attr_refused, has_method, refused};
 use contexts::{ActionMethod, FileLists, TargetContext, Work, field, item, offers};
@@ -18,12 +19,14 @@ use target_actions::Mnemonics;
 use values::{Broken, Item, Kind, Leaf, Object, Value};
 use workspace::Label;
 
-/// What the implementation of the target of a label sees: the target, and its dependencies with their outcomes. What lies in
-/// these is lent, and so is what was made of the target's attributes. Its work are the Files that it declares and the actions
-/// that it registers.
+/// What the implementation of the target of a label sees: the target, and its dependencies with
+/// their outcomes. What lies in these is lent, and so is what was made of the target's attributes.
+/// Its work are the Files that it declares and the actions that it registers.
 #[derive(Drop)]
 pub struct ImplementationPlace<'a, 'b, I: FileLists> {
+    /// The target, its dependencies, and what is made of them once.
     pub context: &'a TargetContext<'b, I>,
+    /// The mnemonics of actions for which none is given.
     pub mnemonics: &'a Mnemonics,
 }
 

@@ -1,5 +1,5 @@
-//! Values that a dict may have as keys: strings, whole numbers and bools. A key is looked up as it lies in a value, and
-//! none is made for it.
+//! Values that a dict may have as keys: strings, whole numbers and bools. A key is looked up as it
+//! lies in a value, and none is made for it.
 ghost use Rattle.std.specs.Prelude.{◌≡◌, IfOk};
 
 use plain::Text;
@@ -8,13 +8,20 @@ use std::alloc::AllocError;
 /// A string, a whole number of 64 bits, signed, or a bool.
 #[derive(PartialEq, Eq, Hash)]
 pub enum Key {
+    /// A string.
     Text(Text),
+    /// A whole number of 64 bits, signed.
     Number(i64),
+    /// A bool. `True` and `1` are two keys.
     Truth(bool),
 }
 
 impl Key {
     /// Another name of the same key.
+    ///
+    /// # Errors
+    ///
+    /// `AllocError` where the count of the names of its text is at its greatest.
     #[inline(always)]
     pub fn share(&self) -> Result<Key, AllocError>
         ensures { IfOk result (λ k. k ≡ self.now) }

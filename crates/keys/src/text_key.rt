@@ -6,7 +6,8 @@ use plain::Text;
 use std::hash::{Hash, Hasher};
 use std::marker::Model;
 
-/// A text, as the key that it is: so it is lent wherever it is read as a value, and no count is touched.
+/// A text, as the key that it is: so it is lent wherever it is read as a value, and no count is
+/// touched.
 ///
 /// To a contract it is the text. It is equal to another and hashed by its bytes.
 #[derive(Drop)]

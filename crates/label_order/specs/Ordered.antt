@@ -10,6 +10,7 @@ use Rattle.graph.specs.Same.{label_at}
 abbrev pub Entry : Type 0
 Entry = LabelParts × ℕ
 
+-- the same, of a label that the code lends
 abbrev pub entry_seen : Bor LabelParts × ℕ → Entry
 entry_seen e = (e.0.now, e.1)
 
@@ -17,6 +18,7 @@ entry_seen e = (e.0.now, e.1)
 abbrev pub Keyed : Type 0
 Keyed = Bor (List ℕ) × (Bor LabelParts × ℕ)
 
+-- the label with its number, without the text by which it is sorted
 abbrev pub keyed_seen : Keyed → Entry
 keyed_seen k = entry_seen k.1
 

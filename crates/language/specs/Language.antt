@@ -1,8 +1,11 @@
--- The record of operations over which files have their meaning: the operations on the state of an evaluation.
--- (docs/PROFILE.md, "Operators" and "Predeclared names".)
-use Rattle.std.specs.Prelude.{ℕ, pos, Bool, true, false, not, List, map, Option, Some, None, option_map, Result, Ok, Err, if◌then◌else◌}
+-- The record of operations over which files have their meaning: the operations on the state of an
+-- evaluation. (docs/PROFILE.md, "Operators" and "Predeclared names".)
+use Rattle.std.specs.Prelude.{ℕ, pos, Bool, true, false, not, List, map, Option, Some, None}
+use Rattle.std.specs.Prelude.{option_map, Result, Ok, Err, if◌then◌else◌}
 use Rattle.numbers.specs.declared.order.Comparison.TheVariants as op
-use Rattle.grammar.specs.Tree.{Operator, either, both, equal, not_equal, less, greater, less_equal, greater_equal, within, not_within, add, subtract, multiply, divide, remainder, Sign, negation, opposite}
+use Rattle.grammar.specs.Tree.{Operator, either, both, equal, not_equal, less, greater, less_equal}
+use Rattle.grammar.specs.Tree.{greater_equal, within, not_within, add, subtract, multiply, divide}
+use Rattle.grammar.specs.Tree.{remainder, Sign, negation, opposite}
 use Rattle.program_tree.specs.declared.names.Predeclared.{Predeclared}
 use Rattle.program_tree.specs.declared.names.Predeclared.TheVariants as name
 use Rattle.meaning.specs.Operations as meant
@@ -19,7 +22,8 @@ use Rattle.ticks.specs.declared.ticks.Kind.TheVariants as kind
 use Rattle.operations.specs.declared.arithmetic.Arithmetic.TheVariants as arithmetic
 use Rattle.operations.specs.declared.method.Method.{Method}
 use Rattle.operations.specs.States.{Op, then_do, tick}
-use Rattle.operations.specs.Making.{none, truth, number, text, new_list, new_tuple, new_dict, collect, enter, keep}
+use Rattle.operations.specs.Making.{none, truth, number, text, new_list, new_tuple, new_dict}
+use Rattle.operations.specs.Making.{collect, enter, keep}
 use Rattle.operations.specs.Truth.{truth_of}
 use Rattle.operations.specs.Equality.{equals}
 use Rattle.operations.specs.Strings.{member}
@@ -27,7 +31,8 @@ use Rattle.operations.specs.Operators.{plus, add_in_place, calculate, negative, 
 use Rattle.operations.specs.Items.{item}
 use Rattle.operations.specs.Changes.{set_item}
 use Rattle.operations.specs.Walks.{begin, ended, parts}
-use Rattle.operations.specs.Names.{Linked, global, set_global, set_loaded, load, define, defaults, function_of}
+use Rattle.operations.specs.Names.{Linked, global, set_global, set_loaded, load, define, defaults}
+use Rattle.operations.specs.Names.{function_of}
 use Rattle.operations.specs.Fields.{Found, plainly, with_method, shape_method, field, find}
 use Rattle.operations.specs.Arguments.{Given}
 use Rattle.operations.specs.Instances.{default_info}
@@ -112,7 +117,8 @@ of_place _ = None
 
 -- the arguments of a call, with their names and their values apart
 abbrev pub given_of : meant.Arguments Value → Given
-given_of a = record { items = a.items; names = map (λ n. n.0) a.named; values = map (λ n. n.1) a.named }
+given_of a =
+    record { items = a.items; names = map (λ n. n.0) a.named; values = map (λ n. n.1) a.named }
 
 -- the function of this number in a module
 abbrev pub function_id : MadeId → meant.FunctionId
@@ -144,7 +150,8 @@ module _ {W : Type 0} (world : Linked) (place : Place W) where
   item_of t i (Some n) w = kept (place.item n i w) w
   item_of b i None w = of_state (item b i) w
 
-  -- a field of a target or of an object is its place's, and that of any other value is the language's
+  -- a field of a target or of an object is its place's, and that of any other value is the
+  -- language's
   abbrev pub field_of : Value → List ℕ → Option Leaf → Does W Value
   field_of v x (Some l) w = kept (place.field l x w) w
   field_of v x None w = of_state (field v x) w
@@ -162,7 +169,8 @@ module _ {W : Type 0} (world : Linked) (place : Place W) where
   -- what `v.x(..)` calls; where `v` is a target or an object, its place says it
   abbrev pub find_of : Value → List ℕ → Option Leaf → Does W (meant.Callee Value)
   find_of v x (Some l) w =
-      if place.has_method l x then Ok (meant.method v x, w) else kept (plain_callee (place.field l x w)) w
+      if place.has_method l x then Ok (meant.method v x, w)
+      else kept (plain_callee (place.field l x w)) w
   find_of v x None w = of_state (λ s. then_do (find v x s) (λ f t. Ok (as_callee v x f, t))) w
 
   -- the call of a built-in that the language knows, and else one of the place

@@ -1,5 +1,5 @@
--- What only one place has (a module, a `BUILD` file, an implementation): its own work beside the state of an evaluation, its
--- calls, and what its targets and objects show.
+-- What only one place has (a module, a `BUILD` file, an implementation): its own work beside the
+-- state of an evaluation, its calls, and what its targets and objects show.
 use Rattle.std.specs.Prelude.{ℕ, Bool, List, Result, Ok, Err}
 use Rattle.leaves.specs.declared.leaf.Leaf.{Leaf}
 use Rattle.values.specs.declared.value.Value.{Value}
@@ -9,9 +9,12 @@ use Rattle.operations.specs.States.{Op}
 use Rattle.operations.specs.Arguments.{Given}
 pub use Rattle.language.specs.declared.whole.Whole.{Whole}
 
+-- what is done with the state of an evaluation and the work of its place: an answer and both after
+-- it, or the kind of the fault
 abbrev pub Does : Type 0 → Type 0 → Type 0
 Does W A = Whole W → Result (A × Whole W) Kind
 
+-- what a place adds to the language, for what it works on (`W`)
 pub record Place (W : Type 0) : Type 0 where
   -- a call of `provider` or `rule`, or of a rule
   pub call : Leaf → Given → Does W Value
@@ -25,6 +28,7 @@ pub record Place (W : Type 0) : Type 0 where
   pub offers : ℕ → Value → Whole W → Result Bool Kind
 
 module _ {W : Type 0} where
+  -- what an operation did to the state, with the work of the place beside it
   abbrev pub with_work : {A : Type 0} → W → Result (A × State) Kind → Result (A × Whole W) Kind
   with_work w (Ok p) = Ok (p.0, record { state = p.1; work = w })
   with_work w (Err k) = Err k
@@ -33,6 +37,7 @@ module _ {W : Type 0} where
   abbrev pub of_state : {A : Type 0} → Op A → Does W A
   of_state f w = with_work w.work (f w.state)
 
+  -- what is only read changes neither the state nor the work
   abbrev pub kept : {A : Type 0} → Result A Kind → Does W A
   kept (Ok a) w = Ok (a, w)
   kept (Err k) w = Err k

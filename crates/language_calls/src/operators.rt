@@ -15,7 +15,8 @@ use operations::{Arithmetic, State};
 use std::alloc::Global;
 use values::{Broken, Item, Key, Kind, Value};
 
-/// An operator between two values, but `and` and `or`, which no operation does: they are `type` here.
+/// An operator between two values, but `and` and `or`, which no operation does: they are `type`
+/// here.
 ///
 /// # Errors
 ///

@@ -50,7 +50,8 @@ pub fn target_of(value: Item<'_>) -> Option<usize>
     }
 }
 
-/// The target or the object that a value is, if it is one: their fields and methods are those of their place.
+/// The target or the object that a value is, if it is one: their fields and methods are those of
+/// their place.
 #[inline(always)]
 pub fn of_place<'a>(value: Item<'a>) -> Option<&'a Leaf>
     ensures { option_copied result ≡ of_place (item_value value.entry) }

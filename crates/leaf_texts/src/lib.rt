@@ -1,8 +1,8 @@
 //! The texts of what has no parts: keys, leaves, and the elements of depsets.
 //!
-//! Each function appends to a `String` what a definition of `specs/Texts` says. Strings are written between quotes
-//! (`quoting`). A depset is printed by its listing, whose walk skips what it has seen; of a coherent value that is the text of
-//! the plain meaning.
+//! Each function appends to a `String` what a definition of `specs/Texts` says. Strings are written
+//! between quotes (`quoting`). A depset is printed by its listing, whose walk skips what it has
+//! seen; of a coherent value that is the text of the plain meaning.
 #![tactic(auto)]
 
 mod quoting;

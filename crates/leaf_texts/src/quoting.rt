@@ -81,6 +81,10 @@ fn put_unquoted(out: &mut String, text: &str) -> Result<(), AllocError>
 }
 
 /// Appends a string between quotes.
+///
+/// # Errors
+///
+/// `AllocError` where memory is refused. A part of the text may have been appended then.
 pub fn put_quoted(out: &mut String, text: &str) -> Result<(), AllocError>
     ensures { OnOk result (string_bytes out.new ≡ string_bytes out.old ++ quoted text.now) }
 {

@@ -3,7 +3,10 @@ ghost use Rattle.std.specs.Prelude.{◌≡◌, ◌++◌, codes, map, string_byte
 ghost use Rattle.std.specs.Fmt.{signed_decimal};
 ghost use Rattle.depsets.specs.Rose.{label};
 ghost use Rattle.depsets.specs.Listed.{walked};
-ghost use Rattle.leaf_texts.specs.Texts.{separator, joined, truth_text, file_text, export_text, exported_text, provider_text, order_text, attribute_text, object_text, depset_text, element_text, leaf_text, key_text, field_head, tuple_end};
+ghost use Rattle.leaf_texts.specs.Texts.{separator, joined, truth_text, file_text, export_text};
+ghost use Rattle.leaf_texts.specs.Texts.{exported_text, provider_text, order_text, attribute_text};
+ghost use Rattle.leaf_texts.specs.Texts.{object_text, depset_text, element_text, leaf_text};
+ghost use Rattle.leaf_texts.specs.Texts.{key_text, field_head, tuple_end};
 
 use crate::quoting::put_quoted;
 use depsets::{Depset, Element, Elements, FileRef, Order};
@@ -73,6 +76,10 @@ fn put_exported(out: &mut String, exported: &Exported) -> Result<(), AllocError>
 }
 
 /// Appends the name of a provider.
+///
+/// # Errors
+///
+/// `AllocError` where memory is refused. A part of the text may have been appended then.
 pub fn put_provider(out: &mut String, provider: &ProviderRef) -> Result<(), AllocError>
     ensures { OnOk result (string_bytes out.new
         ≡ string_bytes out.old ++ provider_text provider.now) }
@@ -158,6 +165,10 @@ fn object_name(object: Object) -> &'static str
 }
 
 /// Appends what stands before the part at a place.
+///
+/// # Errors
+///
+/// `AllocError` where memory is refused.
 pub fn put_separator(out: &mut String, place: usize) -> Result<(), AllocError>
     ensures { OnOk result (string_bytes out.new ≡ string_bytes out.old ++ separator place) }
 {
@@ -224,6 +235,10 @@ fn put_depset(alloc: Global, out: &mut String, depset: &Depset) -> Result<(), Al
 }
 
 /// Appends a leaf.
+///
+/// # Errors
+///
+/// `AllocError` where memory is refused. A part of the text may have been appended then.
 pub fn put_leaf(alloc: Global, out: &mut String, leaf: &Leaf) -> Result<(), AllocError>
     ensures { OnOk result (string_bytes out.new
         ≡ string_bytes out.old ++ leaf_text walked leaf.now) }
@@ -247,6 +262,10 @@ pub fn put_leaf(alloc: Global, out: &mut String, leaf: &Leaf) -> Result<(), Allo
 }
 
 /// Appends a key of a dict, as a value.
+///
+/// # Errors
+///
+/// `AllocError` where memory is refused. A part of the text may have been appended then.
 pub fn put_key(out: &mut String, key: &Key) -> Result<(), AllocError>
     ensures { OnOk result (string_bytes out.new ≡ string_bytes out.old ++ key_text key.now) }
 {
@@ -259,6 +278,10 @@ pub fn put_key(out: &mut String, key: &Key) -> Result<(), AllocError>
 }
 
 /// Appends what stands before the value of a field.
+///
+/// # Errors
+///
+/// `AllocError` where memory is refused. A part of the text may have been appended then.
 pub fn put_field_head(out: &mut String, name: &Text) -> Result<(), AllocError>
     ensures { OnOk result (string_bytes out.new ≡ string_bytes out.old ++ field_head name.now) }
 {

@@ -1,5 +1,5 @@
--- When providers, rules, functions and keys are the same, which leaves can be frozen, and what built-in functions are
--- called.
+-- When providers, rules, functions and keys are the same, which leaves can be frozen, and what
+-- built-in functions are called.
 use Rattle.std.specs.Prelude.{ℕ, Bool, true, false, ◌&&◌, List, Option, Some, None, nat_eq, codes}
 use Rattle.std.specs.Ordering.{int_eq}
 use Rattle.std.specs.Str.{bytes_eq}
@@ -15,7 +15,8 @@ use Rattle.leaves.specs.declared.leaf.RuleRef.{RuleRef}
 use Rattle.keys.specs.declared.key.Key.{Key}
 use Rattle.keys.specs.declared.key.Key.TheVariants.{Text, Number, Truth}
 
--- What a module makes is told apart by numbers: the module's, and its own among those of its kind there.
+-- What a module makes is told apart by numbers: the module's, and its own among those of its kind
+-- there.
 abbrev pub same_made : MadeId → MadeId → Bool
 same_made a b = nat_eq a.«module» b.«module» && nat_eq a.number b.number
 
@@ -25,16 +26,22 @@ same_maker None None = true
 same_maker (Some a) (Some b) = same_made a b
 same_maker _ _ = false
 
+-- Two providers are one where the same making made them: what they are called and their fields
+-- don't count.
 abbrev pub same_provider : Provider → Provider → Bool
 same_provider p q = same_maker p.id q.id
 
+-- Two rules are one where the same making made them, whatever they are called.
 abbrev pub same_rule : RuleRef → RuleRef → Bool
 same_rule r s = same_made r.id s.id
 
+-- Two functions are one where the same making made them, whatever their names.
 abbrev pub same_function : FunctionRef → FunctionRef → Bool
 same_function f g = same_made f.id g.id
 
--- (Bazel documentation, ".bzl files" and "All BUILD and .bzl files": the global functions of this project's language.)
+-- what a built-in function is called
+-- (Bazel documentation, ".bzl files" and "All BUILD and .bzl files": the global functions of this
+-- project's language.)
 abbrev pub built_in_text : BuiltIn → List ℕ
 built_in_text built_in.Depset = codes "depset"
 built_in_text built_in.Fail = codes "fail"
@@ -53,7 +60,8 @@ same_key (Number a) (Number b) = int_eq a b
 same_key (Truth a) (Truth b) = same_truth a b
 same_key _ _ = false
 
--- all but targets, and the objects `attr`, `ctx` and the parts of `ctx`
+-- whether a leaf can be in a frozen value: all but targets, and the objects `attr`, `ctx` and the
+-- parts of `ctx`
 abbrev pub can_freeze : Leaf → Bool
 can_freeze (plain.Target n) = false
 can_freeze (plain.Object o) = false

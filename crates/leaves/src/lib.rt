@@ -1,5 +1,5 @@
-//! Values without parts that can be visited, and no keys: labels, Files, depsets, functions, providers, rules, and
-//! what a target's evaluation has. To a contract a leaf is plain data.
+//! Values without parts that can be visited, and no keys: labels, Files, depsets, functions,
+//! providers, rules, and what a target's evaluation has. To a contract a leaf is plain data.
 #![tactic(auto)]
 
 mod leaf;

@@ -31,8 +31,8 @@ fn height_of(components: &Components, heights: &[usize], n: NodeId) -> usize
     height
 }
 
-/// How high each node stands: 0 where it depends on none or is on a cycle, else one more than the highest of those that
-/// it depends on.
+/// How high each node stands: 0 where it depends on none or is on a cycle, else one more than the
+/// highest of those that it depends on.
 ///
 /// # Errors
 ///

@@ -1,4 +1,5 @@
-//! How high nodes stand above those that they depend on, and their order by height: what is evaluated after what.
+//! How high nodes stand above those that they depend on, and their order by height: what is
+//! evaluated after what.
 #![tactic(auto)]
 
 mod heights;

@@ -1,5 +1,7 @@
 -- What begins at a byte of a file: the longest token that fits, or what separates tokens.
-use Rattle.std.specs.Prelude.{ℕ, ◌+◌, ◌-◌, ◌*◌, Bool, false, ◌&&◌, ◌||◌, ◌==◌, nat_le, nat_lt, not, List, [], ◌∷◌, length, take, drop, take_while, fold, Option, Some, None, if◌then◌else◌}
+use Rattle.std.specs.Prelude.{ℕ, ◌+◌, ◌-◌, ◌*◌, Bool, false, ◌&&◌, ◌||◌, ◌==◌, nat_le, nat_lt, not}
+use Rattle.std.specs.Prelude.{List, [], ◌∷◌, length, take, drop, take_while, fold, Option, Some}
+use Rattle.std.specs.Prelude.{None, if◌then◌else◌}
 use Rattle.lexer.specs.Characters.{newline}
 use Rattle.lexer.specs.Tokens.{Token, number, string, mark}
 use Rattle.lexer.specs.Words.{word_or_name}
@@ -13,8 +15,10 @@ pub data Begins : Type 0 where
   line_end : Begins
   comment : ℕ → Begins
   token : Token → ℕ → Begins
+  -- no token fits: a fault of the file
   nothing : Begins
 
+-- `0` to `9`
 abbrev pub is_digit : ℕ → Bool
 is_digit b = nat_le 48 b && nat_le b 57
 
@@ -22,6 +26,7 @@ is_digit b = nat_le 48 b && nat_le b 57
 abbrev pub is_letter : ℕ → Bool
 is_letter b = (nat_le 97 b && nat_le b 122) || (nat_le 65 b && nat_le b 90) || b == 95
 
+-- what a name or a word goes on with: a letter, `_` or a digit
 abbrev pub is_word_byte : ℕ → Bool
 is_word_byte b = is_letter b || is_digit b
 
@@ -31,7 +36,8 @@ run_length p bs = length (take_while p bs)
 
 -- a name or a word: a letter or `_`, then letters, digits and `_`
 abbrev pub name_at : ℕ → List ℕ → Begins
-name_at b bs = token (word_or_name (b ∷ take (run_length is_word_byte bs) bs)) (run_length is_word_byte bs)
+name_at b bs =
+    token (word_or_name (b ∷ take (run_length is_word_byte bs) bs)) (run_length is_word_byte bs)
 
 -- the greatest number that can be written, 2^63 - 1 (own choice: Starlark's numbers have no limit)
 abbrev pub greatest_number : ℕ
@@ -55,12 +61,18 @@ abbrev pub number_at : ℕ → List ℕ → Begins
 number_at b bs =
     let more = digits_after b bs in
     let value = value_after 0 (b ∷ take more bs) in
-    if goes_on (drop more bs) || nat_lt greatest_number value then nothing else token (number value) more
+    if goes_on (drop more bs) || nat_lt greatest_number value then nothing else
+    token (number value) more
 
+-- the string whose body has so many bytes, with its escapes read; the closing quote is one further
+-- byte. Where the body has no length the string is not closed, or has an escape that is none, and
+-- nothing begins
 abbrev pub string_of : List ℕ → Option ℕ → Begins
 string_of bs None = nothing
 string_of bs (Some n) = token (string (unescaped (take n bs))) (n + 1)
 
+-- a string behind this quote, up to the next one of the same kind with no backslash before it that
+-- escapes it (Starlark specification, "String literals")
 abbrev pub string_at : ℕ → List ℕ → Begins
 string_at quote bs = string_of bs (body_length quote false bs)
 
@@ -69,6 +81,7 @@ abbrev pub pair_at : ℕ → List ℕ → Option Mark
 pair_at b [] = None
 pair_at b (c ∷ bs) = pair_mark b c
 
+-- an operator or a punctuation mark: of two bytes where these are one, else of one byte
 abbrev pub mark_at : ℕ → List ℕ → Begins
 mark_at b bs = elim (pair_at b bs) [
   | Some m ↦ token (mark m) 1

@@ -1,8 +1,10 @@
 -- The characters of a file, and its lines.
 --
--- A file is ASCII text without tabs and carriage returns: its bytes are 0x20 to 0x7E and the newline. The Starlark
--- specification ("Lexical elements") reads UTF-8; the narrower set is this project's own choice.
-use Rattle.std.specs.Prelude.{ℕ, ◌+◌, Bool, not, ◌&&◌, ◌||◌, ◌==◌, nat_le, List, Option, take, count_by, position, option_map}
+-- A file is ASCII text without tabs and carriage returns: its bytes are 0x20 to 0x7E and the
+-- newline. The Starlark specification ("Lexical elements") reads UTF-8; the narrower set is this
+-- project's own choice.
+use Rattle.std.specs.Prelude.{ℕ, ◌+◌, Bool, not, ◌&&◌, ◌||◌, ◌==◌, nat_le, List, Option, take}
+use Rattle.std.specs.Prelude.{count_by, position, option_map}
 
 -- the byte that ends a line
 abbrev pub newline : ℕ

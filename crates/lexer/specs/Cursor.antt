@@ -14,4 +14,5 @@ pub record IsCursor (text : List ℕ) (c : Cursor) : Type 0 where
 
 -- the tokens found so far, and those of the text from the cursor on
 abbrev pub left : List ℕ → Cursor → List found.Token → Result (List Placed) ℕ
-left text c ts = preceded (map (seen text) ts) (scan 0 c.line (c.at - c.line_start) (drop c.at text))
+left text c ts =
+    preceded (map (seen text) ts) (scan 0 c.line (c.at - c.line_start) (drop c.at text))

@@ -1,16 +1,27 @@
--- How each token is spelled, and which bytes at the front of a text are one: said of the bytes, as a user writes them.
-use Rattle.std.specs.Prelude.{◌≡◌, ◌≢◌, ◌⊎◌, ℕ, ◌+◌, ◌≤◌, true, false, List, [], ◌∷◌, ◌++◌, length, take, drop, map, flat_map, codes}
+-- How each token is spelled, and which bytes at the front of a text are one: said of the bytes, as
+-- a user writes them.
+use Rattle.std.specs.Prelude.{◌≡◌, ◌≢◌, ◌⊎◌, ℕ, ◌+◌, ◌≤◌, true, false, List, [], ◌∷◌, ◌++◌, length}
+use Rattle.std.specs.Prelude.{take, drop, map, flat_map, codes}
 use Rattle.std.specs.List.{AllByRecursion, list_all}
 use Rattle.lexer.specs.declared.token.Word.{Word}
-use Rattle.lexer.specs.declared.token.Word.TheVariants.{And, Break, Continue, Def, Elif, Else, For, If, In, Load, Not, Or, Pass, Return, Reserved}
+use Rattle.lexer.specs.declared.token.Word.TheVariants.{And, Break, Continue, Def, Elif, Else, For}
+use Rattle.lexer.specs.declared.token.Word.TheVariants.{If, In, Load, Not, Or, Pass, Return}
+use Rattle.lexer.specs.declared.token.Word.TheVariants.{Reserved}
 use Rattle.lexer.specs.declared.token.Mark.{Mark}
-use Rattle.lexer.specs.declared.token.Mark.TheVariants.{OpenParen, CloseParen, OpenBracket, CloseBracket, OpenBrace, CloseBrace, Comma, Colon, Dot, Assign, AddAssign, Equal, NotEqual, Less, Greater, LessEqual, GreaterEqual, Plus, Minus, Star, FloorDivide, Percent}
+use Rattle.lexer.specs.declared.token.Mark.TheVariants.{OpenParen, CloseParen, OpenBracket}
+use Rattle.lexer.specs.declared.token.Mark.TheVariants.{CloseBracket, OpenBrace, CloseBrace, Comma}
+use Rattle.lexer.specs.declared.token.Mark.TheVariants.{Colon, Dot, Assign, AddAssign, Equal}
+use Rattle.lexer.specs.declared.token.Mark.TheVariants.{NotEqual, Less, Greater, LessEqual}
+use Rattle.lexer.specs.declared.token.Mark.TheVariants.{GreaterEqual, Plus, Minus, Star}
+use Rattle.lexer.specs.declared.token.Mark.TheVariants.{FloorDivide, Percent}
 use Rattle.lexer.specs.Characters.{newline}
 use Rattle.lexer.specs.Tokens.{Token, name, number, string, word, mark}
 use Rattle.lexer.specs.Strings.{backslash, is_quote, is_escape, escape_meaning}
-use Rattle.lexer.specs.Begins.{is_digit, is_letter, is_word_byte, greatest_number, value_after, goes_on}
+use Rattle.lexer.specs.Begins.{is_digit, is_letter, is_word_byte, greatest_number, value_after}
+use Rattle.lexer.specs.Begins.{goes_on}
 
--- how a word of the language is written; a reserved word stands for each of those that no form of the language has
+-- how a word of the language is written; a reserved word stands for each of those that no form of
+-- the language has
 abbrev pub texts_of : Word → List (List ℕ)
 texts_of And = codes "and" ∷ []
 texts_of Break = codes "break" ∷ []
@@ -27,9 +38,10 @@ texts_of Or = codes "or" ∷ []
 texts_of Pass = codes "pass" ∷ []
 texts_of Return = codes "return" ∷ []
 texts_of Reserved =
-    codes "as" ∷ codes "assert" ∷ codes "async" ∷ codes "await" ∷ codes "class" ∷ codes "del" ∷ codes "except"
-    ∷ codes "finally" ∷ codes "from" ∷ codes "global" ∷ codes "import" ∷ codes "is" ∷ codes "lambda" ∷ codes "nonlocal"
-    ∷ codes "raise" ∷ codes "try" ∷ codes "while" ∷ codes "with" ∷ codes "yield" ∷ []
+    codes "as" ∷ codes "assert" ∷ codes "async" ∷ codes "await" ∷ codes "class" ∷ codes "del"
+    ∷ codes "except" ∷ codes "finally" ∷ codes "from" ∷ codes "global" ∷ codes "import"
+    ∷ codes "is" ∷ codes "lambda" ∷ codes "nonlocal" ∷ codes "raise" ∷ codes "try"
+    ∷ codes "while" ∷ codes "with" ∷ codes "yield" ∷ []
 
 -- how a mark is written
 abbrev pub text_of : Mark → List ℕ
@@ -86,7 +98,8 @@ abbrev pub piece_meaning : Piece → ℕ
 piece_meaning (plain b) = b
 piece_meaning (escape b) = escape_meaning b
 
--- what may stand between two quotes of this kind: no such quote, end of line or other backslash stands alone
+-- what may stand between two quotes of this kind: no such quote, end of line or other backslash
+-- stands alone
 abbrev pub IsPiece : ℕ → Piece → Type 0
 IsPiece quote (plain b) = (b ≢ quote) × (b ≢ newline) × (b ≢ backslash)
 IsPiece quote (escape b) = is_escape b ≡ true
@@ -100,7 +113,8 @@ abbrev pub Spells : List ℕ → Token → Type 0
 Spells bs (name w) = (bs ≡ w) × IsWordLike w × ((k : Word) → ¬ IsOneOf w (texts_of k))
 Spells bs (number n) = IsNumeral bs × (value_after 0 bs ≡ n) × (n ≤ greatest_number)
 Spells bs (string s) =
-    (quote : ℕ) × (pieces : List Piece) × (is_quote quote ≡ true) × AllByRecursion (IsPiece quote) pieces
+    (quote : ℕ) × (pieces : List Piece) × (is_quote quote ≡ true)
+    × AllByRecursion (IsPiece quote) pieces
     × (bs ≡ in_quotes quote pieces) × (s ≡ map piece_meaning pieces)
 Spells bs (word k) = IsOneOf bs (texts_of k)
 Spells bs (mark m) = bs ≡ text_of m
@@ -126,5 +140,6 @@ AtLineEnd (b ∷ bs) = b ≡ newline
 -- the first n bytes of a text are a comment: `#`, and what follows it on its line
 abbrev pub IsComment : List ℕ → ℕ → Type 0
 IsComment text n =
-    (body : List ℕ) × (further : List ℕ) × (text ≡ 35 ∷ body ++ further) × AllByRecursion (λ b. b ≢ newline) body
+    (body : List ℕ) × (further : List ℕ) × (text ≡ 35 ∷ body ++ further)
+    × AllByRecursion (λ b. b ≢ newline) body
     × AtLineEnd further × (n ≡ length body + 1)

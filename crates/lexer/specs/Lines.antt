@@ -1,5 +1,7 @@
--- The logical lines of a file, and the first fault of the passes over characters, tokens and layout.
-use Rattle.std.specs.Prelude.{ℕ, List, [], ◌∷◌, length, slice_range, Option, Some, None, Result, Ok, Err}
+-- The logical lines of a file, and the first fault of the passes over characters, tokens and
+-- layout.
+use Rattle.std.specs.Prelude.{ℕ, List, [], ◌∷◌, length, slice_range, Option, Some, None, Result, Ok}
+use Rattle.std.specs.Prelude.{Err}
 use Rattle.lexer.specs.declared.fault.FaultKind.{FaultKind}
 use Rattle.lexer.specs.declared.fault.FaultKind.TheVariants as kind
 use Rattle.lexer.specs.declared.fault.SyntaxFault.{SyntaxFault}
@@ -31,15 +33,19 @@ abbrev pub lines_of : List Placed → Result (List ℕ) ℕ → Result (List (Li
 lines_of ts (Err line) = fault kind.Indent line
 lines_of ts (Ok places) = Ok (lines_at places ts)
 
+-- the logical lines of the tokens that were found, or the fault of the pass over tokens or over
+-- layout
 abbrev pub laid_out : Result (List Placed) ℕ → Result (List (List Placed)) SyntaxFault
 laid_out (Err line) = fault kind.Token line
 laid_out (Ok ts) = lines_of ts (line_starts 0 at_start ts)
 
+-- the logical lines of a text, where the line of its first byte that is no character, if it has
+-- one, is known
 abbrev pub scanned : List ℕ → Option ℕ → Result (List (List Placed)) SyntaxFault
 scanned text (Some line) = fault kind.Character line
 scanned text None = laid_out (tokens_of text)
 
--- the logical lines of a text, each as its tokens; or the first fault of the first pass that finds one.
--- Each pass goes over the whole text: characters, then tokens, then layout
+-- the logical lines of a text, each as its tokens; or the first fault of the first pass that finds
+-- one. Each pass goes over the whole text: characters, then tokens, then layout
 unfoldable pub reading : List ℕ → Result (List (List Placed)) SyntaxFault
 reading text = scanned text (character_fault text)

@@ -1,7 +1,13 @@
--- Operators and punctuation (Starlark specification, "Lexical elements"), as far as this profile has them.
+-- Operators and punctuation (Starlark specification, "Lexical elements"), as far as this profile
+-- has them.
 use Rattle.std.specs.Prelude.{ℕ, ◌&&◌, ◌==◌, Option, Some, None, if◌then◌else◌}
 use Rattle.lexer.specs.declared.token.Mark.{Mark}
-use Rattle.lexer.specs.declared.token.Mark.TheVariants.{OpenParen, CloseParen, OpenBracket, CloseBracket, OpenBrace, CloseBrace, Comma, Colon, Dot, Assign, AddAssign, Equal, NotEqual, Less, Greater, LessEqual, GreaterEqual, Plus, Minus, Star, FloorDivide, Percent}
+use Rattle.lexer.specs.declared.token.Mark.TheVariants.{OpenParen, CloseParen, OpenBracket}
+use Rattle.lexer.specs.declared.token.Mark.TheVariants.{CloseBracket, OpenBrace, CloseBrace, Comma}
+use Rattle.lexer.specs.declared.token.Mark.TheVariants.{Colon, Dot, Assign, AddAssign, Equal}
+use Rattle.lexer.specs.declared.token.Mark.TheVariants.{NotEqual, Less, Greater, LessEqual}
+use Rattle.lexer.specs.declared.token.Mark.TheVariants.{GreaterEqual, Plus, Minus, Star}
+use Rattle.lexer.specs.declared.token.Mark.TheVariants.{FloorDivide, Percent}
 
 -- the marks of two bytes: `+= == != <= >= //`
 abbrev pub pair_mark : ℕ → ℕ → Option Mark

@@ -8,6 +8,8 @@ use Rattle.lexer.specs.Words.{expression_word, statement_word, is_reserved}
 abbrev pub is_word : List ℕ → Bool
 is_word w = is_some (expression_word w) || is_some (statement_word w) || is_reserved w
 
+-- whether bytes are a name: a letter or `_`, then letters, digits and `_`, and no word of the
+-- language or reserved word
 abbrev pub spells_name : List ℕ → Bool
 spells_name [] = false
 spells_name (b ∷ bs) = is_letter b && list_all is_word_byte bs && not (is_word (b ∷ bs))

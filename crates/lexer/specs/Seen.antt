@@ -14,6 +14,8 @@ use Rattle.lexer.specs.Begins.{Begins, space, line_end, comment, token, nothing}
 abbrev pub bytes_of : List ℕ → span.Span → List ℕ
 bytes_of text s = slice_range text s.start s.end
 
+-- the token that the program's token is in this text: a name or a string is the bytes at its place,
+-- those of a string with the escapes read
 abbrev pub token_seen : List ℕ → kind.Kind → Token
 token_seen text (of.Name s) = name (bytes_of text s)
 token_seen text (of.Number n) = number n
@@ -21,9 +23,11 @@ token_seen text (of.Str s) = string (unescaped (bytes_of text s))
 token_seen text (of.Word w) = word w
 token_seen text (of.Mark m) = mark m
 
+-- the same with the line and the column
 abbrev pub seen : List ℕ → found.Token → Placed
 seen text t = record { token = token_seen text t.kind; line = t.line; column = t.column }
 
+-- what begins at a place, as the program answers it, with its token seen in this text
 abbrev pub beginning_seen : List ℕ → beginning.Beginning → Begins
 beginning_seen text at.Space = space
 beginning_seen text at.LineEnd = line_end

@@ -3,7 +3,8 @@ use Rattle.std.specs.Prelude.{ℕ, List, map}
 use Rattle.lexer.specs.declared.token.Word.{Word}
 use Rattle.lexer.specs.declared.token.Mark.{Mark}
 
--- a token (Starlark specification, "Lexical elements"); a string's bytes are those after its escapes were read
+-- a token (Starlark specification, "Lexical elements"); a string's bytes are those after its
+-- escapes were read
 pub data Token : Type 0 where
   name : List ℕ → Token
   number : ℕ → Token
@@ -11,7 +12,8 @@ pub data Token : Type 0 where
   word : Word → Token
   mark : Mark → Token
 
--- a token with the line on which it stands and its column there, which is the number of bytes before it
+-- a token with the line on which it stands and its column there, which is the number of bytes
+-- before it
 pub record Placed : Type 0 where
   pub token : Token
   pub line : ℕ

@@ -1,7 +1,11 @@
--- The words that are no names (Starlark specification, "Lexical elements": keywords and reserved tokens).
-use Rattle.std.specs.Prelude.{ℕ, Bool, List, Option, Some, None, bytes_eq, codes, ◌||◌, if◌then◌else◌}
+-- The words that are no names (Starlark specification, "Lexical elements": keywords and reserved
+-- tokens).
+use Rattle.std.specs.Prelude.{ℕ, Bool, List, Option, Some, None, bytes_eq, codes, ◌||◌}
+use Rattle.std.specs.Prelude.{if◌then◌else◌}
 use Rattle.lexer.specs.declared.token.Word.{Word}
-use Rattle.lexer.specs.declared.token.Word.TheVariants.{And, Break, Continue, Def, Elif, Else, For, If, In, Load, Not, Or, Pass, Return, Reserved}
+use Rattle.lexer.specs.declared.token.Word.TheVariants.{And, Break, Continue, Def, Elif, Else, For}
+use Rattle.lexer.specs.declared.token.Word.TheVariants.{If, In, Load, Not, Or, Pass, Return}
+use Rattle.lexer.specs.declared.token.Word.TheVariants.{Reserved}
 use Rattle.lexer.specs.Tokens.{Token, name, word}
 
 -- the words of expressions and loops
@@ -28,7 +32,7 @@ statement_word w =
     if bytes_eq w (codes "return") then Some Return else
     None
 
--- the words that no form of the grammar has, kept free for other versions of the language
+-- the first part of the reserved words, in alphabetical order: `as` to `except`
 abbrev pub is_reserved_to_except : List ℕ → Bool
 is_reserved_to_except w =
     bytes_eq w (codes "as")
@@ -39,6 +43,7 @@ is_reserved_to_except w =
     || bytes_eq w (codes "del")
     || bytes_eq w (codes "except")
 
+-- the second part: `finally` to `nonlocal`
 abbrev pub is_reserved_to_nonlocal : List ℕ → Bool
 is_reserved_to_nonlocal w =
     bytes_eq w (codes "finally")
@@ -49,6 +54,7 @@ is_reserved_to_nonlocal w =
     || bytes_eq w (codes "lambda")
     || bytes_eq w (codes "nonlocal")
 
+-- the third part: `raise` to `yield`
 abbrev pub is_reserved_to_yield : List ℕ → Bool
 is_reserved_to_yield w =
     bytes_eq w (codes "raise")
@@ -57,6 +63,7 @@ is_reserved_to_yield w =
     || bytes_eq w (codes "with")
     || bytes_eq w (codes "yield")
 
+-- the words that no form of the grammar has, kept free for other versions of the language
 abbrev pub is_reserved : List ℕ → Bool
 is_reserved w = is_reserved_to_except w || is_reserved_to_nonlocal w || is_reserved_to_yield w
 

@@ -1,9 +1,11 @@
 //! What begins at a byte of a text: the longest token that fits, or what separates tokens.
 
-ghost use Rattle.std.specs.Prelude.{◌≡◌, ◌+◌, ◌<◌, ◌≤◌, ◌==◌, not, length, drop, IfSome, slice_index};
+ghost use Rattle.std.specs.Prelude.{◌≡◌, ◌+◌, ◌<◌, ◌≤◌, ◌==◌, not, length, drop, IfSome};
+ghost use Rattle.std.specs.Prelude.{slice_index};
 ghost use Rattle.lexer.specs.Characters.{newline};
 ghost use Rattle.lexer.specs.Words.{word_or_name};
-ghost use Rattle.lexer.specs.Begins.{begins, is_word_byte, run_length, number_at, name_at, string_at, mark_at, pair_at};
+ghost use Rattle.lexer.specs.Begins.{begins, is_word_byte, run_length, number_at, name_at};
+ghost use Rattle.lexer.specs.Begins.{string_at, mark_at, pair_at};
 ghost use Rattle.lexer.specs.Marks.{pair_mark, punctuation, operator};
 ghost use Rattle.lexer.specs.Seen.{beginning_seen, token_seen, bytes_of, EndsWithin};
 

@@ -4,8 +4,8 @@ use std::alloc::{AllocError, AllocFailed};
 use std::error::Error;
 use std::fmt;
 
-/// The pass that finds a fault. Each pass goes over the whole text, in this order; the first one that finds a fault
-/// decides, and within it the first place in the text.
+/// The pass that finds a fault. Each pass goes over the whole text, in this order; the first one
+/// that finds a fault decides, and within it the first place in the text.
 #[derive(Clone, Copy, PartialEq, Eq, Debug)]
 pub enum FaultKind {
     /// A byte that no file may hold.
@@ -24,6 +24,7 @@ pub enum FaultKind {
 #[derive(Clone, Copy, PartialEq, Eq, Debug)]
 pub struct SyntaxFault {
     pub line: usize,
+    /// The pass that found it.
     pub kind: FaultKind,
 }
 

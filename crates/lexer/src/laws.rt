@@ -13,7 +13,8 @@ ghost use Rattle.lexer.specs.LaidOut.{IsReading};
 
 use crate::fault::SyntaxFault;
 
-/// What begins at a byte is the longest token that fits there, and nothing begins only where none fits.
+/// What begins at a byte is the longest token that fits there, and nothing begins only where none
+/// fits.
 pub fn tokens_are_the_longest_that_fit()
     ensures longest { (b : ℕ) (bs : List ℕ) (t : parts.Token) (n : ℕ) →
         (begins b bs ≡ token t n) ↔ IsLongest (b ∷ bs) (n + 1) t }
@@ -23,7 +24,8 @@ pub fn tokens_are_the_longest_that_fit()
         ((n : ℕ) (t : parts.Token) → ¬ Fits (b ∷ bs) n t) → begins b bs ≡ nothing }
 {}
 
-/// The tokens that are found in a text are those of the parts that it consists of, and these are settled by the text.
+/// The tokens that are found in a text are those of the parts that it consists of, and these are
+/// settled by the text.
 pub fn tokens_are_those_of_the_parts()
     ensures same { (text : List ℕ) (tokens : List Placed) →
         (tokens_of text ≡ Ok tokens) ↔ IsTokens text tokens }
@@ -31,7 +33,8 @@ pub fn tokens_are_those_of_the_parts()
         IsTokens text a → IsTokens text b → a ≡ b }
 {}
 
-/// A text is read as these lines exactly where they are its reading, and refused only where it has none.
+/// A text is read as these lines exactly where they are its reading, and refused only where it has
+/// none.
 pub fn reads_what_is_laid_out()
     ensures sound { (text : List ℕ) (lines : List (List Placed)) →
         reading text ≡ Ok lines → IsReading text lines }

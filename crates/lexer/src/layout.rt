@@ -1,11 +1,16 @@
 //! The third pass: logical lines and blocks, by brackets and columns.
 //!
-//! The pass goes over the tokens once. It holds the brackets that are open and the columns of the blocks that are
-//! open, each as a stack; brackets and columns are tested together, in the order of the text.
+//! The pass goes over the tokens once. It holds the brackets that are open and the columns of the
+//! blocks that are open, each as a stack; brackets and columns are tested together, in the order of
+//! the text.
 
-ghost use Rattle.std.specs.Prelude.{◌≡◌, ◌+◌, List, ℕ, [], ◌∷◌, ◌++◌, ◌<◌, map, drop, length, Ok, Some, None, IfOk, IfErr, if◌then◌else◌};
+ghost use Rattle.std.specs.Prelude.{◌≡◌, ◌+◌, List, ℕ, [], ◌∷◌, ◌++◌, ◌<◌, map, drop, length, Ok};
+ghost use Rattle.std.specs.Prelude.{Some, None, IfOk, IfErr, if◌then◌else◌};
 ghost use Rattle.std.specs.Bool.{MatchBool};
-ghost use Rattle.lexer.specs.Layout.{opening, closing, opened, closed, after_mark, after_token, back_to, innermost, block_opened, columns_at, nothing_open, starts, begun, is_colon, turn, ended, at_start, mark_of, line_starts, same_bracket};
+ghost use Rattle.lexer.specs.Layout.{opening, closing, opened, closed, after_mark, after_token};
+ghost use Rattle.lexer.specs.Layout.{back_to, innermost, block_opened, columns_at, nothing_open};
+ghost use Rattle.lexer.specs.Layout.{starts, begun, is_colon, turn, ended, at_start, mark_of};
+ghost use Rattle.lexer.specs.Layout.{line_starts, same_bracket};
 ghost use Rattle.lexer.specs.Scan.{preceded};
 ghost use Rattle.lexer.specs.Seen.{seen};
 ghost use Rattle.lexer.specs.Tokens.{Placed};

@@ -1,9 +1,9 @@
-//! The lexical half of the syntax of `BUILD` files and modules: from the bytes of a text to its logical lines, or to its
-//! first fault.
+//! The lexical half of the syntax of `BUILD` files and modules: from the bytes of a text to its
+//! logical lines, or to its first fault.
 //!
-//! Three passes, each over the whole text: its characters ([`characters`]), its tokens ([`begins`] says what begins at
-//! a byte, [`scan`] goes from one to the next), its brackets and columns ([`layout`]). [`lines`] joins them. Tokens are
-//! places in the text and own no memory.
+//! Three passes, each over the whole text: its characters ([`characters`]), its tokens ([`begins`]
+//! says what begins at a byte, [`scan`] goes from one to the next), its brackets and columns
+//! ([`layout`]). [`lines`] joins them. Tokens are places in the text and own no memory.
 #![tactic(auto)]
 
 mod begins;

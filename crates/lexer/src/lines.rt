@@ -1,6 +1,7 @@
 //! The logical lines of a text: the three lower passes, one after the other.
 
-ghost use Rattle.std.specs.Prelude.{◌≡◌, ◌<◌, ℕ, Ok, Err, IfOk, List, length, map, slice_get, slice_index, slice_range, Some};
+ghost use Rattle.std.specs.Prelude.{◌≡◌, ◌<◌, ℕ, Ok, Err, IfOk, List, length, map, slice_get};
+ghost use Rattle.std.specs.Prelude.{slice_index, slice_range, Some};
 ghost use Rattle.std.specs.Str.{IsAscii};
 ghost use Rattle.lexer.specs.LaidOut.{IsReading};
 ghost use Rattle.lexer.specs.Lines.{lines_at, reading};
@@ -14,8 +15,8 @@ use crate::token::{Span, Token};
 use std::alloc::Global;
 use std::marker::Model;
 
-/// A text with its logical lines. A clause sees the bytes of the text, and the list of the lines, each as the list of
-/// its tokens; a line's own column and number are those of its first token.
+/// A text with its logical lines. A clause sees the bytes of the text, and the list of the lines,
+/// each as the list of its tokens; a line's own column and number are those of its first token.
 #[derive(Drop)]
 pub struct Lines<'t> {
     text: &'t [u8],
@@ -42,7 +43,8 @@ impl<'t> Model for Lines<'t> {
     ghost invariant = { λ a. IsAscii a.text.now };
 }
 
-/// The items from one place on, up to the one before another; no item where these places have none between them.
+/// The items from one place on, up to the one before another; no item where these places have none
+/// between them.
 fn between<T>(items: &[T], start: usize, end: usize) -> &[T]
     ensures { result.now ≡ slice_range items.now start end }
 {
@@ -139,12 +141,13 @@ fn read(alloc: Global, text: &[u8]) -> Result<Lines<'_>, ParseStop>
     })
 }
 
-/// Reads a text down to its logical lines: its characters, then its tokens, then its brackets and columns.
+/// Reads a text down to its logical lines: its characters, then its tokens, then its brackets and
+/// columns.
 ///
 /// # Errors
 ///
-/// The first fault of the first of these passes that finds one, with its line. Want of memory may be answered in its
-/// place, or in place of the lines.
+/// The first fault of the first of these passes that finds one, with its line. Want of memory may
+/// be answered in its place, or in place of the lines.
 pub fn logical_lines(alloc: Global, text: &str) -> Result<Lines<'_>, ParseStop>
     ensures text { IfOk result (λ read. read.text ≡ text.now) }
     ensures lines { IfOk result (λ read. reading text.now ≡ Ok read.lines) }

@@ -32,8 +32,8 @@ fn spells_name(bytes: &[u8]) -> bool
     }
 }
 
-/// Whether a text is a name: a letter or `_`, then letters, digits and `_`, and no word of the language, nor one that is
-/// kept free. `None`, `True` and `False` are names.
+/// Whether a text is a name: a letter or `_`, then letters, digits and `_`, and no word of the
+/// language, nor one that is kept free. `None`, `True` and `False` are names.
 pub fn is_name(text: &str) -> bool
     ensures { (result ≡ true) ↔ Spells text.now (name text.now) }
 {

@@ -1,7 +1,8 @@
 //! Numbers: the digits that belong to one, and its value.
 
 ghost use Rattle.std.specs.Prelude.{◌≡◌, ◌≤◌, length, ◌∷◌, None, Some, nat_lt, if◌then◌else◌};
-ghost use Rattle.lexer.specs.Begins.{is_digit, goes_on, digits_after, value_after, greatest_number, run_length};
+ghost use Rattle.lexer.specs.Begins.{is_digit, goes_on, digits_after, value_after, greatest_number};
+ghost use Rattle.lexer.specs.Begins.{run_length};
 
 use crate::classes::{is_digit, is_word_byte};
 

@@ -1,9 +1,12 @@
 //! String literals: where a body ends, and the bytes that it stands for.
 
-ghost use Rattle.std.specs.Prelude.{◌≡◌, ◌↔◌, ◌≤◌, ◌<◌, ◌==◌, ◌&&◌, ◌∷◌, ◌++◌, ℕ, List, [], length, drop, slice_get, Some, IsTrue, IfSome, IfOk, MatchOption, not, bytes_eq, false, string_bytes};
+ghost use Rattle.std.specs.Prelude.{◌≡◌, ◌↔◌, ◌≤◌, ◌<◌, ◌==◌, ◌&&◌, ◌∷◌, ◌++◌, ℕ, List, [], length};
+ghost use Rattle.std.specs.Prelude.{drop, slice_get, Some, IsTrue, IfSome, IfOk, MatchOption, not};
+ghost use Rattle.std.specs.Prelude.{bytes_eq, false, string_bytes};
 ghost use Rattle.std.specs.Option.{option_map_or};
 ghost use Rattle.std.specs.Str.{IsAscii};
-ghost use Rattle.lexer.specs.Strings.{is_quote, is_escape, body_length, backslash, unescaped, escape_meaning, meaning_of};
+ghost use Rattle.lexer.specs.Strings.{is_quote, is_escape, body_length, backslash, unescaped};
+ghost use Rattle.lexer.specs.Strings.{escape_meaning, meaning_of};
 
 use std::alloc::{AllocError, Global};
 
@@ -21,7 +24,8 @@ fn is_escape(b: u8) -> bool
     matches!(b, b'n' | b't' | b'\\' | b'"' | b'\'')
 }
 
-/// The number of bytes up to the closing quote, where the string is closed on its line and has no other escape.
+/// The number of bytes up to the closing quote, where the string is closed on its line and has no
+/// other escape.
 pub(crate) fn body_length(quote: u8, rest: &[u8]) -> Option<usize>
     ensures value { result ≡ body_length quote false rest.now }
     ensures within { IfSome result (λ n. n < length rest.now) }

@@ -62,7 +62,9 @@ pub struct Span {
 /// What a token is.
 #[derive(Clone, Copy, PartialEq, Eq, Debug)]
 pub enum Kind {
+    /// A name, by its place in the text.
     Name(Span),
+    /// A number, at most 2^63 - 1.
     Number(u64),
     /// A string, by its body between the quotes, with its escapes as they are written.
     Str(Span),

@@ -1,7 +1,8 @@
 //! The words that are no names.
 
 ghost use Rattle.std.specs.Prelude.{◌≡◌, bytes_eq};
-ghost use Rattle.lexer.specs.Words.{expression_word, statement_word, is_reserved_to_except, is_reserved_to_nonlocal, is_reserved_to_yield, is_reserved};
+ghost use Rattle.lexer.specs.Words.{expression_word, statement_word, is_reserved_to_except};
+ghost use Rattle.lexer.specs.Words.{is_reserved_to_nonlocal, is_reserved_to_yield, is_reserved};
 
 use crate::token::Word;
 

@@ -1,5 +1,6 @@
 -- The modules of a workspace by path, and tables with an entry for each (this project's own).
-use Rattle.std.specs.Prelude.{◌≡◌, ℕ, ◌<◌, Bool, false, List, [], ◌∷◌, length, map, filter, slice_index_or, nat_eq, Option, Some, None, if◌then◌else◌}
+use Rattle.std.specs.Prelude.{◌≡◌, ℕ, ◌<◌, Bool, false, List, [], ◌∷◌, length, map, filter}
+use Rattle.std.specs.Prelude.{slice_index_or, nat_eq, Option, Some, None, if◌then◌else◌}
 use Rattle.std.specs.List.{list_any, IsDistinct}
 use Rattle.std.specs.List.Sorted.{IsSorted}
 use Rattle.std.specs.Ordering.{nat_cmp}
@@ -19,6 +20,7 @@ pub record ArePaths (paths : List Path) : Type 0 where
 abbrev pub module_paths : List Pair → List Path
 module_paths pairs = filter is_module (paths_of pairs)
 
+-- whether a path is one of these
 abbrev pub listed : List Path → Path → Bool
 listed paths q = list_any (bytes_eq q) paths
 
@@ -43,11 +45,13 @@ entry (p ∷ ps) (a ∷ entries) q = if bytes_eq q p then Some a else entry ps e
 
 -- ---- Load statements that lead into a component, where each module has the number of its own.
 
+-- whether a module is in this component; where there is no module, it isn't
 abbrev pub is_number : ℕ → Option ℕ → Bool
 is_number own None = false
 is_number own (Some number) = nat_eq number own
 
 module _ (paths : List Path) (numbers : List ℕ) (own : ℕ) where
+  -- whether a label leads to a module of this component
   abbrev pub leads_back : Option Path → Bool
   leads_back None = false
   leads_back (Some q) = is_number own (entry paths numbers q)

@@ -3,7 +3,8 @@ use Rattle.std.specs.Prelude.{◌≡◌, ℕ, List}
 use Rattle.components.specs.Components.{Found, IsFound}
 use Rattle.levels.specs.Levels.{AreHeights, IsOrderBy}
 
--- where each module depends on those that it loads: their components, their heights, and an order by these
+-- where each module depends on those that it loads: their components, their heights, and an order
+-- by these
 pub record IsPlan (deps : List (List ℕ)) (found : Found) (heights order : List ℕ) : Type 0 where
   pub same : found.deps ≡ deps
   pub components : IsFound found

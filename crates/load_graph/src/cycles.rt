@@ -17,7 +17,8 @@ fn leads_back(paths: &Paths, components: &Components, own: usize, load: &LoadSta
     }
 }
 
-/// The line of the first load statement that names a module of the component of this number, if there is one.
+/// The line of the first load statement that names a module of the component of this number, if
+/// there is one.
 pub fn cycle_line(
     paths: &Paths,
     components: &Components,

@@ -1,5 +1,5 @@
-//! Who loads whom: the modules of a workspace by path, the modules that load statements name, by number, the line of a
-//! load cycle, and the order in which modules are evaluated.
+//! Who loads whom: the modules of a workspace by path, the modules that load statements name, by
+//! number, the line of a load cycle, and the order in which modules are evaluated.
 #![tactic(auto)]
 
 mod cycles;

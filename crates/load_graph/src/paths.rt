@@ -1,5 +1,6 @@
 //! The modules of a workspace by path.
-ghost use Rattle.std.specs.Prelude.{◌≡◌, ◌<◌, ◌++◌, ◌∷◌, [], false, None, Some, length, IfOk, IfSome, OnOk, MatchOption, if◌then◌else◌};
+ghost use Rattle.std.specs.Prelude.{◌≡◌, ◌<◌, ◌++◌, ◌∷◌, [], false, None, Some, length, IfOk};
+ghost use Rattle.std.specs.Prelude.{IfSome, OnOk, MatchOption, if◌then◌else◌};
 ghost use Rattle.std.specs.List.Sorted.{IsPermutation};
 ghost use Rattle.loading.specs.Loads.{module_path};
 ghost use Rattle.workspace.specs.FileKinds.{is_module};
@@ -13,8 +14,8 @@ use std::alloc::{AllocError, Global};
 use std::marker::Model;
 use workspace::{File, Workspace, is_module};
 
-/// The paths of modules, each once and in ascending order of their bytes. The place of a path, from 0, is its module's
-/// number.
+/// The paths of modules, each once and in ascending order of their bytes. The place of a path, from
+/// 0, is its module's number.
 #[derive(Drop)]
 pub struct Paths {
     paths: Vec<Text>,
@@ -88,8 +89,8 @@ impl Paths {
         }
     }
 
-    /// The same as `find`, where the path is likely to have this number: that one is looked at first, and where it is the
-    /// path's, nothing is searched.
+    /// The same as `find`, where the path is likely to have this number: that one is looked at
+    /// first, and where it is the path's, nothing is searched.
     pub fn find_near(&self, number: usize, path: &Text) -> Option<NodeId>
         ensures value { MatchOption result (listed self.now path.now ≡ false)
             (IsAt self.now path.now) }

@@ -8,12 +8,15 @@ use edges::Adjacency;
 use levels::{heights_of, order_by};
 use std::alloc::{AllocError, Global};
 
-/// Who loads whom, how high each module stands above those that it loads, and the modules in ascending order of their
-/// heights.
+/// Who loads whom, how high each module stands above those that it loads, and the modules in
+/// ascending order of their heights.
 #[derive(Drop)]
 pub struct Plan {
+    /// Who loads whom, and the component of each module: modules of one load each other.
     pub components: Components,
+    /// How high each module stands, by number; 0 where it loads none or is on a cycle.
     pub heights: Vec<usize>,
+    /// The numbers of the modules, lower ones first.
     pub order: Vec<usize>,
 }
 

@@ -1,5 +1,5 @@
--- What the files of a workspace come to: modules, `BUILD` files, and those that fail (Bazel documentation, "Build phases", the
--- loading phase; docs/PROFILE.md, "Loading").
+-- What the files of a workspace come to: modules, `BUILD` files, and those that fail (Bazel
+-- documentation, "Build phases", the loading phase; docs/PROFILE.md, "Loading").
 use Rattle.std.specs.Prelude.{ℕ, List, [], Some, Result, if◌then◌else◌}
 use Rattle.std.specs.List.{flat_map}
 use Rattle.lexer.specs.declared.fault.FaultKind.{FaultKind}
@@ -16,8 +16,10 @@ use Rattle.evaluation.specs.Evaluated.{Known}
 use Rattle.evaluation.specs.Workspaces.{sources_of, targets_of}
 use Rattle.loader.specs.Places.{of_module, of_build}
 
--- the files of a workspace, in ascending order of their paths, and how many ticks each evaluation may use
+-- the files of a workspace, in ascending order of their paths, and how many ticks each evaluation
+-- may use
 module _ (files : List Pair) (limit : ℕ) where
+  -- the workspace as loading sees it, where modules are evaluated as the language has it
   abbrev pub loads : Sources ℕ Module FaultKind Kind
   loads = sources_of files limit of_module
 

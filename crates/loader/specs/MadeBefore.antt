@@ -14,4 +14,5 @@ attribute_at known path n = option_and_then (λ m. slice_get m.made.attributes n
 -- a rule, by the numbers of its module and of its own
 abbrev pub rule_of : List Path → Known → MadeId → Option Rule
 rule_of paths known id =
-    option_and_then (λ m. slice_get m.made.rules id.number) (module_numbered paths known id.«module»)
+    option_and_then (λ m. slice_get m.made.rules id.number)
+    (module_numbered paths known id.«module»)

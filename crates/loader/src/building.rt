@@ -44,8 +44,8 @@ fn declared(whole: Box<Whole<'_, PackageTargets>>) -> PackageTargets
     work
 }
 
-/// The targets that the `BUILD` file of a number declares, at a path, with the modules that are known; or the fault of its top
-/// level.
+/// The targets that the `BUILD` file of a number declares, at a path, with the modules that are
+/// known; or the fault of its top level.
 fn run_build<K: KnownModules>(
     alloc: Global,
     evaluator: &Evaluator,
@@ -113,7 +113,8 @@ fn run_linked(
     }
 }
 
-/// What a file without a syntax fault comes to: the first of its loads that fails, else what its top level does.
+/// What a file without a syntax fault comes to: the first of its loads that fails, else what its
+/// top level does.
 fn linked(
     alloc: Global,
     evaluator: &Evaluator,

@@ -13,8 +13,8 @@ use sources::Sources;
 use std::alloc::{AllocError, Global};
 use values::Kind;
 
-/// What evaluations of files stand on, beside the modules that are known: the files as they were read, the provider
-/// `DefaultInfo`, and how many ticks each evaluation may use.
+/// What evaluations of files stand on, beside the modules that are known: the files as they were
+/// read, the provider `DefaultInfo`, and how many ticks each evaluation may use.
 pub(crate) struct Evaluator {
     pub sources: Sources,
     pub info: DefaultInfo,

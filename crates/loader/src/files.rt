@@ -12,13 +12,14 @@ use std::alloc::{AllocError, Global};
 use targets::{Attribute, Rule};
 use values::{Item, MadeId, Value};
 
-/// The paths of all files of a workspace, in ascending order, and the modules that are known. A file's number is its place
-/// among the paths.
+/// The paths of all files of a workspace, in ascending order, and the modules that are known. A
+/// file's number is its place among the paths.
 #[derive(Drop)]
 pub struct Files<'a, K> {
     pub alloc: Global,
     pub paths: &'a [Text],
-    /// For each file, where its module is looked for first among the modules: how many of these stand before it.
+    /// For each file, where its module is looked for first among the modules: how many of these
+    /// stand before it.
     pub module_numbers: &'a [usize],
     pub known: &'a K,
 }
@@ -48,7 +49,8 @@ impl<'a, K: KnownModules> Files<'a, K> {
         }
     }
 
-    /// The module that a load of a file names, by the text of the label, if it names one that is known.
+    /// The module that a load of a file names, by the text of the label, if it names one that is
+    /// known.
     fn named(&self, file: usize, label: &Text) -> Result<Option<&'a Module>, AllocError>
         ensures { IfOk result (λ m. option_copied m
             ≡ option_and_then (K.known self.now.known.now)

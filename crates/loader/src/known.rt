@@ -16,7 +16,8 @@ pub trait KnownModules {
     fn module(&self, path: &Text) -> Option<&Module>
         ensures { option_copied result ≡ known self.now path.now };
 
-    /// The same, where the module is likely to have this number among all modules: that one is looked at first.
+    /// The same, where the module is likely to have this number among all modules: that one is
+    /// looked at first.
     fn module_near(&self, number: usize, path: &Text) -> Option<&Module>
         ensures { option_copied result ≡ known self.now path.now };
 }

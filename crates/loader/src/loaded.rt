@@ -22,8 +22,8 @@ use std::thread::Threads;
 use values::Kind;
 use workspace::Workspace;
 
-/// The files of a workspace, in ascending order of their paths, each read and compiled, and its modules, each evaluated. The
-/// place of a file, from 0, is its number.
+/// The files of a workspace, in ascending order of their paths, each read and compiled, and its
+/// modules, each evaluated. The place of a file, from 0, is its number.
 pub struct LoadedFiles {
     evaluator: Evaluator,
     modules: Modules<Module, FaultKind, Kind>,
@@ -65,11 +65,12 @@ fn evaluated(
 }
 
 impl LoadedFiles {
-    /// Reads the files of a workspace, and evaluates its modules, each once and each after those that it loads. `limit` is
-    /// how many ticks each evaluation may use: of a module, and later of a `BUILD` file or an implementation.
+    /// Reads the files of a workspace, and evaluates its modules, each once and each after those
+    /// that it loads. `limit` is how many ticks each evaluation may use: of a module, and later of
+    /// a `BUILD` file or an implementation.
     ///
-    /// Files are read by so many threads, which have ended when this returns; `rt` is the permission to start them. Modules
-    /// are evaluated by the thread that calls.
+    /// Files are read by so many threads, which have ended when this returns; `rt` is the
+    /// permission to start them. Modules are evaluated by the thread that calls.
     ///
     /// # Errors
     ///
@@ -128,8 +129,9 @@ impl LoadedFiles {
         self.evaluator.limit
     }
 
-    /// The targets that the `BUILD` file at a path declares, or why it fails: its syntax fault, else the first of its load
-    /// statements that fails, else the fault of its top level. A path without a file is that of an empty file.
+    /// The targets that the `BUILD` file at a path declares, or why it fails: its syntax fault,
+    /// else the first of its load statements that fails, else the fault of its top level. A path
+    /// without a file is that of an empty file.
     ///
     /// # Errors
     ///

@@ -33,8 +33,8 @@ fn ended(
     end_run(alloc, &file, state, made_of(work))
 }
 
-/// What the module of a number comes to, at a path, with the modules that are known: the fault of its top level, or what it
-/// hands on once that has ended.
+/// What the module of a number comes to, at a path, with the modules that are known: the fault of
+/// its top level, or what it hands on once that has ended.
 pub(crate) fn run_module<K: KnownModules>(
     alloc: Global,
     evaluator: &Evaluator,

@@ -37,7 +37,12 @@ fn file_number(number: usize) -> Result<u32, AllocError>
 }
 
 impl Top {
-    /// The top level of the file of a number, which is run at a path. A number that no file has is that of an empty file.
+    /// The top level of the file of a number, which is run at a path. A number that no file has is
+    /// that of an empty file.
+    ///
+    /// # Errors
+    ///
+    /// `AllocError` where memory was refused, or where the number is greater than 4,294,967,295.
     pub fn of(
         alloc: Global,
         sources: &Sources,

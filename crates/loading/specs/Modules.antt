@@ -1,15 +1,20 @@
--- What each module of a workspace comes to, and each BUILD file: its value, or its load fault (docs/PROFILE.md, "Loading"). What a text is read as and what evaluation means come from outside.
-use Rattle.std.specs.Prelude.{ℕ, zero, suc, Bool, true, false, ◌||◌, ◌&&◌, List, [], ◌∷◌, length, max, Option, Some, None, Result, Ok, Err, if◌then◌else◌, nat_lt}
+-- What each module of a workspace comes to, and each BUILD file: its value, or its load fault
+-- (docs/PROFILE.md, "Loading"). What a text is read as and what evaluation means come from outside.
+use Rattle.std.specs.Prelude.{ℕ, zero, suc, Bool, true, false, ◌||◌, ◌&&◌, List, [], ◌∷◌, length}
+use Rattle.std.specs.Prelude.{max, Option, Some, None, Result, Ok, Err, if◌then◌else◌, nat_lt}
 use Rattle.std.specs.List.{list_any}
 use Rattle.std.specs.Str.{bytes_eq}
 use Rattle.edges.specs.Outcomes.{outcome}
 use Rattle.loading.specs.Loads.{Path, Name, Load, LoadFault, Read, of_modules, loads_fault}
-use Rattle.loading.specs.declared.faults.LoadFaultKind.TheVariants.{Syntax, LoadCycle, Evaluation, Unexported}
+use Rattle.loading.specs.declared.faults.LoadFaultKind.TheVariants.{Syntax, LoadCycle, Evaluation}
+use Rattle.loading.specs.declared.faults.LoadFaultKind.TheVariants.{Unexported}
 use Rattle.loading.specs.declared.faults.Placed.{Placed}
 use Rattle.loading.specs.declared.faults.Ending.{Ending}
 use Rattle.loading.specs.declared.faults.Ending.TheVariants.{Faulted, Unnamed}
 
--- A workspace as loading sees it: the paths of its modules, what each file's text is read as (or its syntax fault, with the line), which names a module's value binds, and what a module's tree is evaluated to with the modules that are handed to it.
+-- A workspace as loading sees it: the paths of its modules, what each file's text is read as (or
+-- its syntax fault, with the line), which names a module's value binds, and what a module's tree is
+-- evaluated to with the modules that are handed to it.
 pub record Sources (T M S K : Type 0) : Type 0 where
   pub modules : List Path
   pub read : Path → Result (Read T) (S × ℕ)
@@ -35,14 +40,17 @@ ended p (Err Unnamed) = Err (record { kind = Unexported; path = p; line = 0 })
 
 -- ---- What the load statements of a file name, in their order.
 
+-- the path that a label spells, if it spells one, before those of later labels
 abbrev pub with_target : Option Path → List Path → List Path
 with_target None qs = qs
 with_target (Some q) qs = q ∷ qs
 
+-- the paths that the labels of these statements spell
 abbrev pub targets : List Load → List Path
 targets [] = []
 targets (l ∷ ls) = with_target l.target (targets ls)
 
+-- the paths that a file loads; one with a syntax fault loads none
 abbrev pub targets_in : {T E : Type 0} → Result (Read T) E → List Path
 targets_in (Ok r) = targets r.loads
 targets_in (Err e) = []
@@ -63,14 +71,17 @@ module _ (loads : Path → List Path) where
     abbrev pub open_loads : Path → List Path
     open_loads p = if on_cycle p then [] else loads p
 
-    -- How high a file stands above those that it loads: 0 where it loads none or is on a cycle, else one more than the highest of them.
+    -- How high a file stands above those that it loads: 0 where it loads none or is on a cycle,
+    -- else one more than the highest of them.
     abbrev pub height : Path → ℕ
     height = outcome open_loads (λ _. 0) (λ _ hs. above_all hs) (length modules)
 
 module _ {T M S K : Type 0} (w : Sources T M S K) where
+  -- why a file of this workspace has no globals or targets
   abbrev pub Fault : Type 0
   Fault = LoadFault S K
 
+  -- whether a module of the workspace has this path
   abbrev pub is_module : Path → Bool
   is_module q = list_any (bytes_eq q) w.modules
 
@@ -78,13 +89,16 @@ module _ {T M S K : Type 0} (w : Sources T M S K) where
   abbrev pub file : Path → Result (Read T) (S × ℕ)
   file p = of_modules is_module (w.read p)
 
-  -- The modules that a module loads, in the order of its statements. One with a syntax fault loads nothing.
+  -- The modules that a module loads, in the order of its statements. One with a syntax fault loads
+  -- nothing.
   abbrev pub loads_of : Path → List Path
   loads_of p = if is_module p then targets_in (file p) else []
 
+  -- whether a file of this workspace is on a load cycle
   abbrev pub is_on_cycle : Path → Bool
   is_on_cycle = on_cycle loads_of w.modules
 
+  -- how high a file of this workspace stands above those that it loads
   abbrev pub height_of : Path → ℕ
   height_of = height loads_of w.modules
 
@@ -103,14 +117,18 @@ module _ {T M S K : Type 0} (w : Sources T M S K) where
   linked p t module_at (Some f) = Err f
   linked p t module_at None = ended p (w.run (λ q. value (module_at q)) p t)
 
-  -- A module, where `module_at` gives the modules that may be loaded. Its fault is the first that applies: syntax; a load cycle; the first load that fails; a fault of evaluation; what no global names.
-  abbrev pub loaded : Path → Result (Read T) (S × ℕ) → (Path → Option (Result M Fault)) → Result M Fault
+  -- A module, where `module_at` gives the modules that may be loaded. Its fault is the first that
+  -- applies: syntax; a load cycle; the first load that fails; a fault of evaluation; what no global
+  -- names.
+  abbrev pub loaded : Path → Result (Read T) (S × ℕ) → (Path → Option (Result M Fault))
+      → Result M Fault
   loaded p (Err e) module_at = Err (record { kind = Syntax e.0; path = p; line = e.1 })
   loaded p (Ok r) module_at = elim (is_on_cycle p) [
     | true ↦ Err (record { kind = LoadCycle; path = p; line = cycle_line p r.loads })
     | false ↦ linked p r.tree module_at (loads_fault w.globals p module_at r.loads)
   ]
 
+  -- whether a module has this path and stands lower than a height
   abbrev pub is_lower : ℕ → Path → Bool
   is_lower h q = is_module q && nat_lt (height_of q) h
 
@@ -118,6 +136,8 @@ module _ {T M S K : Type 0} (w : Sources T M S K) where
   abbrev pub lower : ℕ → (Path → Result M Fault) → Path → Option (Result M Fault)
   lower h f q = elim (is_lower h q) [ true ↦ Some (f q) | false ↦ None ]
 
+  -- What the module at a path comes to, where loads are followed at most n files deep. `module_of`
+  -- asks for so many that the bottom is never come to.
   abbrev pub module_within : ℕ → Path → Result M Fault
   module_within zero p = Err (record { kind = LoadCycle; path = p; line = 0 })
   module_within (suc n) p = loaded p (file p) (lower (height_of p) (module_within n))
@@ -132,14 +152,18 @@ module _ {T M S K : Type 0} (w : Sources T M S K) where
 
   -- ---- BUILD files: no file loads one, so none is on a cycle, and none is named by a global.
   module _ {B : Type 0} (run_build : (Path → Option M) → Path → T → Result B (Placed K)) where
+    -- what the evaluation of a BUILD file comes to, with its fault as one of a file
     abbrev pub build_ended : Result B (Placed K) → Result B Fault
     build_ended (Ok b) = Ok b
     build_ended (Err f) = Err (record { kind = Evaluation f.kind; path = f.path; line = f.line })
 
+    -- evaluated with all modules that have no fault, unless a load fails
     abbrev pub build_linked : Path → T → Option Fault → Result B Fault
     build_linked p t (Some f) = Err f
     build_linked p t None = build_ended (run_build (λ q. value (any_module q)) p t)
 
+    -- A BUILD file as it is read. Its fault is the first that applies: syntax; the first load that
+    -- fails; a fault of evaluation.
     abbrev pub built : Path → Result (Read T) (S × ℕ) → Result B Fault
     built p (Err e) = Err (record { kind = Syntax e.0; path = p; line = e.1 })
     built p (Ok r) = build_linked p r.tree (loads_fault w.globals p any_module r.loads)

@@ -2,20 +2,30 @@
 
 use plain::Text;
 
-/// Why a file has no globals or targets. `S` are the kinds of syntax faults, `K` those of an evaluation's faults.
+/// Why a file has no globals or targets. `S` are the kinds of syntax faults, `K` those of an
+/// evaluation's faults.
 #[derive(Drop)]
 pub enum LoadFaultKind<S, K> {
+    /// Its text is no file of the profile.
     Syntax(S),
+    /// A walk along loads leads from it back to itself.
     LoadCycle,
+    /// It loads a label at which there is no module.
     MissingFile,
+    /// It loads a module that has a fault.
     LoadedModuleFailed,
+    /// It loads a name that begins with `_`.
     PrivateName,
+    /// It loads a name that the module doesn't bind.
     MissingName,
+    /// Its evaluation stopped.
     Evaluation(K),
+    /// A provider or rule that it made has no global as its name.
     Unexported,
 }
 
-/// A kind of fault, and the place where it stands: a file's path and a line, from 1, or 0 where no line has it.
+/// A kind of fault, and the place where it stands: a file's path and a line, from 1, or 0 where no
+/// line has it.
 #[derive(Drop)]
 pub struct Placed<K> {
     /// What is wrong.

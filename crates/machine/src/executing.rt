@@ -24,7 +24,8 @@ use values::{Kind, Value};
 pub enum Start<'a> {
     /// A value, or a method of one, is called at a line of a file, with these arguments.
     Call(usize, usize, Callee<'a>, Arguments<'a>),
-    /// A function is called at the line of its `def`, whatever value it has: so an implementation is called.
+    /// A function is called at the line of its `def`, whatever value it has: so an implementation
+    /// is called.
     Function(FunctionId, Arguments<'a>),
     /// The top level of a file, by the number of the file.
     TopLevel(usize),
@@ -111,7 +112,8 @@ fn frame_with<'a, T: Drop>(alloc: Global, slots: Slots<'a>) -> Result<Box<Frame<
     Ok(Box::new(alloc, Frame::with_slots(alloc, slots))?)
 }
 
-/// The top level of a file begins: no function is active, nothing is set in its slots, and it takes no tick.
+/// The top level of a file begins: no function is active, nothing is set in its slots, and it takes
+/// no tick.
 fn begin_top<'a, W: Operate<'a>>(
     world: &W,
     linked: &'a Linked,
@@ -187,13 +189,15 @@ fn run<'a, W: Operate<'a>>(
     }
 }
 
-/// Runs linked code. What it answers is exactly what the files mean of which it is the code: the value, with the state after
-/// it and so the ticks; or the fault of that kind, in that file, at that line. Each run ends: the machine takes one instruction
-/// after the other and doesn't recurse, whatever the depth of calls.
+/// Runs linked code. What it answers is exactly what the files mean of which it is the code: the
+/// value, with the state after it and so the ticks; or the fault of that kind, in that file, at
+/// that line. Each run ends: the machine takes one instruction after the other and doesn't recurse,
+/// whatever the depth of calls.
 ///
 /// # Errors
 ///
-/// A fault as the files mean it; [`Stop::NoMemory`] where memory was refused, and then the state is left as it is.
+/// A fault as the files mean it; [`Stop::NoMemory`] where memory was refused, and then the state is
+/// left as it is.
 pub fn execute<'a, W: Operate<'a>>(
     world: &W,
     linked: &'a Linked,

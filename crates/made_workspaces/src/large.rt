@@ -11,6 +11,10 @@ const COMPILING: &str =
     "Info = provider(fields = ['files'])\\ndef _w(ctx):\\n    o = ctx.actions.declare_file(ctx.label.name + '.o')\\n    below = depset(transitive = [d[Info].files for d in ctx.attr.deps])\\n    ctx.actions.run(outputs = [o], executable = 'cc', inputs = below, arguments = ['-o', o.path], mnemonic = 'Compile')\\n    return [DefaultInfo(files = depset([o])), Info(files = depset([o], transitive = [below]))]\\nw = rule(implementation = _w, attrs = {'deps': attr.label_list(providers = [Info])})\\n";
 
 /// So many targets that depend on nothing, and one that depends on all of them.
+///
+/// # Errors
+///
+/// `AllocError` where memory was refused.
 pub fn plain_targets(alloc: Global, count: usize) -> Result<String, AllocError> {
     format!(in alloc;
         "[[\"top/w.bzl\", \"{WRITING}\"], [\"top/BUILD\", \"load(':w.bzl', 'w')\\n[w(name = 't' + str(i)) for i in range({count})]\\nw(name = 'all', deps = ['t' + str(i) for i in range({count})])\\n\"]]"
@@ -38,8 +42,13 @@ fn put_layer(
     text.push_str("\"]")
 }
 
-/// Targets in layers of so many, in groups of `degree`. Each depends on the targets of its own group in the layer before it, so that
-/// it reaches these groups alone; with a degree of 0 on none. A last target depends on the whole last layer.
+/// Targets in layers of so many, in groups of `degree`. Each depends on the targets of its own
+/// group in the layer before it, so that it reaches these groups alone; with a degree of 0 on none.
+/// A last target depends on the whole last layer.
+///
+/// # Errors
+///
+/// `AllocError` where memory was refused.
 pub fn layered_targets(
     alloc: Global,
     layers: usize,

@@ -8,8 +8,12 @@ use std::alloc::{AllocError, Global};
 const ALONE: &str =
     "[\"top/r.bzl\", \"def _r(ctx):\\n    return None\\nr = rule(implementation = _r)\\n\"], [\"top/BUILD\", \"load(':r.bzl', 'r')\\nr(name = 'all')\\n\"]";
 
-/// Modules in layers of so many. Each loads a name from up to `degree` modules of the layer before it: the one in its own place
-/// there, and those behind that.
+/// Modules in layers of so many. Each loads a name from up to `degree` modules of the layer before
+/// it: the one in its own place there, and those behind that.
+///
+/// # Errors
+///
+/// `AllocError` where memory was refused.
 pub fn layered_modules(
     alloc: Global,
     layers: usize,
@@ -46,8 +50,12 @@ fn put_module(
     text.push_str("x = 1\\n\"]")
 }
 
-/// So many modules, each of which loads a name from the next. Where it `closes`, the last loads one from the first, so that all are
-/// on one cycle.
+/// So many modules, each of which loads a name from the next. Where it `closes`, the last loads one
+/// from the first, so that all are on one cycle.
+///
+/// # Errors
+///
+/// `AllocError` where memory was refused.
 pub fn chained_modules(alloc: Global, count: usize, closes: bool) -> Result<String, AllocError> {
     let mut text = format!(in alloc; "[{ALONE}")?;
     for place in 0..count {

@@ -12,8 +12,8 @@ const PACKAGES: u32 = 4;
 /// How many targets a package declares at most.
 const TARGETS: u32 = 6;
 
-/// Two rules, as JSON spells them. The first hands on the files of what it depends on, in an order, and runs an action for each of
-/// its outputs; the second offers nothing that the first asks for.
+/// Two rules, as JSON spells them. The first hands on the files of what it depends on, in an order,
+/// and runs an action for each of its outputs; the second offers nothing that the first asks for.
 const RULES: &str =
     "Info = provider(fields = ['files', 'name'])\\ndef _r(ctx):\\n    if ctx.attr.fails:\\n        fail(ctx.label.name)\\n    outs = [ctx.actions.declare_file(n) for n in ctx.attr.outs]\\n    below = depset(ctx.files.srcs, order = ctx.attr.order, transitive = [d[Info].files for d in ctx.attr.deps])\\n    for o in outs:\\n        ctx.actions.run(outputs = [o], executable = 'make', inputs = below, arguments = [d[Info].name for d in ctx.attr.deps])\\n    return [Info(files = depset(outs, order = ctx.attr.order, transitive = [below, below]), name = ctx.label.name)]\\nr = rule(implementation = _r, attrs = {'fails': attr.bool(), 'outs': attr.string_list(), 'order': attr.string(default = 'default'), 'deps': attr.label_list(providers = [Info]), 'srcs': attr.label_list(allow_files = ['.txt'])})\\ndef _p(ctx):\\n    return None\\np = rule(implementation = _p, attrs = {'deps': attr.label_list()})\\n";
 
@@ -77,8 +77,12 @@ fn put_package(text: &mut String, dice: &mut Pcg32, number: u32) -> Result<(), A
     text.push_str("\"], ")
 }
 
-/// A workspace of a few packages. Among its targets are such as fail, such as depend on missing ones, on themselves or on what
-/// doesn't offer what they ask for, and such as declare one output.
+/// A workspace of a few packages. Among its targets are such as fail, such as depend on missing
+/// ones, on themselves or on what doesn't offer what they ask for, and such as declare one output.
+///
+/// # Errors
+///
+/// `AllocError` where memory was refused.
 pub fn random_workspace(alloc: Global, seed: u64) -> Result<String, AllocError> {
     let mut dice = Pcg32::new(seed, 1);
     let mut text = String::new(alloc);

@@ -7,6 +7,7 @@ use Rattle.std.specs.Ordering.{nat_cmp}
 use Rattle.std.specs.declared.cmp.Ordering.{Ordering}
 use Rattle.operations.specs.Arguments.{place_named}
 
+-- the order of names behind references, by their bytes
 abbrev pub name_cmp : Bor (List ℕ) → Bor (List ℕ) → Ordering
 name_cmp p q = slice_cmp nat_cmp p.now q.now
 
@@ -16,4 +17,6 @@ ArePlaced names places = (q : Bor (List ℕ)) → get name_cmp places q ≡ plac
 
 -- a name has this place now, and every other the place that it had
 abbrev pub HasFirst : List ℕ → ℕ → BTreeMap (Bor (List ℕ)) ℕ → BTreeMap (Bor (List ℕ)) ℕ → Type 0
-HasFirst n i olds news = (q : Bor (List ℕ)) → get name_cmp news q ≡ (if bytes_eq q.now n then Some i else get name_cmp olds q)
+HasFirst n i olds news =
+    (q : Bor (List ℕ)) → get name_cmp news q
+    ≡ (if bytes_eq q.now n then Some i else get name_cmp olds q)

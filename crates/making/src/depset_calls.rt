@@ -6,7 +6,8 @@ ghost use Rattle.values.specs.Shape.{shape};
 ghost use Rattle.operations.specs.Reading.{depset_in, of_type};
 ghost use Rattle.operations.specs.States.{Does, Stays, Gives};
 ghost use Rattle.printing.specs.Repr.{string_in};
-ghost use Rattle.operations.specs.Depsets.{new_depset, order_named, order_text, order_in, parts_in, element_in, parts_of, made_of, depset_of};
+ghost use Rattle.operations.specs.Depsets.{new_depset, order_named, order_text, order_in, parts_in};
+ghost use Rattle.operations.specs.Depsets.{element_in, parts_of, made_of, depset_of};
 
 use crate::parts::{children, elements};
 use heap::Heap;
@@ -167,8 +168,8 @@ fn read_parts(
 ///
 /// # Errors
 ///
-/// `type` for an argument, an element, elements of two types, or an order that isn't one; then `order`, `deep`, and `large`
-/// where no serial is left.
+/// `type` for an argument, an element, elements of two types, or an order that isn't one; then
+/// `order`, `deep`, and `large` where no serial is left.
 pub fn depset(
     alloc: Global,
     state: &mut State,

@@ -1,5 +1,7 @@
 //! Instances of providers, and their fields.
-ghost use Rattle.std.specs.Prelude.{◌≡◌, ◌<◌, ◌++◌, ◌∷◌, [], Ok, Err, Some, None, MatchResult, MatchOption, IfOk, OnOk, map, length, slice_get, option_copied, is_ok};
+ghost use Rattle.std.specs.Prelude.{◌≡◌, ◌<◌, ◌++◌, ◌∷◌, [], Ok, Err, Some, None, MatchResult};
+ghost use Rattle.std.specs.Prelude.{MatchOption, IfOk, OnOk, map, length, slice_get, option_copied};
+ghost use Rattle.std.specs.Prelude.{is_ok};
 ghost use Rattle.std.specs.List.{list_any, list_all};
 ghost use Rattle.std.specs.Str.{bytes_eq};
 ghost use Rattle.depsets.specs.Elements.{elements, all_of_type};
@@ -10,7 +12,9 @@ ghost use Rattle.operations.specs.Items.{at_place};
 ghost use Rattle.operations.specs.Arguments.{given, given_for, place_from, place_named};
 ghost use Rattle.operations.specs.Fields.{field_in};
 ghost use Rattle.operations.specs.Names.{in_slot};
-ghost use Rattle.operations.specs.Instances.{are_fields, given_fields, new_instance, with_fields, constructed, unless_placed, with_files, with_new_files, info_with, files_in, only_files};
+ghost use Rattle.operations.specs.Instances.{are_fields, given_fields, new_instance, with_fields};
+ghost use Rattle.operations.specs.Instances.{constructed, unless_placed, with_files};
+ghost use Rattle.operations.specs.Instances.{with_new_files, info_with, files_in, only_files};
 
 use crate::depset_calls::new_depset;
 use crate::places::{FEW, FirstPlaces, name_at, place_named};
@@ -63,7 +67,8 @@ fn with_fields(
     }
 }
 
-/// Whether each name is one of the provider's. The fields are put in order where many names are given.
+/// Whether each name is one of the provider's. The fields are put in order where many names are
+/// given.
 fn are_fields(alloc: Global, fields: &[Text], names: &[Text]) -> Result<bool, AllocError>
     ensures { IfOk result (λ b. b ≡ are_fields fields.now names.now) }
 {
@@ -194,11 +199,13 @@ fn slot_at<'a>(slots: Slots<'a>, place: usize) -> Option<Item<'a>>
     }
 }
 
-/// `DefaultInfo(files = files)`; the default is a new depset without elements, with the next serial.
+/// `DefaultInfo(files = files)`; the default is a new depset without elements, with the next
+/// serial.
 ///
 /// # Errors
 ///
-/// `type`, where the files are no depset that is empty or of Files; `large`, where no serial is left for the default.
+/// `type`, where the files are no depset that is empty or of Files; `large`, where no serial is
+/// left for the default.
 pub fn default_info(
     alloc: Global,
     state: &mut State,

@@ -1,8 +1,9 @@
-//! What an evaluation makes: depsets, each with the next serial of its owner, and instances of providers; and the names of
-//! its top level.
+//! What an evaluation makes: depsets, each with the next serial of its owner, and instances of
+//! providers; and the names of its top level.
 //!
-//! Each call does what its definition in `operations` says, for every state, or answers that memory was refused; after a
-//! fault, and after such a refusal, the heap and the number of depsets are as they were.
+//! Each call does what its definition in `operations` says, for every state, or answers that memory
+//! was refused; after a fault, and after such a refusal, the heap and the number of depsets are as
+//! they were.
 #![tactic(auto)]
 
 mod depset_calls;

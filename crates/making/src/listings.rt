@@ -1,5 +1,6 @@
 //! The listing of a depset, as a list of the language.
-ghost use Rattle.std.specs.Prelude.{◌≡◌, ◌++◌, ◌∷◌, [], Ok, Err, MatchResult, IfOk, OnOk, map, length};
+ghost use Rattle.std.specs.Prelude.{◌≡◌, ◌++◌, ◌∷◌, [], Ok, Err, MatchResult, IfOk, OnOk, map};
+ghost use Rattle.std.specs.Prelude.{length};
 ghost use Rattle.depsets.specs.Listed.{IsCoherent, walked, flat};
 ghost use Rattle.ticks.specs.Ticking.{FaultOr};
 ghost use Rattle.operations.specs.States.{Does, Stays};
@@ -11,7 +12,12 @@ use operations::State;
 use std::alloc::{AllocError, Global};
 use values::{Broken, Depset, Element, Items, Key, Leaf, Value};
 
-/// A new list of the listing, or `large`. The walk visits no id twice; of a coherent depset it gives the plain listing.
+/// A new list of the listing, or `large`. The walk visits no id twice; of a coherent depset it
+/// gives the plain listing.
+///
+/// # Errors
+///
+/// `large` where the list would be too large, and `NoMemory` where memory was refused.
 pub fn to_list(alloc: Global, state: &mut State, depset: &Depset) -> Result<Value, Broken>
     ensures list { Does (to_list depset.now) state.old result state.new }
     ensures plain { IsCoherent depset.now

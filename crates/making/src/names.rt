@@ -1,9 +1,11 @@
 //! Names of the top level, and functions.
-ghost use Rattle.std.specs.Prelude.{◌≡◌, Ok, Err, Some, None, MatchResult, option_copied, option_map, slice_get, nat_eq, length};
+ghost use Rattle.std.specs.Prelude.{◌≡◌, Ok, Err, Some, None, MatchResult, option_copied};
+ghost use Rattle.std.specs.Prelude.{option_map, slice_get, nat_eq, length};
 ghost use Rattle.ticks.specs.Ticking.{FaultOr};
 ghost use Rattle.operands.specs.Lying.{stored_value};
 ghost use Rattle.operations.specs.States.{Does, Stays};
-ghost use Rattle.operations.specs.Names.{name_value, set_global, set_loaded, define, in_slot, or_loaded};
+ghost use Rattle.operations.specs.Names.{name_value, set_global, set_loaded, define, in_slot};
+ghost use Rattle.operations.specs.Names.{or_loaded};
 
 use operands::{Bindings, Operand, Stored};
 use operations::State;
@@ -11,7 +13,8 @@ use plain::{Shared, Text};
 use std::alloc::Global;
 use values::{Broken, FunctionRef, Items, Leaf, MadeId, Value};
 
-/// The value of a name of the top level, once it is bound, where it is stored. One that a load binds is lent.
+/// The value of a name of the top level, once it is bound, where it is stored. One that a load
+/// binds is lent.
 pub fn name_value<'a, 'b>(state: &'b State<'a>, number: usize) -> Option<Stored<'a, 'b>>
     ensures { option_map stored_value result ≡ name_value state.now number }
 {
@@ -60,6 +63,10 @@ pub fn set_loaded<'a>(state: &mut State<'a>, file: u32, number: usize, value: Op
 }
 
 /// The function that a `def` makes keeps its defaults, which were evaluated once.
+///
+/// # Errors
+///
+/// `NoMemory` where memory was refused; nothing is made then.
 pub fn define(
     alloc: Global,
     state: &mut State,

@@ -11,8 +11,8 @@ use std::marker::Model;
 /// So many names, at most, are gone through rather than put in order.
 pub(crate) const FEW: usize = 8;
 
-/// Names, each found at its first place: few by going through them, many by order, so that who chooses them can't make this
-/// slow. For few it takes no memory.
+/// Names, each found at its first place: few by going through them, many by order, so that who
+/// chooses them can't make this slow. For few it takes no memory.
 #[derive(Drop)]
 pub struct FirstPlaces<'a> {
     names: &'a [Text],
@@ -34,6 +34,10 @@ impl<'a> Model for FirstPlaces<'a> {
 
 impl<'a> FirstPlaces<'a> {
     /// These names. Many are put in order, once.
+    ///
+    /// # Errors
+    ///
+    /// `AllocError` where memory was refused.
     pub fn new(alloc: Global, names: &'a [Text]) -> Result<FirstPlaces<'a>, AllocError>
         ensures { IfOk result (λ p. p ≡ names.now) }
     {

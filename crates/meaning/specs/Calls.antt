@@ -1,7 +1,9 @@
--- What a call does, and what the top level of a file does (Starlark specification, "Function and method calls").
+-- What a call does, and what the top level of a file does (Starlark specification, "Function and
+-- method calls").
 use Rattle.std.specs.Prelude.{ℕ, zero, suc, if◌then◌else◌, [], ◌∷◌, Option, Some, None, replicate}
 use Rattle.std.specs.List.{list_any}
-use Rattle.meaning.specs.Operations.{FunctionId, Callee, Arguments, wrong_type, arity, recursion, deep, Operations}
+use Rattle.meaning.specs.Operations.{FunctionId, Callee, Arguments, wrong_type, arity, recursion}
+use Rattle.meaning.specs.Operations.{deep, Operations}
 use Rattle.meaning.specs.Outcome.{Slots, Final, located, refused, final_of, ◌>>=◌, pure, act, Here}
 use Rattle.meaning.specs.Entry.{same_function, called, entry}
 use Rattle.meaning.specs.Functions.{Function, Files, function_at, def_line}
@@ -28,8 +30,9 @@ module _ {S V K : Type 0} (ops : Operations S V K) where
   value_of continues = ops.none
   value_of (returns v) = v
 
-  -- the tests of a call, in this order: the arguments fit the parameters, and the function isn't active already. What
-  -- follows is done in slots of the function's own. The faults stand where the call is
+  -- the tests of a call, in this order: the arguments fit the parameters, and the function isn't
+  -- active already. What follows is done in slots of the function's own. The faults stand where the
+  -- call is
   abbrev pub tested : Here → FunctionId → (Slots V → S → Final S V K) → Option (Slots V) → S →
       Final S V K
   tested here f go None s = refused here (ops.refusal arity)
@@ -68,17 +71,19 @@ module _ {S V K : Type 0} (ops : Operations S V K) (files : Files) where
   abbrev pub call_meaning : ℕ → ℕ → Callee V → Arguments V → S → Final S V K
   call_meaning file at = invoke 128 (outside file at)
 
+  -- a call from outside of a function whose `def` is at this line; a fault where it has none
   abbrev pub defined_at : FunctionId → Arguments V → Option ℕ → S → Final S V K
   defined_at f given None s = refused (outside f.file 0) (ops.refusal wrong_type)
   defined_at f given (Some n) s =
       written ops (outside f.file n) f given (running (invoke 127) (outside f.file n) f)
       (function_at files f) s
 
-  -- a function is called from outside, whatever value it has: so an implementation is called. The tests of the call and its
-  -- tick stand at the line of the `def`
+  -- a function is called from outside, whatever value it has: so an implementation is called. The
+  -- tests of the call and its tick stand at the line of the `def`
   abbrev pub function_meaning : FunctionId → Arguments V → S → Final S V K
   function_meaning f given = defined_at f given (def_line files f)
 
+  -- what the top level of a file does, if there is that file
   abbrev pub top : ℕ → Option Function → S → Final S V K
   top file None s = refused (outside file 0) (ops.refusal wrong_type)
   top file (Some d) s =
@@ -86,6 +91,7 @@ module _ {S V K : Type 0} (ops : Operations S V K) (files : Files) where
       ((block ops (invoke 128) files d.body (outside file 0) >>= λ e.
       pure (value_of ops e)) (replicate d.slots None) s)
 
-  -- the top level of a file, which is no active function and takes no tick. Nothing is set in its slots
+  -- the top level of a file, which is no active function and takes no tick. Nothing is set in its
+  -- slots
   abbrev pub top_meaning : ℕ → S → Final S V K
   top_meaning file = top file (function_at files (record { file = file; number = 0 }))

@@ -14,6 +14,7 @@ module _ {S V K : Type 0} (ops : Operations S V K) (codes : Codes) where
   abbrev pub call_start : ℕ → ℕ → Callee V → Arguments V → S → Next S V K
   call_start file at g given s = start ops codes (outside file at) g given [] s
 
+  -- how it begins at the line of a `def`, if the function has one
   abbrev pub function_from : FunctionId → Arguments V → S → Option ℕ → Next S V K
   function_from f given s None = faults (outside f.file 0) (ops.refusal wrong_type)
   function_from f given s (Some n) =
@@ -23,6 +24,7 @@ module _ {S V K : Type 0} (ops : Operations S V K) (codes : Codes) where
   abbrev pub function_start : FunctionId → Arguments V → S → Next S V K
   function_start f given s = function_from f given s (code_line codes f)
 
+  -- how it begins with the code of a top level, if there is that file
   abbrev pub top_from : ℕ → S → Option FunctionCode → Next S V K
   top_from file s None = faults (outside file 0) (ops.refusal wrong_type)
   top_from file s (Some d) =
@@ -38,8 +40,8 @@ module _ {S V K : Type 0} (ops : Operations S V K) (codes : Codes) where
     pub only : (n : ℕ) (p : Final S V K) → run_from ops codes n x ≡ ends p → p ≡ o
     pub never_stuck : (n : ℕ) → run_from ops codes n x ≢ gets_stuck
 
--- For all files, whatever the operations do: a call ends with the value, the state and so the ticks of its meaning, or with
--- the fault of its meaning, of that kind, file and line
+-- For all files, whatever the operations do: a call ends with the value, the state and so the ticks
+-- of its meaning, or with the fault of its meaning, of that kind, file and line
 abbrev pub CallsAreMeant : {S V K : Type 0} → Operations S V K → Type 0
 CallsAreMeant {S} {V} ops =
     (files : Files) (file at : ℕ) (g : Callee V) (given : Arguments V) (s : S) →

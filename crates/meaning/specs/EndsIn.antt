@@ -18,6 +18,7 @@ module _ {S V K : Type 0} (ops : Operations S V K) (codes : Codes) where
   EndsIn (suc n) (over o) = ⊥
   EndsIn (suc n) stuck = ⊥
 
+  -- it is so in one way at most
   EndsIn-prop : (n : ℕ) (x : Next S V K) → IsProp (EndsIn n x)
   EndsIn-prop zero (more c) = ⊥_prop
   EndsIn-prop zero (over o) = Unit-prop
@@ -26,6 +27,7 @@ module _ {S V K : Type 0} (ops : Operations S V K) (codes : Codes) where
   EndsIn-prop (suc n) (over o) = ⊥_prop
   EndsIn-prop (suc n) stuck = ⊥_prop
 
+  -- two such numbers are the same
   one_count : (m n : ℕ) (x : Next S V K) → EndsIn m x → EndsIn n x → m ≡ n
   one_count zero zero x a b = refl
   one_count (suc m) (suc n) (more c) a b = ap suc (one_count m n (step ops codes c) a b)
@@ -42,6 +44,7 @@ module _ {S V K : Type 0} (ops : Operations S V K) (codes : Codes) where
   abbrev pub Counted : Next S V K → Type 0
   Counted x = (n : ℕ) × EndsIn n x
 
+  -- so there is at most one such number, and one way to know it
   pub Counted-prop : (x : Next S V K) → IsProp (Counted x)
   Counted-prop x a b = Σ_prop_path (λ n. EndsIn-prop n x) (one_count a.0 b.0 x a.1 b.1)
 

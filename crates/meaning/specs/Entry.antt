@@ -1,12 +1,15 @@
--- What a call needs to know of a function: which one is called, and what its parameters get (Starlark specification,
--- "Function and method calls").
-use Rattle.std.specs.Prelude.{ℕ, ◌-◌, Bool, nat_eq, if◌then◌else◌, ◌&&◌, List, [], ◌∷◌, ◌++◌, length, map, Option, Some, None, option_map, bytes_eq, replicate, slice_get}
+-- What a call needs to know of a function: which one is called, and what its parameters get
+-- (Starlark specification, "Function and method calls").
+use Rattle.std.specs.Prelude.{ℕ, ◌-◌, Bool, nat_eq, if◌then◌else◌, ◌&&◌, List, [], ◌∷◌, ◌++◌}
+use Rattle.std.specs.Prelude.{length, map, Option, Some, None, option_map, bytes_eq, replicate}
+use Rattle.std.specs.Prelude.{slice_get}
 use Rattle.std.specs.List.{list_any, list_all}
 use Rattle.std.specs.Map.{lookup}
 use Rattle.program_tree.specs.Names.{Name, or_else}
 use Rattle.meaning.specs.Operations.{FunctionId, Callee, plain, method, Arguments, Operations}
 use Rattle.meaning.specs.Outcome.{Slots}
 
+-- whether two functions are one: they are of one file, and have one number there
 abbrev pub same_function : FunctionId → FunctionId → Bool
 same_function f g = nat_eq f.file g.file && nat_eq f.number g.number
 
@@ -33,11 +36,13 @@ before_all None rest = None
 before_all (Some a) None = None
 before_all (Some a) (Some xs) = Some (Some a ∷ xs)
 
+-- whether a parameter gets an argument by name
 abbrev pub is_named : {V : Type 0} → Name → List (Name × V) → Bool
 is_named p named = list_any (λ n. bytes_eq p n.0) named
 
--- what each parameter gets: its value by position, or by its name, or its default. None where one gets nothing, where one
--- gets a value by position and another by name, and where there are more positions than parameters
+-- what each parameter gets: its value by position, or by its name, or its default. None where one
+-- gets nothing, where one gets a value by position and another by name, and where there are more
+-- positions than parameters
 abbrev pub filled : {V : Type 0} → List Name → List V → List (Name × V) → List (Option V) →
     Option (Slots V)
 filled [] [] named ds = Some []
@@ -56,8 +61,8 @@ defaults_of params defaults = replicate (length params - length defaults) None +
 abbrev pub all_known : {V : Type 0} → List Name → List (Name × V) → Bool
 all_known params named = list_all (λ n. list_any (bytes_eq n.0) params) named
 
--- the slots at the entry of a function, where the arguments fit its parameters: these come first, and nothing is set in the
--- others
+-- the slots at the entry of a function, where the arguments fit its parameters: these come first,
+-- and nothing is set in the others
 unfoldable pub entry : {V : Type 0} → List Name → ℕ → List V → Arguments V → Option (Slots V)
 entry params slots defaults given =
     if all_known params given.named

@@ -1,12 +1,19 @@
--- What an expression does (Starlark specification, "Expressions"): its value, and what it changes, in the order of the text.
-use Rattle.std.specs.Prelude.{◌-◌, nat_eq, Bool, if◌then◌else◌, List, [], ◌∷◌, ◌++◌, length, Option, Some, None}
+-- What an expression does (Starlark specification, "Expressions"): its value, and what it changes,
+-- in the order of the text.
+use Rattle.std.specs.Prelude.{◌-◌, nat_eq, Bool, if◌then◌else◌, List, [], ◌∷◌, ◌++◌, length, Option}
+use Rattle.std.specs.Prelude.{Some, None}
 use Rattle.grammar.specs.Tree.{Operator, either, both}
 use Rattle.program_tree.specs.Names.{Name}
 use Rattle.program_tree.specs.Resolved as tree
-use Rattle.program_tree.specs.Resolved.{Term, named, numeral, quoted, tuple, listing, dict, choice, operates, turned, selects, subscript, invokes, each, each_pair, Terms, no_terms, more_terms, Pairs, no_pairs, more_pairs, Keywords, no_keywords, more_keywords, Rounds, for_each, only_if}
+use Rattle.program_tree.specs.Resolved.{Term, named, numeral, quoted, tuple, listing, dict, choice}
+use Rattle.program_tree.specs.Resolved.{operates, turned, selects, subscript, invokes, each}
+use Rattle.program_tree.specs.Resolved.{each_pair, Terms, no_terms, more_terms, Pairs, no_pairs}
+use Rattle.program_tree.specs.Resolved.{more_pairs, Keywords, no_keywords, more_keywords, Rounds}
+use Rattle.program_tree.specs.Resolved.{for_each, only_if}
 use Rattle.meaning.specs.Names.{OwnSlots, Binding, slot, global, builtin}
 use Rattle.meaning.specs.Operations.{Callee, plain, Arguments, arity, Operations}
-use Rattle.meaning.specs.Outcome.{done, Final, resumed, Effect, ◌>>=◌, pure, raise, act, change, Here, cleared, set_slot, slot_value}
+use Rattle.meaning.specs.Outcome.{done, Final, resumed, Effect, ◌>>=◌, pure, raise, act, change}
+use Rattle.meaning.specs.Outcome.{Here, cleared, set_slot, slot_value}
 use Rattle.meaning.specs.Entry.{paired}
 
 -- what calls do
@@ -17,16 +24,19 @@ Invoke S V K = Here → Callee V → Arguments V → S → Final S V K
 pub data Way : Type 0 where
   while_true while_false always : Way
 
+-- `and` goes on where its left side is true, `or` where it isn't, all others always
 abbrev pub way : Operator → Way
 way both = while_true
 way either = while_false
 way _ = always
 
+-- the names of the arguments of a call that have names, in the order of the text
 abbrev pub names_of : Keywords → List Name
 names_of no_keywords = []
 names_of (more_keywords x e ks) = x ∷ names_of ks
 
 module _ {S V K : Type 0} (ops : Operations S V K) where
+  -- whether a value counts as true, in the state as it is then
   abbrev pub truth : V → Effect S V K Bool
   truth v = λ l s. done (ops.truth s v) l s
 
@@ -48,11 +58,13 @@ module _ {S V K : Type 0} (ops : Operations S V K) where
   set_each here (b ∷ bs) [] = pure tt
   set_each here (b ∷ bs) (v ∷ vs) = set here b v >>= λ _. set_each here bs vs
 
+  -- names get these items, if there are as many
   abbrev pub unpacked : Here → List Binding → List V → Effect S V K Unit
   unpacked here bs vs =
       if nat_eq (length vs) (length bs) then set_each here bs vs else raise here (ops.refusal arity)
 
-  -- one name gets the value; several get the items of a sequence, which has as many (Starlark specification, "Assignments")
+  -- one name gets the value; several get the items of a sequence, which has as many (Starlark
+  -- specification, "Assignments")
   abbrev pub assigned : Here → List Binding → V → Effect S V K Unit
   assigned here [] v = pure tt
   assigned here (b ∷ []) v = set here b v
@@ -63,7 +75,8 @@ module _ {S V K : Type 0} (ops : Operations S V K) where
   forget None = pure tt
   forget (Some own) = λ l s. done tt (cleared (own.end - own.first) own.first l) s
 
-  -- an operator, of what gives its left and its right side (Starlark specification, "`or` and `and`", "Binary operators")
+  -- an operator, of what gives its left and its right side (Starlark specification, "`or` and
+  -- `and`", "Binary operators")
   abbrev pub joined : Way → Operator → Here → Effect S V K V → Effect S V K V → Effect S V K V
   joined while_true o here m n = m >>= λ x. truth x >>= λ t. if t then n else pure x
   joined while_false o here m n = m >>= λ x. truth x >>= λ t. if t then pure x else n
@@ -80,7 +93,8 @@ module _ {S V K : Type 0} (ops : Operations S V K) where
   turns here f (v ∷ vs) = act here ops.tick >>= λ _. f v >>= λ _. turns here f vs
 
   module _ (invoke : Invoke S V K) where
-    -- a call, after its arguments: those by position, then those by name (Starlark specification, "Function and method calls")
+    -- a call, after its arguments: those by position, then those by name (Starlark specification,
+    -- "Function and method calls")
     abbrev pub calling : Here → Callee V → Effect S V K (List V) → Effect S V K (List V) →
         List Name → Effect S V K V
     calling here g items behind names =
@@ -88,6 +102,7 @@ module _ {S V K : Type 0} (ops : Operations S V K) where
         resumed l (invoke here g (record { items = vs; named = paired names ws }) s)
 
     unfoldable mutual
+      -- the value of an expression
       pub eval : Term → Here → Effect S V K V
       eval (named b) here = read here b
       eval (numeral n) here = pure (ops.number n)
@@ -101,14 +116,16 @@ module _ {S V K : Type 0} (ops : Operations S V K) where
       eval (turned o a) here = eval a here >>= λ x. act here (ops.sign o x)
       eval (selects f x) here = eval f here >>= λ v. act here (ops.field v x)
       eval (subscript f a) here = eval f here >>= λ v. eval a here >>= λ i. act here (ops.item v i)
-      -- what is called comes first. Written with a dot it may be a method, which is found before the arguments
+      -- what is called comes first. Written with a dot it may be a method, which is found before
+      -- the arguments
       eval (invokes (selects f x) es ks) here =
           eval f here >>= λ v. act here (ops.find v x) >>= λ g.
           calling here g (evals es here []) (values ks here []) (names_of ks)
       eval (invokes f es ks) here =
           eval f here >>= λ v.
           calling here (plain v) (evals es here []) (values ks here []) (names_of ks)
-      -- a comprehension makes its list or dict first, and each innermost turn puts something into it
+      -- a comprehension makes its list or dict first, and each innermost turn puts something into
+      -- it
       eval (each own e r) here =
           act here (ops.new_list []) >>= λ v.
           rounds (Some own) r (eval e here >>= λ x. act here (ops.collect v x)) here >>= λ _.
@@ -124,6 +141,7 @@ module _ {S V K : Type 0} (ops : Operations S V K) where
       evals no_terms here vs = pure vs
       evals (more_terms e es) here vs = eval e here >>= λ v. evals es here (vs ++ v ∷ [])
 
+      -- the values of arguments with names, behind others
       pub values : Keywords → Here → List V → Effect S V K (List V)
       values no_keywords here vs = pure vs
       values (more_keywords x e ks) here vs = eval e here >>= λ v. values ks here (vs ++ v ∷ [])
@@ -135,9 +153,10 @@ module _ {S V K : Type 0} (ops : Operations S V K) where
           eval k here >>= λ x. eval e here >>= λ y. act here (ops.enter d x y) >>= λ _.
           entries ps here d
 
-      -- the clauses of a comprehension, around what is done in the innermost turn (Starlark specification, "Comprehensions").
-      -- Its names have nothing from before: their slots, the first argument, are emptied once the first operand has its
-      -- value, since what stands in that operand may have used the same slots
+      -- the clauses of a comprehension, around what is done in the innermost turn (Starlark
+      -- specification, "Comprehensions"). Its names have nothing from before: their slots, the
+      -- first argument, are emptied once the first operand has its value, since what stands in that
+      -- operand may have used the same slots
       pub rounds : Option OwnSlots → Rounds → Effect S V K Unit → Here → Effect S V K Unit
       rounds fs tree.done inner here = inner
       rounds fs (only_if e r) inner here =

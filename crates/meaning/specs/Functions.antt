@@ -1,12 +1,13 @@
--- The functions of files, by their numbers, and the lines of their `def`s. (Starlark specification, "Function definitions".)
+-- The functions of files, by their numbers, and the lines of their `def`s. (Starlark specification,
+-- "Function definitions".)
 use Rattle.std.specs.Prelude.{ℕ, List, [], ◌∷◌, map, Option, Some, None, slice_get, unwrap_or}
 use Rattle.program_tree.specs.Names.{Name}
 use Rattle.program_tree.specs.Resolved.{Statement, define, Steps, no_steps, step, Program}
 use Rattle.meaning.specs.Operations.{FunctionId}
 use Rattle.meaning.specs.Entry.{in_file}
 
--- a function: its name, the line of its `def`, its parameters, how many slots it has, those of comprehensions too, and its
--- statements
+-- a function: its name, the line of its `def`, its parameters, how many slots it has, those of
+-- comprehensions too, and its statements
 pub record Function : Type 0 where
   pub name : Name
   pub line : Option ℕ
@@ -14,11 +15,17 @@ pub record Function : Type 0 where
   pub slots : ℕ
   pub body : Steps
 
--- the function of a statement at line n, if that is a `def`, before others. It has the name that it binds at the top level,
--- of which the tree has the number
+-- the function of a statement at line n, if that is a `def`, before others. It has the name that it
+-- binds at the top level, of which the tree has the number
 abbrev pub before : List Name → ℕ → Statement → List Function → List Function
 before names n (define k x ps ds slots body) fs =
-    record { name = unwrap_or (slice_get names x) []; line = Some n; params = ps; slots = slots; body = body } ∷ fs
+    record {
+      name = unwrap_or (slice_get names x) [];
+      line = Some n;
+      params = ps;
+      slots = slots;
+      body = body;
+    } ∷ fs
 before names n _ fs = fs
 
 -- the functions that statements define, in the order of the text
@@ -38,16 +45,20 @@ functions p = top_level p ∷ functions_of p.globals p.steps
 abbrev pub Files : Type 0
 Files = List Program
 
+-- the function of this number in its file, if there is one
 abbrev pub function_at : Files → FunctionId → Option Function
 function_at files f = in_file (slice_get (map functions files) f.file) f.number
 
+-- the name of a function that was looked up
 abbrev pub its_name : Option Function → Name
 its_name None = []
 its_name (Some d) = d.name
 
+-- the name of the function of this number
 abbrev pub function_name : Files → FunctionId → Name
 function_name files f = its_name (function_at files f)
 
+-- the line of the `def` of a function that was looked up
 abbrev pub its_line : Option Function → Option ℕ
 its_line None = None
 its_line (Some d) = d.line

@@ -8,6 +8,7 @@ use Rattle.meaning.specs.StatementCode.{file_code}
 abbrev pub IsFileCode : List FunctionCode → Type 0
 IsFileCode fs = ∥ ((program : Program) × (fs ≡ file_code program)) ∥₁
 
+-- each of these codes is that of some file
 abbrev pub AreFileCodes : Codes → Type 0
 AreFileCodes [] = Unit {0}
 AreFileCodes (fs ∷ codes) = IsFileCode fs × AreFileCodes codes

@@ -1,6 +1,9 @@
 -- What a statement does (Starlark specification, "Statements"): what it changes, and how it ends.
 use Rattle.std.specs.Prelude.{ℕ, if◌then◌else◌, List, [], ◌∷◌, Option, Some, None}
-use Rattle.program_tree.specs.Resolved.{Term, Statement, load, assign, assign_item, add_to, add_to_item, evaluate, pass, break_loop, continue_loop, give_back, branch, loop, define, Branches, no_branches, a_branch, Steps, no_steps, step}
+use Rattle.program_tree.specs.Resolved.{Term, Statement, load, assign, assign_item, add_to}
+use Rattle.program_tree.specs.Resolved.{add_to_item, evaluate, pass, break_loop, continue_loop}
+use Rattle.program_tree.specs.Resolved.{give_back, branch, loop, define, Branches, no_branches}
+use Rattle.program_tree.specs.Resolved.{a_branch, Steps, no_steps, step}
 use Rattle.meaning.specs.Names.{Loaded}
 use Rattle.meaning.specs.Operations.{Operations}
 use Rattle.meaning.specs.Outcome.{Effect, ◌>>=◌, pure, act, change, Here}
@@ -45,6 +48,7 @@ module _ {S V K : Type 0} (ops : Operations S V K) where
       imports here m is
 
   module _ (invoke : Invoke S V K) where
+    -- the value of an expression
     abbrev value : Term → Here → Effect S V K V
     value = eval ops invoke
 
@@ -54,7 +58,8 @@ module _ {S V K : Type 0} (ops : Operations S V K) where
     given_back (Some e) here = value e here
 
     module _ (files : Files) where
-      -- the function of this number is made where its `def` is run, and its defaults are evaluated then
+      -- the function of this number is made where its `def` is run, and its defaults are evaluated
+      -- then
       abbrev pub makes_function : Here → ℕ → List V → Effect S V K V
       makes_function here k vs =
           act here (ops.define (record { file = here.file; number = k })
@@ -93,8 +98,8 @@ module _ {S V K : Type 0} (ops : Operations S V K) where
             evals ops invoke ds here [] >>= λ vs. makes_function here k vs >>= λ v.
             change (ops.set_global here.file x v) >>= λ _. pure next
 
-        -- the tests of a condition, each at its own line, up to the first that holds; the statements of that branch, or those
-        -- of the `else`
+        -- the tests of a condition, each at its own line, up to the first that holds; the
+        -- statements of that branch, or those of the `else`
         pub branches : Branches → Doing S V K → Here → Doing S V K
         branches no_branches other here = other
         branches (a_branch n e a bs) other here =

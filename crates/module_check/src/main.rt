@@ -1,10 +1,12 @@
 //! Evaluates modules that load nothing.
 //!
-//! Standard input is a JSON array of pairs of strings, a path and a text, as `bzlan` reads it. Each text is evaluated as a
-//! module that stands alone, with at most 1,000,000 ticks. A line tells `PATH NAME = TEXT` for each of its globals whose name is
-//! among the words on the command line, in the order in which they are bound; or its fault, as `PATH:LINE syntax KIND` or
-//! `PATH:LINE evaluation KIND`. With the word `--ticks` another line tells `PATH ticks NUMBER`. The status is 0 where no module
-//! has a fault, and 1 where one has, or where the input isn't of this form, which an error line tells.
+//! Standard input is a JSON array of pairs of strings, a path and a text, as `bzlan` reads it. Each
+//! text is evaluated as a module that stands alone, with at most 1,000,000 ticks. A line tells
+//! `PATH NAME = TEXT` for each of its globals whose name is among the words on the command line, in
+//! the order in which they are bound; or its fault, as `PATH:LINE syntax KIND` or
+//! `PATH:LINE evaluation KIND`. With the word `--ticks` another line tells `PATH ticks NUMBER`. The
+//! status is 0 where no module has a fault, and 1 where one has, or where the input isn't of this
+//! form, which an error line tells.
 #![tactic(auto)]
 
 mod modules_alone;

@@ -22,8 +22,8 @@ use visits::freeze;
 /// How many ticks a module may use.
 const LIMIT: u64 = 1_000_000;
 
-/// What a module comes to: the names of its globals with the texts of their values, and the ticks that it used; or the line and
-/// the kind of its fault.
+/// What a module comes to: the names of its globals with the texts of their values, and the ticks
+/// that it used; or the line and the kind of its fault.
 #[derive(Drop)]
 pub enum Evaluated {
     Globals(Vec<(Text, String)>, u64),

@@ -1,4 +1,5 @@
--- What load statements find at a path, where it doesn't matter why a module failed (this project's own).
+-- What load statements find at a path, where it doesn't matter why a module failed (this project's
+-- own).
 use Rattle.std.specs.Prelude.{Option, Some, None, Result, Ok, Err}
 use Rattle.loading.specs.Loads.{Path, LoadFault}
 use Rattle.loading.specs.declared.faults.LoadFaultKind.TheVariants.{LoadedModuleFailed}
@@ -13,6 +14,7 @@ without_fault None = None
 without_fault (Some (Ok m)) = Some (Some m)
 without_fault (Some (Err f)) = Some None
 
+-- the same, of what the code answers
 abbrev pub found_seen : {M : Type 0} → Found M → Option (Option M)
 found_seen Missing = None
 found_seen Failed = Some None
@@ -24,11 +26,13 @@ named_by at None = None
 named_by at (Some q) = at q
 
 -- with some fault for each that failed
-abbrev pub with_fault : {M S K : Type 0} → Path → Option (Option M) → Option (Result M (LoadFault S K))
+abbrev pub with_fault : {M S K : Type 0} → Path → Option (Option M)
+    → Option (Result M (LoadFault S K))
 with_fault p None = None
 with_fault p (Some None) = Some (Err (record { kind = LoadedModuleFailed; path = p; line = 0 }))
 with_fault p (Some (Some m)) = Some (Ok m)
 
 -- what is found at a path among all modules
-abbrev pub found_in : {M S K : Type 0} → ModulesView M S K → Path → Option (Result M (LoadFault S K))
+abbrev pub found_in : {M S K : Type 0} → ModulesView M S K → Path
+    → Option (Result M (LoadFault S K))
 found_in m q = with_fault q (entry m.paths m.values q)

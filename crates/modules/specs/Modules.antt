@@ -6,7 +6,8 @@ use Rattle.load_graph.specs.Paths.{entry}
 use Rattle.modules.specs.declared.sorting.FileFault.{FileFault}
 use Rattle.modules.specs.Tables.{joined}
 
--- Modules by path: the value of each that has no fault, and the faults of the others, in the order of their paths.
+-- Modules by path: the value of each that has no fault, and the faults of the others, in the order
+-- of their paths.
 pub record ModulesView (M S K : Type 0) : Type 0 where
   pub paths : List Path
   pub values : List (Option M)
@@ -16,22 +17,27 @@ pub record ModulesView (M S K : Type 0) : Type 0 where
 abbrev pub module_in : {M S K : Type 0} → ModulesView M S K → Path → Option M
 module_in m q = joined (entry m.paths m.values q)
 
--- what a module came to, sorted out
+-- the value of a module, if it came to one
 abbrev pub value_in : {M F : Type 0} → Option (Result M F) → Option M
 value_in r = value r
 
-abbrev pub fault_in : {M S K : Type 0} → Path → Option (Result M (LoadFault S K)) → List (FileFault S K)
+-- the fault of a file, as it is reported: none where the file has none
+abbrev pub fault_in : {M S K : Type 0} → Path → Option (Result M (LoadFault S K))
+    → List (FileFault S K)
 fault_in p None = []
 fault_in p (Some (Ok m)) = []
 fault_in p (Some (Err f)) = record { path = p; fault = f } ∷ []
 
-abbrev pub faults_in : {M S K : Type 0} → List Path → List (Option (Result M (LoadFault S K))) → List (FileFault S K)
+-- the faults of modules at these paths that came to this, in their order
+abbrev pub faults_in : {M S K : Type 0} → List Path → List (Option (Result M (LoadFault S K)))
+    → List (FileFault S K)
 faults_in [] rs = []
 faults_in (p ∷ ps) [] = []
 faults_in (p ∷ ps) (r ∷ rs) = fault_in p r ++ faults_in ps rs
 
 -- the faults of the modules at these paths, in their order
-abbrev pub faults_of : {M S K : Type 0} → (Path → Result M (LoadFault S K)) → List Path → List (FileFault S K)
+abbrev pub faults_of : {M S K : Type 0} → (Path → Result M (LoadFault S K)) → List Path
+    → List (FileFault S K)
 faults_of f [] = []
 faults_of f (p ∷ ps) = fault_in p (Some (f p)) ++ faults_of f ps
 

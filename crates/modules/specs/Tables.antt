@@ -9,6 +9,7 @@ pub record Table (R : Type 0) : Type 0 where
   pub paths : List Path
   pub known : List (Option R)
 
+-- an entry of a table, if the table has one and what it stands for is known
 abbrev pub joined : {R : Type 0} → Option (Option R) → Option R
 joined None = None
 joined (Some r) = r

@@ -10,11 +10,12 @@ use loading::{Ending, FileRead};
 use plain::Text;
 use std::alloc::{AllocError, Global};
 
-/// A reading of files and an evaluation of modules. `T` is what of a file is evaluated, `M` what a module comes to; `S`
-/// are the kinds of syntax faults, `K` those of an evaluation's faults.
+/// A reading of files and an evaluation of modules. `T` is what of a file is evaluated, `M` what a
+/// module comes to; `S` are the kinds of syntax faults, `K` those of an evaluation's faults.
 ///
-/// An implementation says in a ghost member what it means, `meaning`: what each file is read as, which names a module
-/// binds, and what the evaluation of a module comes to with the modules that are known to it.
+/// An implementation says in a ghost member what it means, `meaning`: what each file is read as,
+/// which names a module binds, and what the evaluation of a module comes to with the modules that
+/// are known to it.
 pub trait Evaluate<T, M, S, K> {
     ghost meaning: { Self → Evaluation T M S K };
 

@@ -7,13 +7,16 @@ use loading::{LoadFaultKind, Placed};
 use plain::Text;
 use std::marker::Model;
 
-/// The modules that stand lower than the one that is evaluated. Those without a fault can be loaded, and their functions
-/// called.
+/// The modules that stand lower than the one that is evaluated. Those without a fault can be
+/// loaded, and their functions called.
 #[derive(Drop)]
 pub struct Known<'a, M, S, K> {
     pub(crate) paths: &'a Paths,
+    /// How high each module stands, by number.
     pub(crate) heights: &'a [usize],
+    /// The modules that stand lower than this are known.
     pub(crate) below: usize,
+    /// What the modules came to that were evaluated, by number.
     pub(crate) done: &'a [Option<Result<M, Placed<LoadFaultKind<S, K>>>>],
 }
 
@@ -31,7 +34,8 @@ impl<'a, M, S, K> Model for Known<'a, M, S, K> {
 }
 
 impl<'a, M, S, K> Known<'a, M, S, K> {
-    /// What the module at a path came to, if it stands lower. The module of this number is looked at first.
+    /// What the module at a path came to, if it stands lower. The module of this number is looked
+    /// at first.
     fn module_near(
         &self,
         number: usize,
@@ -61,8 +65,8 @@ impl<'a, M, S, K> Known<'a, M, S, K> {
         self.module_near(usize::MAX, path)
     }
 
-    /// The module at a path, if it stands lower and has no fault. The module of this number is looked at first: where the path
-    /// is likely to be its own, nothing is searched.
+    /// The module at a path, if it stands lower and has no fault. The module of this number is
+    /// looked at first: where the path is likely to be its own, nothing is searched.
     pub fn get_near(&self, number: usize, path: &Text) -> Option<&M>
         ensures { MatchOption result (known_at self.now path.now ≡ None)
             (λ m. known_at self.now path.now ≡ Some m.now) }

@@ -1,5 +1,5 @@
-//! What is found among modules that were loaded. These functions do nothing; their contracts hold of every workspace and
-//! every evaluation.
+//! What is found among modules that were loaded. These functions do nothing; their contracts hold
+//! of every workspace and every evaluation.
 ghost use Rattle.loading.specs.Modules.{Sources};
 ghost use Rattle.modules.specs.Modules.{AreFound};
 

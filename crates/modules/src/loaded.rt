@@ -55,8 +55,8 @@ impl<M, S, K> Find<M, S, K> for Modules<M, S, K> {
 }
 
 impl<M, S, K> Modules<M, S, K> {
-    /// The module at a path: none where it has a fault, or no module is there. The module of this number is looked at first:
-    /// where the path is likely to be its own, nothing is searched.
+    /// The module at a path: none where it has a fault, or no module is there. The module of this
+    /// number is looked at first: where the path is likely to be its own, nothing is searched.
     pub fn module_near(&self, number: usize, path: &Text) -> Option<&M>
         ensures { MatchOption result (module_in self.now path.now ≡ None)
             (λ m. module_in self.now path.now ≡ Some m.now) }
@@ -75,7 +75,8 @@ impl<M, S, K> Modules<M, S, K> {
         self.module_near(usize::MAX, path)
     }
 
-    /// The fault of the first of these load statements that has one, in a file that no module loads.
+    /// The fault of the first of these load statements that has one, in a file that no module
+    /// loads.
     ///
     /// # Errors
     ///
@@ -106,8 +107,8 @@ impl<M, S, K> Modules<M, S, K> {
 
 /// Loads all modules of a workspace, each once, and each after all that stand lower along `load`.
 ///
-/// It takes the time of sorting paths and of looking up what load statements name, and otherwise a time linear in
-/// modules and loads, beside what reading and evaluation take. Nothing recurses.
+/// It takes the time of sorting paths and of looking up what load statements name, and otherwise a
+/// time linear in modules and loads, beside what reading and evaluation take. Nothing recurses.
 ///
 /// # Errors
 ///

@@ -41,7 +41,8 @@ fn put<M: Drop, S: Drop, K: Drop>(
     Ok(())
 }
 
-/// The values of modules, and the faults of those that have none, where it is known what each came to.
+/// The values of modules, and the faults of those that have none, where it is known what each came
+/// to.
 pub(crate) fn sorted_out<M: Drop, S: Drop, K: Drop>(
     alloc: Global,
     paths: &[Text],

@@ -1,8 +1,11 @@
 -- Division of whole numbers that rounds down, over all whole numbers.
--- (Starlark's specification, "Arithmetic operations": `//` is floored division, and `%` has the sign of the divisor.)
-use Rattle.std.specs.Prelude.{◌≡◌, zero, suc, ◌-◌, ◌%◌, ◌/◌, ℤ, pos, negsuc, neg_ℤ, ◌+ℤ◌, ◌*ℤ◌, ◌≤ℤ◌, ◌<ℤ◌, ◌≢◌}
+-- (Starlark's specification, "Arithmetic operations": `//` is floored division, and `%` has the
+-- sign of the divisor.)
+use Rattle.std.specs.Prelude.{◌≡◌, zero, suc, ◌-◌, ◌%◌, ◌/◌, ℤ, pos, negsuc, neg_ℤ, ◌+ℤ◌, ◌*ℤ◌}
+use Rattle.std.specs.Prelude.{◌≤ℤ◌, ◌<ℤ◌, ◌≢◌}
 
--- The greatest whole number that isn't above the quotient of the two, by their signs. `negsuc n` is -(n + 1).
+-- The greatest whole number that isn't above the quotient of the two, by their signs. It is what
+-- `//` gives where the divisor isn't 0. (`negsuc n` is the number below 0 whose size is n + 1.)
 abbrev pub floor_div : ℤ → ℤ → ℤ
 floor_div (pos a) (pos b) = pos (a / b)
 floor_div (negsuc a) (pos b) = negsuc (a / b)
@@ -10,7 +13,7 @@ floor_div (negsuc a) (negsuc b) = pos (suc a / suc b)
 floor_div (pos zero) (negsuc b) = pos 0
 floor_div (pos (suc a)) (negsuc b) = negsuc (a / suc b)
 
--- what it leaves, which has the sign of the divisor
+-- what it leaves, which has the sign of the divisor: what `%` gives where that isn't 0
 abbrev pub floor_mod : ℤ → ℤ → ℤ
 floor_mod (pos a) (pos b) = pos (a % b)
 floor_mod (negsuc a) (pos b) = pos (b - 1 - a % b)

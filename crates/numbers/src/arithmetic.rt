@@ -1,6 +1,7 @@
 //! Arithmetic on whole numbers.
 ghost use Rattle.std.specs.Prelude.{◌≡◌, ◌<◌, ◌^◌, pos, negsuc};
-ghost use Rattle.numbers.specs.Arithmetic.{sum_of, difference_of, product_of, opposite_of, quotient_of, remainder_of, bounded};
+ghost use Rattle.numbers.specs.Arithmetic.{sum_of, difference_of, product_of, opposite_of};
+ghost use Rattle.numbers.specs.Arithmetic.{quotient_of, remainder_of, bounded};
 
 /// Why there is no number.
 #[derive(Clone, Copy, PartialEq, Eq, Debug)]

@@ -2,7 +2,8 @@
 ghost use Rattle.std.specs.Prelude.{ℤ};
 ghost use Rattle.numbers.specs.Division.{Divided, DividedOnce};
 
-/// The quotient times the divisor and the rest make the number, and the rest has the divisor's sign and is smaller.
+/// The quotient times the divisor and the rest make the number, and the rest has the divisor's sign
+/// and is smaller.
 pub fn quotient_and_rest_make_the_number()
     ensures { (a b : ℤ) → Divided a b }
 {}

@@ -1,4 +1,5 @@
-//! The language's whole numbers, which have 64 bits and a sign: arithmetic, order, indexes and ranges.
+//! The language's whole numbers, which have 64 bits and a sign: arithmetic, order, indexes and
+//! ranges.
 //!
 //! What each call gives is a definition over all whole numbers (`specs/`). Nothing here allocates.
 #![tactic(auto)]

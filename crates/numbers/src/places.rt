@@ -2,7 +2,8 @@
 ghost use Rattle.std.specs.Prelude.{◌≡◌};
 ghost use Rattle.numbers.specs.Places.{place_of};
 
-/// The place that an index means among so many items, from the end where it is negative; none outside of them.
+/// The place that an index means among so many items, from the end where it is negative; none
+/// outside of them.
 pub fn place(index: i64, items: usize) -> Option<usize>
     ensures { result ≡ place_of index items }
 {

@@ -1,5 +1,6 @@
 //! What names hold, by number.
-ghost use Rattle.std.specs.Prelude.{◌≡◌, ◌<◌, None, IfOk, length, replicate, slice_get, slice_set, option_copied};
+ghost use Rattle.std.specs.Prelude.{◌≡◌, ◌<◌, None, IfOk, length, replicate, slice_get, slice_set};
+ghost use Rattle.std.specs.Prelude.{option_copied};
 
 use crate::Operand;
 use std::alloc::{AllocError, Global};

@@ -1,7 +1,8 @@
 //! Operands: values as frames and names hold them.
 //!
-//! A value that lies in a linked module is lent, so that reading its name touches no count that other threads touch. A
-//! value that an operation made is the operand's own. To a contract both are the value.
+//! A value that lies in a linked module is lent, so that reading its name touches no count that
+//! other threads touch. A value that an operation made is the operand's own. To a contract both are
+//! the value.
 #![tactic(auto)]
 
 mod bindings;

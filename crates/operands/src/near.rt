@@ -9,7 +9,9 @@ use values::{Item, Value};
 /// A value where it lies, or a name of it.
 #[derive(Drop)]
 pub enum Near<'a> {
+    /// Where it lies.
     Here(&'a Value),
+    /// A name that was made of it.
     Made(Value),
 }
 

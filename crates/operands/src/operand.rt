@@ -69,8 +69,8 @@ impl<'a> Operand<'a> {
         }
     }
 
-    /// What is lent shows this, whatever heap there is, for as long as it is lent: None for a value of one's own, and for a
-    /// cell, which only its heap can show.
+    /// What is lent shows this, whatever heap there is, for as long as it is lent: None for a value
+    /// of one's own, and for a cell, which only its heap can show.
     #[inline(always)]
     pub fn lent_seen(&self) -> Option<Seen<'a>>
         ensures { MatchOption result Unit
@@ -134,6 +134,10 @@ impl<'a> Operand<'a> {
 }
 
 /// A value that was made, or why there is none.
+///
+/// # Errors
+///
+/// What was given in place of a value.
 #[inline(always)]
 pub fn owned<'a>(made: Result<Value, Broken>) -> Result<Operand<'a>, Broken>
     ensures { result ≡ made }

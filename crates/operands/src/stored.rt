@@ -9,7 +9,9 @@ use values::{Item, Value};
 /// A value that is stored: where what lives longer lends it, or where it is kept.
 #[derive(Clone, Copy)]
 pub enum Stored<'a, 'b> {
+    /// What lives longer lends it.
     Lent(Item<'a>),
+    /// It is kept here.
     Kept(&'b Value),
 }
 

@@ -1,6 +1,7 @@
--- The arguments of a call of what isn't written in Starlark, and what each parameter gets of them. (Starlark's
--- specification, "Function and method calls".)
-use Rattle.std.specs.Prelude.{ℕ, ◌+◌, Bool, true, false, not, ◌||◌, List, [], ◌∷◌, Option, Some, None, Result, Ok, Err, bytes_eq, is_some, if◌then◌else◌}
+-- The arguments of a call of what isn't written in Starlark, and what each parameter gets of them.
+-- (Starlark's specification, "Function and method calls".)
+use Rattle.std.specs.Prelude.{ℕ, ◌+◌, Bool, true, false, not, ◌||◌, List, [], ◌∷◌, Option, Some}
+use Rattle.std.specs.Prelude.{None, Result, Ok, Err, bytes_eq, is_some, if◌then◌else◌}
 use Rattle.std.specs.List.{list_any, list_all}
 use Rattle.values.specs.declared.value.Value.{Value}
 use Rattle.ticks.specs.declared.ticks.Kind.{Kind}
@@ -8,7 +9,8 @@ use Rattle.ticks.specs.declared.ticks.Kind.TheVariants.{Arity}
 use Rattle.operations.specs.Items.{at_place}
 use Rattle.operations.specs.declared.arguments.Arguments.{Arguments}
 
--- those by position, and those by name, in the order of the text: names and values stand by place
+-- the arguments of a call: those by position, and those by name, in the order of the text: names
+-- and values stand by place
 pub record Given : Type 0 where
   pub items : List Value
   pub names : List (List ℕ)
@@ -23,6 +25,7 @@ abbrev pub place_from : List ℕ → ℕ → List (List ℕ) → Option ℕ
 place_from x i [] = None
 place_from x i (n ∷ ns) = if bytes_eq x n then Some i else place_from x (i + 1) ns
 
+-- the place of a name among the names that a call gives, if it is one
 abbrev pub place_named : List ℕ → List (List ℕ) → Option ℕ
 place_named x ns = place_from x 0 ns
 
@@ -40,6 +43,7 @@ pub record Parameter : Type 0 where
 abbrev pub Bound : Type 0
 Bound = List (Option Value)
 
+-- what the first parameter got, before what the others got, if there is no fault in them
 abbrev pub put_first : Option Value → Result Bound Kind → Result Bound Kind
 put_first o (Ok os) = Ok (o ∷ os)
 put_first o (Err k) = Err k
@@ -65,7 +69,9 @@ all_known ps names = list_all (λ n. list_any (λ p. bytes_eq n p.name) ps) name
 
 -- what the parameters get, or `arity`
 abbrev pub bound : List Parameter → Given → Result Bound Kind
-bound ps g = if all_known ps g.names then filled ps g.items (λ x. given_for x g.names g.values) else Err Arity
+bound ps g =
+    if all_known ps g.names then filled ps g.items (λ x. given_for x g.names g.values)
+    else Err Arity
 
 -- a parameter that may be given by position or by name, and has to be
 abbrev pub wanted : List ℕ → Parameter
@@ -89,5 +95,6 @@ abbrev pub unless_named : List (List ℕ) → List Value → Result (List Value)
 unless_named [] vs = Ok vs
 unless_named (n ∷ ns) vs = Err Arity
 
+-- the arguments of a call that takes no names, as those of `range` and of methods
 abbrev pub positions : Given → Result (List Value) Kind
 positions g = unless_named g.names g.items

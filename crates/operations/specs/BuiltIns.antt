@@ -1,7 +1,8 @@
--- The built-in functions that every file finds bound, but for those of one place. Each tests its arguments first (`arity`), then
--- their types, then what is named. (Starlark's specification, "Built-in constants and functions"; which values each takes is this
--- project's own.)
-use Rattle.std.specs.Prelude.{ℕ, ℤ, pos, List, [], ◌∷◌, length, map, Option, Some, None, Result, Ok, Err, codes}
+-- The built-in functions that every file finds bound, but for those of one place. Each tests its
+-- arguments first (`arity`), then their types, then what is named. (Starlark's specification,
+-- "Built-in constants and functions"; which values each takes is this project's own.)
+use Rattle.std.specs.Prelude.{ℕ, ℤ, pos, List, [], ◌∷◌, length, map, Option, Some, None, Result, Ok}
+use Rattle.std.specs.Prelude.{Err, codes}
 use Rattle.numbers.specs.Ranges.{range_of}
 use Rattle.ticks.specs.Ticking.{Count}
 use Rattle.values.specs.Shape.{Shape, key, atom, items, entries, fields, nothing, shape}
@@ -26,11 +27,13 @@ use Rattle.operations.specs.Arguments.{Given, Parameter, Bound, wanted, bound, o
 abbrev pub argument : List ℕ → Given → Result Value Kind
 argument x g = then_give (bound (wanted x ∷ []) g) (one Ok)
 
+-- a call is done with the argument that it got, or has the fault of its arguments
 abbrev pub with_argument : Result Value Kind → (Value → Op Value) → Op Value
 with_argument (Ok v) f s = f v s
 with_argument (Err k) f s = Err k
 
--- how many bytes a string has, items a list or a tuple, entries a dict
+-- what `len` answers: how many bytes a string has, items a list or a tuple, entries a dict; all
+-- else has no length
 abbrev pub key_size : Key → Option ℕ
 key_size (index.Text t) = Some (length t)
 key_size _ = None
@@ -45,7 +48,7 @@ size_in _ = None
 abbrev pub len : Value → Op Value
 len v s = keeping (of_type (size_in (shape s.heap v)) (λ n. Ok (number (pos n)))) s
 
--- str(x)
+-- str(x): the text of a value, and the ticks after its visit
 abbrev pub text_value : State → Result (List ℕ × Count) Kind → Doing Value
 text_value s (Ok p) = Ok (text p.0, record s { ticks = p.1 })
 text_value s (Err k) = Err k
@@ -53,15 +56,17 @@ text_value s (Err k) = Err k
 abbrev pub str : Value → Op Value
 str v s = text_value s (repr_of s.heap v s.ticks)
 
--- range(n), range(a, b)
+-- range(n), range(a, b): a new list of the numbers, which may be too many (`large`)
 abbrev pub numbers : Option (List ℤ) → Result Made Kind
 numbers (Some ns) = Ok (new.List (map number ns))
 numbers None = Err kind.Large
 
+-- the numbers between two bounds; `type` where one isn't a whole number
 abbrev pub range_between : Option ℤ → Option ℤ → Result Made Kind
 range_between (Some a) (Some b) = numbers (range_of a b)
 range_between _ _ = Err kind.Wrong
 
+-- the numbers that one argument or two ask for; another count of arguments is `arity`
 abbrev pub range_in : List Cell → List Value → Result Made Kind
 range_in h (n ∷ []) = range_between (Some (pos 0)) (number_in (shape h n))
 range_in h (a ∷ b ∷ []) = range_between (number_in (shape h a)) (number_in (shape h b))

@@ -1,5 +1,5 @@
--- Calls of what isn't written in Starlark, but for what only one place has: `provider`, `rule`, `attr`, rules, and the methods of
--- `ctx.actions`.
+-- Calls of what isn't written in Starlark, but for what only one place has: `provider`, `rule`,
+-- `attr`, rules, and the methods of `ctx.actions`.
 use Rattle.std.specs.Prelude.{ℕ, List, [], ◌∷◌, Option, Some, None, Result, Ok, Err, codes}
 use Rattle.depsets.specs.Rose.{Rose}
 use Rattle.depsets.specs.Own.{Own}
@@ -40,10 +40,11 @@ abbrev pub made_by : Option MadeId → Provider → Given → Op Value
 made_by (Some id) p g s = constructed p g s
 made_by None p g s = new_default_info p g s
 
+-- a provider is called (Bazel's documentation of providers)
 abbrev pub instance_call : Provider → Given → Op Value
 instance_call p g s = made_by p.id p g s
 
--- a method of what it is found for
+-- a method of what it is found for: of a string, or of a depset
 abbrev pub of_text : (List ℕ → Value → Op Value) → Option (List ℕ) → List Value → Op Value
 of_text f (Some t) vs s = with_one (f t) vs s
 of_text f None vs s = Err kind.Wrong
@@ -52,6 +53,7 @@ abbrev pub of_depset : Option (Rose Own) → List Value → Op Value
 of_depset (Some d) vs s = with_none (to_list d) vs s
 of_depset None vs s = Err kind.Wrong
 
+-- what each method does with its arguments by position, for the value that it is called on
 abbrev pub method_of : Method → Value → List Value → Op Value
 method_of method.Append v vs s = with_one (append v) vs s
 method_of method.Extend v vs s = with_one (extend v) vs s
@@ -65,7 +67,7 @@ method_of method.StartsWith v vs s = of_text starts_with (string_in (shape s.hea
 method_of method.EndsWith v vs s = of_text ends_with (string_in (shape s.heap v)) vs s
 method_of method.ToList v vs s = of_depset (depset_in (shape s.heap v)) vs s
 
--- positions alone, and `arity` before all else
+-- a method is called: it takes positions alone, and `arity` comes before all else
 abbrev pub method_with : Result (List Value) Kind → Method → Value → Op Value
 method_with (Ok vs) m v s = method_of m v vs s
 method_with (Err k) m v s = Err k

@@ -1,6 +1,6 @@
--- Changes of lists and dicts, seen through every name of them. Each is refused by the first of `type`, `frozen`, `iterating`,
--- `index` and `large`. (Starlark's specification, "Augmented assignments" and "list·append"; that a tuple may extend a list is
--- this project's own.)
+-- Changes of lists and dicts, seen through every name of them. Each is refused by the first of
+-- `type`, `frozen`, `iterating`, `index` and `large`. (Starlark's specification, "Augmented
+-- assignments" and "list·append"; that a tuple may extend a list is this project's own.)
 use Rattle.std.specs.Prelude.{true, List, Option, Some, None, Result, Ok, Err}
 use Rattle.heap.specs.Cells.{list_changed, dict_changed, joined, pushed, indexed, keyed}
 use Rattle.values.specs.Shape.{Shape, key, atom, items, entries, fields, nothing, shape}
@@ -18,7 +18,9 @@ append l x s = changed none s (list_changed (pushed x) s.heap l)
 
 -- `l.extend(q)`, by the items that the sequence has now
 abbrev pub extend : Value → Value → Op Value
-extend l q s = changed none s (of_type (sequence_in (shape s.heap q)) (λ xs. list_changed (joined xs) s.heap l))
+extend l q s =
+    changed none s (of_type (sequence_in (shape s.heap q))
+    (λ xs. list_changed (joined xs) s.heap l))
 
 -- what `x += y` extends `x` by: the items of `y`, where `x` is a list and `y` a list or a tuple
 abbrev pub extension : Shape → Shape → Option (List Value)

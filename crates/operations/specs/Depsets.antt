@@ -1,6 +1,8 @@
--- Depsets: the call that makes one, with the next serial of its owner, and its listing. (Bazel's documentation of depsets; the
--- types of elements, the order of the faults and the serials are this project's own.)
-use Rattle.std.specs.Prelude.{ℕ, ◌+◌, ◌^◌, nat_lt, List, [], ◌∷◌, ◌++◌, map, Option, Some, None, Result, Ok, Err, if◌then◌else◌, codes, bytes_eq}
+-- Depsets: the call that makes one, with the next serial of its owner, and its listing. (Bazel's
+-- documentation of depsets; the types of elements, the order of the faults and the serials are this
+-- project's own.)
+use Rattle.std.specs.Prelude.{ℕ, ◌+◌, ◌^◌, nat_lt, List, [], ◌∷◌, ◌++◌, map, Option, Some, None}
+use Rattle.std.specs.Prelude.{Result, Ok, Err, if◌then◌else◌, codes, bytes_eq}
 use Rattle.depsets.specs.Rose.{Rose, node, roses}
 use Rattle.depsets.specs.Own.{Own}
 use Rattle.depsets.specs.Refusals.{refusal}
@@ -27,7 +29,7 @@ use Rattle.operations.specs.Reading.{string_in, sequence_in, depset_in, of_type}
 use Rattle.operations.specs.Making.{new_list, truth, number, text}
 use Rattle.operations.specs.Arguments.{Given, Parameter, Bound, optional, named_only, bound}
 
--- strings, whole numbers, bools, labels and Files
+-- what may be an element of a depset: strings, whole numbers, bools, labels and Files
 abbrev pub key_element : Key → Element
 key_element (index.Text t) = element.Text t
 key_element (index.Number n) = element.Number n
@@ -43,6 +45,7 @@ element_in (key k) = Some (key_element k)
 element_in (atom l) = leaf_element l
 element_in _ = None
 
+-- one more of what is asked, behind the others; a value that is no such thing is `type`
 abbrev pub put_last : {A : Type 0} → List A → Option A → Result (List A) Kind
 put_last xs (Some x) = Ok (xs ++ x ∷ [])
 put_last xs None = Err kind.Wrong
@@ -53,14 +56,17 @@ gathered f [] b = Ok b
 gathered f (v ∷ vs) b = then_give (f v b) (λ c. gathered f vs c)
 
 -- each of these as what is asked, or `type`
-abbrev pub all_in : {A : Type 0} → (Shape → Option A) → List Cell → List Value → Result (List A) Kind
+abbrev pub all_in : {A : Type 0} → (Shape → Option A) → List Cell → List Value
+    → Result (List A) Kind
 all_in f h vs = gathered (λ v xs. put_last xs (f (shape h v))) vs []
 
 -- the items of a sequence, each as what is asked; of one that is missing none
-abbrev pub parts_in : {A : Type 0} → (Shape → Option A) → List Cell → Option Value → Result (List A) Kind
+abbrev pub parts_in : {A : Type 0} → (Shape → Option A) → List Cell → Option Value
+    → Result (List A) Kind
 parts_in f h None = Ok []
 parts_in f h (Some v) = of_type (sequence_in (shape h v)) (all_in f h)
 
+-- the orders of a depset by their names; any other text, and what is no string, is none of them
 abbrev pub order_named : List ℕ → Option Order
 order_named t =
     if bytes_eq t (codes "default") then Some order.Default else
@@ -77,6 +83,7 @@ abbrev pub order_in : List Cell → Option Value → Result Order Kind
 order_in h None = Ok order.Default
 order_in h (Some v) = of_type (order_text (string_in (shape h v))) Ok
 
+-- the kind of the fault that a refused depset is; no definition refuses one for want of memory
 abbrev pub refused_as : DepsetError → Kind
 refused_as refused.Mixed = kind.Wrong
 refused_as refused.Order = kind.Order
@@ -86,7 +93,9 @@ refused_as refused.NoMemory = kind.Wrong
 -- the depset of these parts, with the owner of the state and the next serial
 abbrev pub next_depset : Order → List Element → List (Rose Own) → State → Rose Own
 next_depset o es ds s =
-    node (record { id = record { owner = s.owner; serial = s.depsets + 1 }; order = o; direct = es }) (roses ds)
+    node
+    (record { id = record { owner = s.owner; serial = s.depsets + 1 }; order = o; direct = es })
+    (roses ds)
 
 -- it is counted; where there is no next serial it is `large`
 abbrev pub numbered : Option DepsetError → Rose Own → Op Value
@@ -102,7 +111,8 @@ new_depset o es ds s = numbered (refusal (next_depset o es ds s)) (next_depset o
 
 -- depset(direct = [], order = "default", *, transitive = [])
 abbrev pub depset_parameters : List Parameter
-depset_parameters = optional (codes "direct") ∷ optional (codes "order") ∷ named_only (codes "transitive") ∷ []
+depset_parameters =
+    optional (codes "direct") ∷ optional (codes "order") ∷ named_only (codes "transitive") ∷ []
 
 -- what the call of `depset` is given, once its types are known
 pub record Parts : Type 0 where
@@ -110,11 +120,14 @@ pub record Parts : Type 0 where
   pub order : Order
   pub transitive : List (Rose Own)
 
+-- what the arguments of `depset` are, tested in the order elements, order, transitive depsets
 abbrev pub parts_of : List Cell → Option Value → Option Value → Option Value → Result Parts Kind
 parts_of h es o ds =
-    then_give (parts_in element_in h es) (λ xs. then_give (order_in h o) (λ p. then_give (parts_in depset_in h ds) (λ ys.
+    then_give (parts_in element_in h es)
+    (λ xs. then_give (order_in h o) (λ p. then_give (parts_in depset_in h ds) (λ ys.
     Ok (record { direct = xs; order = p; transitive = ys }))))
 
+-- the depset of what was given, or the fault of the arguments
 abbrev pub made_of : Result Parts Kind → Op Value
 made_of (Ok p) s = new_depset p.order p.direct p.transitive s
 made_of (Err k) s = Err k
@@ -123,6 +136,7 @@ made_of (Err k) s = Err k
 abbrev pub depset_of : Option Value → Option Value → Option Value → Op Value
 depset_of es o ds s = made_of (parts_of s.heap es o ds) s
 
+-- the call of `depset` with what each parameter got
 abbrev pub depset_with : Result Bound Kind → Op Value
 depset_with (Ok (es ∷ o ∷ ds ∷ [])) s = depset_of es o ds s
 depset_with (Ok _) s = Err kind.Arity
@@ -139,7 +153,8 @@ element_value (element.Truth b) = truth b
 element_value (element.Label t) = value.Leaf (plain.Label t)
 element_value (element.File f) = value.Leaf (plain.File f)
 
--- `t.to_list()`: a new list of the listing, by the walk that visits no id twice. Where one id has one tree, as in all that
--- evaluation makes, it has the first occurrences of the walk of the whole tree.
+-- `t.to_list()`: a new list of the listing, by the walk that visits no id twice. Where one id has
+-- one tree, as in all that evaluation makes, it has the first occurrences of the walk of the whole
+-- tree.
 abbrev pub to_list : Rose Own → Op Value
 to_list d s = new_list (map element_value (walked d)) s

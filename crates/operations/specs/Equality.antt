@@ -1,5 +1,5 @@
--- Equality and membership. (Starlark's specification, "Comparisons" and "Membership tests"; ticks, and which values can't be
--- compared, are this project's own.)
+-- Equality and membership. (Starlark's specification, "Comparisons" and "Membership tests"; ticks,
+-- and which values can't be compared, are this project's own.)
 use Rattle.std.specs.Prelude.{Bool, true, false, List, [], ◌∷◌, Result, Ok, Err, if◌then◌else◌}
 use Rattle.ticks.specs.Ticking.{Count, Ticking, then_on, with_count}
 use Rattle.values.specs.Keyed.{has_key}
@@ -20,7 +20,8 @@ abbrev pub equals : Value → Value → Op Bool
 equals x y s = with_ticks s (equal_at VISITED_LEVELS s.heap x y s.ticks)
 
 -- `item == x`, of the items in order, until one is
-abbrev pub among : (Value → Value → Count → Ticking Bool) → Value → List Value → Count → Ticking Bool
+abbrev pub among : (Value → Value → Count → Ticking Bool) → Value → List Value → Count
+    → Ticking Bool
 among eq x [] c = Ok (false, c)
 among eq x (y ∷ ys) c = then_on (eq y x c) (λ b d. if b then Ok (true, d) else among eq x ys d)
 

@@ -1,6 +1,8 @@
--- Fields, and methods where they are called. (Starlark's specification, "Dot expressions"; Bazel's documentation of `File`,
--- `Label` and providers. Fields of targets and of `ctx` are said where there are targets.)
-use Rattle.std.specs.Prelude.{ℕ, Bool, true, false, List, [], ◌∷◌, ◌++◌, drop, Option, Some, None, Result, Ok, Err, bytes_eq, codes, nat_eq, if◌then◌else◌}
+-- Fields, and methods where they are called. (Starlark's specification, "Dot expressions"; Bazel's
+-- documentation of `File`, `Label` and providers. Fields of targets and of `ctx` are said where
+-- there are targets.)
+use Rattle.std.specs.Prelude.{ℕ, Bool, true, false, List, [], ◌∷◌, ◌++◌, drop, Option, Some, None}
+use Rattle.std.specs.Prelude.{Result, Ok, Err, bytes_eq, codes, nat_eq, if◌then◌else◌}
 use Rattle.depsets.specs.declared.element.FileRef.{FileRef}
 use Rattle.values.specs.Shape.{Shape, key, atom, items, entries, fields, nothing, shape}
 use Rattle.leaves.specs.declared.leaf.Leaf.{Leaf}
@@ -31,6 +33,7 @@ abbrev pub after_colon : List ℕ → List ℕ
 after_colon [] = []
 after_colon (b ∷ bs) = if nat_eq b 58 then bs else after_colon bs
 
+-- the fields of a `Label`: `package` and `name`
 abbrev pub label_field : List ℕ → List ℕ → Option Value
 label_field t x =
     if bytes_eq x (codes "package") then Some (text (before_colon (drop 2 t))) else
@@ -42,12 +45,15 @@ abbrev pub last_part : List ℕ → List ℕ → List ℕ
 last_part part [] = part
 last_part part (b ∷ bs) = if nat_eq b 47 then last_part [] bs else last_part (part ++ b ∷ []) bs
 
+-- the fields of a `File`: `path` and `basename`
 abbrev pub file_field : FileRef → List ℕ → Option Value
 file_field f x =
     if bytes_eq x (codes "path") then Some (text f.path) else
     if bytes_eq x (codes "basename") then Some (text (last_part [] f.path)) else
     None
 
+-- the field of a value without parts, or of any value by what it shows: of an instance, of a label
+-- or of a `File`; all else has none
 abbrev pub leaf_field : Leaf → List ℕ → Option Value
 leaf_field (plain.Label t) x = label_field t x
 leaf_field (plain.File f) x = file_field f x
@@ -62,7 +68,7 @@ shape_field _ x = None
 abbrev pub field : Value → List ℕ → Op Value
 field v x s = keeping (or_fault kind.Name (shape_field (shape s.heap v) x)) s
 
--- the methods of each type, by name
+-- the methods of each type, by name: of lists, of dicts, of strings and of depsets
 abbrev pub list_method : List ℕ → Option Method
 list_method x =
     if bytes_eq x (codes "append") then Some method.Append else
@@ -88,6 +94,7 @@ string_method x =
 abbrev pub depset_method : List ℕ → Option Method
 depset_method x = if bytes_eq x (codes "to_list") then Some method.ToList else None
 
+-- the method of a value by what it shows; a tuple has none
 abbrev pub key_method : Key → List ℕ → Option Method
 key_method (index.Text t) x = string_method x
 key_method _ x = None
@@ -103,7 +110,7 @@ shape_method (key k) x = key_method k x
 shape_method (atom l) x = leaf_method l x
 shape_method _ x = None
 
--- what `v.x` is where it is called
+-- what `v.x` is where it is called: a value, or a method of `v`
 pub data Found : Type 0 where
   plainly : Value → Found
   with_method : Method → Found
@@ -114,6 +121,7 @@ found_in (Some v) m = Ok (plainly v)
 found_in None (Some m) = Ok (with_method m)
 found_in None None = Err kind.Name
 
--- `v.x(..)` finds what is called before the arguments are evaluated: `name` where there is neither field nor method
+-- `v.x(..)` finds what is called before the arguments are evaluated: `name` where there is neither
+-- field nor method
 abbrev pub find : Value → List ℕ → Op Found
 find v x s = keeping (found_in (shape_field (shape s.heap v) x) (shape_method (shape s.heap v) x)) s

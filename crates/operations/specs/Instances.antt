@@ -1,6 +1,7 @@
--- Instances of providers. (Bazel's documentation of providers and of `DefaultInfo`; that every provider has `fields`, and what
--- is refused, is this project's own.)
-use Rattle.std.specs.Prelude.{ℕ, Bool, true, false, List, [], ◌∷◌, map, Option, Some, None, Result, Ok, Err, bytes_eq, codes, if◌then◌else◌}
+-- Instances of providers. (Bazel's documentation of providers and of `DefaultInfo`; that every
+-- provider has `fields`, and what is refused, is this project's own.)
+use Rattle.std.specs.Prelude.{ℕ, Bool, true, false, List, [], ◌∷◌, map, Option, Some, None, Result}
+use Rattle.std.specs.Prelude.{Ok, Err, bytes_eq, codes, if◌then◌else◌}
 use Rattle.std.specs.List.{list_any, list_all}
 use Rattle.depsets.specs.Rose.{Rose}
 use Rattle.depsets.specs.Own.{Own}
@@ -29,18 +30,23 @@ are_fields fields names = list_all (λ n. list_any (bytes_eq n) fields) names
 abbrev pub given_fields : List (List ℕ) → List (List ℕ) → List Value → List (Option Value)
 given_fields fields names values = map (λ x. given_for x names values) fields
 
+-- a new instance of a provider, which takes the next cell
 abbrev pub new_instance : Provider → List (Option Value) → Op Value
 new_instance p xs s = with_heap s (made s.heap (cell.Instance p xs) 0)
 
--- P(a = v, ..): a position, or a name that is none of the provider's fields, is `arity`. The values themselves are kept.
+-- P(a = v, ..): a position, or a name that is none of the provider's fields, is `arity`. The values
+-- themselves are kept.
 abbrev pub with_fields : Provider → List (List ℕ) → List Value → Op Value
 with_fields p names values s =
-    if are_fields p.fields names then new_instance p (given_fields p.fields names values) s else Err kind.Arity
+    if are_fields p.fields names then new_instance p (given_fields p.fields names values) s
+    else Err kind.Arity
 
+-- any position is `arity`
 abbrev pub unless_placed : List Value → Op Value → Op Value
 unless_placed [] f s = f s
 unless_placed (v ∷ vs) f s = Err kind.Arity
 
+-- the call of a provider that a module makes
 abbrev pub constructed : Provider → Given → Op Value
 constructed p g s = unless_placed g.items (with_fields p g.names g.values) s
 
@@ -56,12 +62,15 @@ default_info_parameters = named_only (codes "files") ∷ []
 abbrev pub only_files : Rose Own → Result (Rose Own) Kind
 only_files d = if all_of_type File (elements d) then Ok d else Err kind.Wrong
 
+-- what `DefaultInfo` may be given as `files`
 abbrev pub files_in : Shape → Result (Rose Own) Kind
 files_in v = of_type (depset_in v) only_files
 
+-- the instance of `DefaultInfo` with these files
 abbrev pub with_files : Provider → Value → Op Value
 with_files p v s = new_instance p (Some v ∷ []) s
 
+-- goes on where a test passed, and else has its fault
 abbrev pub if_ok : {A B : Type 0} → Result A Kind → Op B → Op B
 if_ok (Ok a) f s = f s
 if_ok (Err k) f s = Err k
@@ -75,6 +84,7 @@ abbrev pub info_with : Provider → Option Value → Op Value
 info_with p (Some v) s = if_ok (files_in (shape s.heap v)) (with_files p v) s
 info_with p None s = with_new_files p s
 
+-- the instance, or the fault of the arguments
 abbrev pub info_of : Provider → Result (Option Value) Kind → Op Value
 info_of p (Ok o) s = info_with p o s
 info_of p (Err k) s = Err k
@@ -84,5 +94,6 @@ abbrev pub only : Bound → Result (Option Value) Kind
 only (o ∷ []) = Ok o
 only _ = Err kind.Arity
 
+-- the call of `DefaultInfo`
 abbrev pub new_default_info : Provider → Given → Op Value
 new_default_info p g s = info_of p (then_give (bound default_info_parameters g) only) s

@@ -1,6 +1,7 @@
--- Items of strings, lists, tuples and dicts. (Starlark's specification, "Index expressions" and "dict·get"; which values are
--- keys is this project's own.)
-use Rattle.std.specs.Prelude.{ℕ, ℤ, List, [], ◌∷◌, length, Option, Some, None, slice_get, Result, Ok, Err, nat_lt, if◌then◌else◌}
+-- Items of strings, lists, tuples and dicts. (Starlark's specification, "Index expressions" and
+-- "dict·get"; which values are keys is this project's own.)
+use Rattle.std.specs.Prelude.{ℕ, ℤ, List, [], ◌∷◌, length, Option, Some, None, slice_get, Result}
+use Rattle.std.specs.Prelude.{Ok, Err, nat_lt, if◌then◌else◌}
 use Rattle.std.specs.Map.{lookup}
 use Rattle.heap.specs.Cells.{place_of}
 use Rattle.leaves.specs.Leaves.{same_key}
@@ -14,6 +15,7 @@ use Rattle.operations.specs.States.{Op, keeping}
 use Rattle.operations.specs.Reading.{number_in, key_in, of_type}
 use Rattle.operations.specs.Making.{text}
 
+-- what is there, or this fault where nothing is
 abbrev pub or_fault : {A : Type 0} → Kind → Option A → Result A Kind
 or_fault k (Some a) = Ok a
 or_fault k None = Err k
@@ -40,6 +42,7 @@ byte_at t i = byte_text (at_place t (place_of i (length t)))
 abbrev pub value_at : List (Key × Value) → Key → Result Value Kind
 value_at es k = or_fault kind.Key (lookup (same_key k) es)
 
+-- the item of a string at an index; a whole number and a bool have no items
 abbrev pub key_item : Key → Option ℤ → Result Value Kind
 key_item (index.Text t) i = of_type i (byte_at t)
 key_item (index.Number n) i = Err kind.Wrong
@@ -54,10 +57,12 @@ item_in (atom l) i = Err kind.Wrong
 item_in (fields p xs) i = Err kind.Wrong
 item_in nothing i = Err kind.Wrong
 
--- `b[i]`: `type` first, and then `index`, or of a dict `key`. What a target gives is said where there are targets.
+-- `b[i]`: `type` first, and then `index`, or of a dict `key`. What a target gives is said where
+-- there are targets.
 abbrev pub item : Value → Value → Op Value
 item b i s = keeping (item_in (shape s.heap b) (shape s.heap i)) s
 
+-- the value that was found, or the default of `d.get`
 abbrev pub or_else : Value → Option Value → Value
 or_else d (Some v) = v
 or_else d None = d

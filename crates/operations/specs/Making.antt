@@ -1,6 +1,7 @@
--- New values. A list, a tuple or a dict takes the next cell. (Starlark's specification, "Identity and mutation"; the limit of
--- size is this project's own.)
-use Rattle.std.specs.Prelude.{ℕ, ℤ, Bool, true, false, List, [], length, Option, Some, None, Result, Ok, Err}
+-- New values. A list, a tuple or a dict takes the next cell. (Starlark's specification, "Identity
+-- and mutation"; the limit of size is this project's own.)
+use Rattle.std.specs.Prelude.{ℕ, ℤ, Bool, true, false, List, [], length, Option, Some, None, Result}
+use Rattle.std.specs.Prelude.{Ok, Err}
 use Rattle.heap.specs.Cells.{made, list_changed, dict_changed, pushed, keyed}
 use Rattle.values.specs.Keyed.{has_key}
 use Rattle.values.specs.Shape.{Shape, key, atom, items, entries, fields, nothing, shape}
@@ -19,7 +20,7 @@ use Rattle.operations.specs.States.{Op, Doing, with_heap, changed}
 use Rattle.operations.specs.Reading.{key_in, of_type}
 use Rattle.operations.specs.declared.state.State.{State}
 
--- values without parts
+-- values without parts: `None`, a bool, a whole number, a string
 abbrev pub none : Value
 none = value.Leaf plain.None
 
@@ -50,10 +51,12 @@ placed (new.Leaf l) s = Ok (value.Leaf l, s)
 placed (new.List xs) s = new_list xs s
 placed (new.Tuple xs) s = new_tuple xs s
 
+-- what an operation gives gets its place in the state, or has its fault
 abbrev pub make : Result Made Kind → Op Value
 make (Ok m) s = placed m s
 make (Err k) s = Err k
 
+-- a new list, or a new tuple
 abbrev pub sequence : Bool → List Value → Made
 sequence true xs = new.List xs
 sequence false xs = new.Tuple xs
@@ -62,10 +65,13 @@ sequence false xs = new.Tuple xs
 abbrev pub collect : Value → Value → Op (Unit {0})
 collect l x s = changed tt s (list_changed (pushed x) s.heap l)
 
--- a comprehension's dict gets an entry more: the later value of a key stays, at the key's first place
+-- a comprehension's dict gets an entry more: the later value of a key stays, at the key's first
+-- place
 abbrev pub keep : Value → Value → Value → Op (Unit {0})
-keep d k v s = changed tt s (of_type (key_in (shape s.heap k)) (λ i. dict_changed (keyed i v) s.heap d))
+keep d k v s =
+    changed tt s (of_type (key_in (shape s.heap k)) (λ i. dict_changed (keyed i v) s.heap d))
 
+-- the entries of a dict, and of anything else none
 abbrev pub entries_in : Shape → List (Key × Value)
 entries_in (entries es) = es
 entries_in _ = []
@@ -80,8 +86,9 @@ abbrev pub unless_there : Bool → Result (List Cell) Kind → Result (List Cell
 unless_there true r = Err kind.Key
 unless_there false r = r
 
--- A dict display gets an entry more, once its key and its value are known: `type` where the key can't be one, and then `key`
--- where it stands there twice. (Starlark's specification, "Dictionary expressions".)
+-- A dict display gets an entry more, once its key and its value are known: `type` where the key
+-- can't be one, and then `key` where it stands there twice. (Starlark's specification, "Dictionary
+-- expressions".)
 abbrev pub enter : Value → Value → Value → Op (Unit {0})
 enter d k v s =
     changed tt s (unless_there (is_held (entries_in (shape s.heap d)) (key_in (shape s.heap k)))

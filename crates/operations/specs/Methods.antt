@@ -1,5 +1,5 @@
--- Methods of lists, dicts and depsets. They take positions alone, and `arity` comes before all else. (Starlark's specification,
--- "Built-in methods"; Bazel's documentation of depsets.)
+-- Methods of lists, dicts and depsets. They take positions alone, and `arity` comes before all
+-- else. (Starlark's specification, "Built-in methods"; Bazel's documentation of depsets.)
 use Rattle.std.specs.Prelude.{ℕ, List, [], ◌∷◌, ◌++◌, map, Option, Some, None, Result, Ok, Err}
 use Rattle.values.specs.Shape.{Shape, key, atom, items, entries, fields, nothing, shape}
 use Rattle.values.specs.Visits.{keys_of}
@@ -41,7 +41,9 @@ values es s = new_list (map (λ e. e.1) es) s
 -- d.items(): the tuples of two take the next cells in the order of the entries, and then the list
 abbrev pub pairs_behind : List Value → List (Key × Value) → Op (List Value)
 pairs_behind vs [] s = Ok (vs, s)
-pairs_behind vs (e ∷ es) s = then_do (new_tuple (value.Key e.0 ∷ e.1 ∷ []) s) (λ v t. pairs_behind (vs ++ v ∷ []) es t)
+pairs_behind vs (e ∷ es) s =
+    then_do (new_tuple (value.Key e.0 ∷ e.1 ∷ []) s) (λ v t. pairs_behind (vs ++ v ∷ []) es t)
 
+-- d.items(), whose list comes after its tuples
 abbrev pub pairs : List (Key × Value) → Op Value
 pairs es s = then_do (pairs_behind [] es s) new_list

@@ -12,6 +12,7 @@ use Rattle.ticks.specs.declared.ticks.Kind.{Kind}
 use Rattle.ticks.specs.declared.ticks.Kind.TheVariants.{Wrong}
 pub use Rattle.printing.specs.Repr.{string_in}
 
+-- the whole number that a string, a number or a bool is, if it is one
 abbrev pub key_number : Key → Option ℤ
 key_number (index.Number n) = Some n
 key_number _ = None
@@ -31,6 +32,7 @@ abbrev pub sequence_in : Shape → Option (List Value)
 sequence_in (items j xs) = Some xs
 sequence_in _ = None
 
+-- the depset that a value is, if it is one
 abbrev pub leaf_depset : Leaf → Option (Rose Own)
 leaf_depset (plain.Depset d) = Some d
 leaf_depset _ = None

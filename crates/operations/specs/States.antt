@@ -1,5 +1,6 @@
--- The form of an operation: from a state to what it gives and the state after it, or to the kind of its fault. A fault ends
--- the evaluation, whose state is thrown away then. And how a call answers an operation.
+-- The form of an operation: from a state to what it gives and the state after it, or to the kind of
+-- its fault. A fault ends the evaluation, whose state is thrown away then. And how a call answers
+-- an operation.
 use Rattle.std.specs.Prelude.{◌≡◌, List, Result, Ok, Err, MatchResult}
 use Rattle.ticks.specs.Ticking.{Count, ticked, FaultOr}
 use Rattle.values.specs.declared.cells.Cell.{Cell}
@@ -7,9 +8,11 @@ use Rattle.ticks.specs.declared.ticks.Kind.{Kind}
 use Rattle.ticks.specs.declared.ticks.Broken.{Broken}
 use Rattle.operations.specs.declared.state.State.{State}
 
+-- what an operation did: its answer and the state after it, or the kind of its fault
 abbrev pub Doing : Type 0 → Type 0
 Doing A = Result (A × State) Kind
 
+-- an operation, which a state is given to
 abbrev pub Op : Type 0 → Type 0
 Op A = State → Doing A
 
@@ -43,25 +46,31 @@ abbrev pub with_ticks : {A : Type 0} → State → Result (A × Count) Kind → 
 with_ticks s (Ok p) = Ok (p.0, record s { ticks = p.1 })
 with_ticks s (Err k) = Err k
 
+-- the ticks after one more, or the fault that there are no more
 abbrev pub ticked_once : State → Result Count Kind → Doing (Unit {0})
 ticked_once s (Ok c) = Ok (tt, record s { ticks = c })
 ticked_once s (Err k) = Err k
 
--- one tick: the entry of a function, or one turn of a loop or of a comprehension. (This project's own.)
+-- one tick: the entry of a function, or one turn of a loop or of a comprehension. (This project's
+-- own.)
 abbrev pub tick : Op (Unit {0})
 tick s = ticked_once s (ticked s.ticks)
 
--- A call does what the operation says. After a fault, and after want of memory, the heap and the count of depsets are as they
--- were; the ticks are open.
+-- A call does what the operation says. After a fault, and after want of memory, the heap and the
+-- count of depsets are as they were; the ticks are open.
 abbrev pub Stays : State → State → Type 0
 Stays old new = (new.heap ≡ old.heap) × (new.depsets ≡ old.depsets)
 
+-- the answer of a call and the state after it are what the operation gives for the state before, or
+-- the call answers the operation's fault or want of memory
 abbrev pub Does : {A : Type 0} → Op A → State → Result A Broken → State → Type 0
-Does f old result new = MatchResult result (λ a. f old ≡ Ok (a, new)) (λ e. Stays old new × FaultOr (f old) e)
+Does f old result new =
+    MatchResult result (λ a. f old ≡ Ok (a, new)) (λ e. Stays old new × FaultOr (f old) e)
 
 -- The same, of a call that never answers want of memory, as its type says.
 abbrev pub DoesKind : {A : Type 0} → Op A → State → Result A Kind → State → Type 0
-DoesKind f old result new = MatchResult result (λ a. f old ≡ Ok (a, new)) (λ k. Stays old new × (f old ≡ Err k))
+DoesKind f old result new =
+    MatchResult result (λ a. f old ≡ Ok (a, new)) (λ k. Stays old new × (f old ≡ Err k))
 
 -- A call that reads gives what is to be read.
 abbrev pub Gives : {A : Type 0} → Result A Kind → Result A Broken → Type 0

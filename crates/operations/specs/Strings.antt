@@ -1,5 +1,5 @@
--- What is asked of strings, and of what else has members. (Starlark's specification, "Membership tests" and "Built-in
--- methods"; ticks, and which values have members, are this project's own.)
+-- What is asked of strings, and of what else has members. (Starlark's specification, "Membership
+-- tests" and "Built-in methods"; ticks, and which values have members, are this project's own.)
 use Rattle.std.specs.Prelude.{ℕ, Bool, List, [], ◌∷◌, map, Option, Some, None, Result, Ok, Err}
 use Rattle.strings.specs.Affixes.{begins, ends}
 use Rattle.strings.specs.Parts.{is_part}
@@ -31,7 +31,8 @@ part_of (index.Text t) x = of_type (string_in x) (λ p. Ok (is_part p t))
 part_of (index.Number n) x = Err kind.Wrong
 part_of (index.Truth b) x = Err kind.Wrong
 
--- of a list or a tuple some item that equals it, of a dict a key, of a string a part of it; all else is `type`
+-- of a list or a tuple some item that equals it, of a dict a key, of a string a part of it; all
+-- else is `type`
 abbrev pub held_in : List Cell → Value → Shape → Count → Ticking Bool
 held_in h x (items j ys) c = among (equal_at VISITED_LEVELS h) x ys c
 held_in h x (entries es) c = with_count (of_type (key_in (shape h x)) (is_key_of es)) c
@@ -44,11 +45,13 @@ held_in h x nothing c = Err kind.Wrong
 abbrev pub member : Value → Value → Op Bool
 member x y s = with_ticks s (held_in s.heap x (shape s.heap y) s.ticks)
 
+-- the fault of a string operation that is refused; an empty separator is `type`
 abbrev pub string_fault : StringError → Kind
 string_fault refused.Large = kind.Large
 string_fault refused.Index = kind.Index
 string_fault refused.EmptySeparator = kind.Wrong
 
+-- what the string operation gives, or its fault
 abbrev pub or_string_fault : {A : Type 0} → Result A StringError → Result A Kind
 or_string_fault (Ok a) = Ok a
 or_string_fault (Err e) = Err (string_fault e)
@@ -56,12 +59,14 @@ or_string_fault (Err e) = Err (string_fault e)
 -- t.split(sep): an empty separator is `type`
 abbrev pub split : List ℕ → Value → Op Value
 split t v s =
-    make (of_type (string_in (shape s.heap v)) (λ sep. then_give (or_string_fault (split_of sep t)) (λ ts. Ok (new.List (map text ts))))) s
+    make (of_type (string_in (shape s.heap v))
+    (λ sep. then_give (or_string_fault (split_of sep t)) (λ ts. Ok (new.List (map text ts))))) s
 
 -- t.join(q): each item is a string, and then the size is known
 abbrev pub join : List ℕ → Value → Op Value
 join t v s =
-    keeping (of_type (sequence_in (shape s.heap v)) (λ xs. then_give (all_in string_in s.heap xs) (λ ts.
+    keeping (of_type (sequence_in (shape s.heap v))
+    (λ xs. then_give (all_in string_in s.heap xs) (λ ts.
     then_give (or_string_fault (join_of t ts)) (λ u. Ok (text u))))) s
 
 -- t.startswith(p), t.endswith(p)

@@ -1,4 +1,5 @@
--- Which values count as true. (Starlark's specification, "Booleans"; of a depset this project's own.)
+-- Which values count as true. (Starlark's specification, "Booleans"; of a depset this project's
+-- own.)
 use Rattle.std.specs.Prelude.{Bool, true, false, not, List, [], ◌∷◌, pos, Result, Ok}
 use Rattle.std.specs.Ordering.{int_eq}
 use Rattle.depsets.specs.Elements.{elements}
@@ -10,10 +11,12 @@ use Rattle.keys.specs.declared.key.Key.TheVariants as index
 use Rattle.values.specs.declared.value.Value.{Value}
 use Rattle.operations.specs.declared.state.State.{State}
 
+-- whether there is anything in it
 abbrev pub has_some : {A : Type 0} → List A → Bool
 has_some [] = false
 has_some (x ∷ xs) = true
 
+-- whether a string, a number or a bool counts as true
 abbrev pub key_truth : Key → Bool
 key_truth (index.Text t) = has_some t
 key_truth (index.Number n) = not (int_eq n (pos 0))
@@ -34,5 +37,6 @@ shape_truth (entries es) = has_some es
 shape_truth (fields p xs) = true
 shape_truth nothing = true
 
+-- whether a value counts as true, in `if`, `not`, `and` and `or`
 abbrev pub truth_of : State → Value → Bool
 truth_of s v = shape_truth (shape s.heap v)

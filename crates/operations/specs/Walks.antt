@@ -1,5 +1,6 @@
--- Walks of `for` and of comprehensions, and unpacking. (Starlark's specification, "For loops" and "Assignments"; that only lists,
--- tuples and dicts are walked, and only lists and tuples unpacked, is this project's own.)
+-- Walks of `for` and of comprehensions, and unpacking. (Starlark's specification, "For loops" and
+-- "Assignments"; that only lists, tuples and dicts are walked, and only lists and tuples unpacked,
+-- is this project's own.)
 use Rattle.std.specs.Prelude.{ℕ, List, Option, Some, None, Result, Ok, Err}
 use Rattle.heap.specs.Cells.{walk_begun_at, walk_ended}
 use Rattle.values.specs.Shape.{shape}
@@ -12,6 +13,7 @@ use Rattle.operations.specs.States.{Op, Doing, keeping}
 use Rattle.operations.specs.Reading.{sequence_in, of_type}
 use Rattle.operations.specs.declared.state.State.{State}
 
+-- the items that are walked, and the heap that counts the walk
 abbrev pub begun : List Value → State → Result (Option ℕ × List Cell) Kind → Doing (List Value)
 begun vs s (Ok p) = Ok (vs, record s { heap = p.1 })
 begun vs s (Err k) = Err k

@@ -3,7 +3,8 @@
 use operands::Operand;
 use plain::Text;
 
-/// Arguments where they lie: those by position, and those by name, whose names and values stand by place.
+/// Arguments where they lie: those by position, and those by name, whose names and values stand by
+/// place.
 #[derive(Clone, Copy)]
 pub struct Arguments<'a, 'v> {
     /// Those by position, in order.

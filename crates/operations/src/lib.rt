@@ -1,8 +1,8 @@
 //! What an evaluation does to its state: every operation of the language, as a definition.
 //!
-//! An operation goes from a state (`State`) to a value and the state after it, or to the kind of its fault. `specs/` has one
-//! definition an operation, by subject, and the calls that do them stand in the crates above. They know nothing of trees and
-//! of instructions.
+//! An operation goes from a state (`State`) to a value and the state after it, or to the kind of
+//! its fault. `specs/` has one definition an operation, by subject, and the calls that do them
+//! stand in the crates above. They know nothing of trees and of instructions.
 #![tactic(auto)]
 
 mod arguments;

@@ -5,8 +5,12 @@ use values::{Items, Key, Leaf};
 /// A value without parts, or the items of a new list or of a new tuple.
 #[derive(Drop)]
 pub enum Made {
+    /// A string, a whole number or a bool.
     Key(Key),
+    /// Any other value without parts.
     Leaf(Leaf),
+    /// The items of a new list.
     List(Items),
+    /// The items of a new tuple.
     Tuple(Items),
 }

@@ -1,5 +1,6 @@
 //! The state of an evaluation: all that its operations read and change.
-ghost use Rattle.std.specs.Prelude.{◌≡◌, ◌++◌, ◌∷◌, [], ◌<◌, IfOk, OnOk, OnErr, length, slice_set, option_copied, slice_get};
+ghost use Rattle.std.specs.Prelude.{◌≡◌, ◌++◌, ◌∷◌, [], ◌<◌, IfOk, OnOk, OnErr, length, slice_set};
+ghost use Rattle.std.specs.Prelude.{option_copied, slice_get};
 
 use heap::Heap;
 use operands::Bindings;
@@ -10,8 +11,9 @@ use values::{Fields, Items, Ticks};
 
 /// What an evaluation holds.
 ///
-/// A name of the top level has a slot by its number, which says in which order the names are bound. A name that a load binds
-/// is no global of the file, and has its value elsewhere, under the same number: it lies in the module that was loaded.
+/// A name of the top level has a slot by its number, which says in which order the names are bound.
+/// A name that a load binds is no global of the file, and has its value elsewhere, under the same
+/// number: it lies in the module that was loaded.
 #[derive(Drop)]
 pub struct State<'a> {
     /// The cells that names share.
@@ -32,7 +34,8 @@ pub struct State<'a> {
     pub defaults: Defaults,
 }
 
-/// The defaults of the functions of a file, by the function's number, in the order of the parameters.
+/// The defaults of the functions of a file, by the function's number, in the order of the
+/// parameters.
 #[derive(Drop)]
 pub struct Defaults {
     functions: Vec<Items>,
@@ -63,6 +66,10 @@ impl Defaults {
     }
 
     /// Of one function more. After a refusal of memory they are as they were.
+    ///
+    /// # Errors
+    ///
+    /// `AllocError` where memory was refused.
     pub fn push(&mut self, defaults: Items) -> Result<(), AllocError>
         ensures ok { OnOk result (self.new ≡ self.old ++ defaults ∷ []) }
         ensures err { OnErr result (self.new ≡ self.old) }

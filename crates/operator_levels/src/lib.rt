@@ -7,7 +7,8 @@ ghost use Rattle.grammar.specs.Descent as spec;
 // The level of comparisons, as those of the grammar are counted.
 const COMPARISON: usize = 5;
 
-/// How many operators of a level may follow one another, where there may be `most`: comparisons are not chained.
+/// How many operators of a level may follow one another, where there may be `most`: comparisons are
+/// not chained.
 ///
 /// The clause holds whatever reads the expressions inside of others.
 pub fn in_a_row(level: usize, most: usize) -> usize

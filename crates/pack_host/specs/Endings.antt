@@ -4,6 +4,7 @@ use Rattle.packing.specs.declared.whole.PackStop.{PackStop}
 use Rattle.packing.specs.declared.whole.PackStop.TheVariants as stop
 use Rattle.packing.specs.declared.whole.Packed.{Packed}
 
+-- the exit status of the program: 0 where the input was written, and else that of what stopped it
 abbrev pub status_of : Result Packed PackStop → ℕ
 status_of (Ok packed) = 0
 status_of (Err (stop.LeftOut left)) = 1

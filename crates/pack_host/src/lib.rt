@@ -1,5 +1,5 @@
-//! What `bzlan_pack` has of the system: its folders, the words of the command line, the exit status and the lines on
-//! standard error.
+//! What `bzlan_pack` has of the system: its folders, the words of the command line, the exit status
+//! and the lines on standard error.
 #![tactic(auto)]
 
 mod endings;

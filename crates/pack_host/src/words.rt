@@ -1,9 +1,11 @@
 //! The words of the command line.
 
 ghost use Rattle.std.specs.Prelude.{◌≡◌, ◌≢◌, IfErr, IfOk, None, Some, false, map};
-ghost use Rattle.clap.specs.Words.{FailsBy, app_of, fault_of, found_of, kind_of, one_of, rows_of, rule_of};
+ghost use Rattle.clap.specs.Words.{FailsBy, app_of, fault_of, found_of, kind_of, one_of, rows_of};
+ghost use Rattle.clap.specs.Words.{rule_of};
 ghost use Rattle.clap.specs.declared.error.kind.ErrorKind.TheVariants as kind;
-ghost use Rattle.pack_host.specs.CommandLine.{asked, asked_by, command_line, is_set, root_rule, strict_rule};
+ghost use Rattle.pack_host.specs.CommandLine.{asked, asked_by, command_line, is_set, root_rule};
+ghost use Rattle.pack_host.specs.CommandLine.{strict_rule};
 
 use clap::{Arg, ArgAction, ArgMatches, Command, Error};
 use std::alloc::{AllocError, Global};
@@ -63,7 +65,8 @@ fn is_set(matches: &ArgMatches<'_>, id: &str) -> bool
 ///
 /// # Errors
 ///
-/// What `clap` says of words that the command doesn't take, and its texts for `--help` and `--version`.
+/// What `clap` says of words that the command doesn't take, and its texts for `--help` and
+/// `--version`.
 pub fn read_pack_words<'a, S: AsStr>(alloc: Global, words: &'a [S]) -> Result<PackWords<'a>, Error>
     ensures ok { IfOk result (λ w. asked (map S.text words.entry.now) ≡ Some (asked_by w)) }
     ensures refused { IfErr result (λ e. kind_of e ≢ kind.OutOfMemory

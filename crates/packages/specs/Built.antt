@@ -1,5 +1,6 @@
 -- What `BUILD` files came to, before packages have their names.
-use Rattle.std.specs.Prelude.{◌≡◌, ℕ, ◌+◌, ◌<◌, true, false, List, [], ◌∷◌, length, slice_index_or, Option, Some, None, Result}
+use Rattle.std.specs.Prelude.{◌≡◌, ℕ, ◌+◌, ◌<◌, true, false, List, [], ◌∷◌, length, slice_index_or}
+use Rattle.std.specs.Prelude.{Option, Some, None, Result}
 use Rattle.lexer.specs.declared.fault.FaultKind.{FaultKind}
 use Rattle.ticks.specs.declared.ticks.Kind.{Kind}
 use Rattle.workspace.specs.FileKinds.{is_build_file}
@@ -30,4 +31,5 @@ module _ (files : List Pair) (limit : ℕ) where
   -- the same, of the files from one on
   abbrev pub AreBuiltFrom : ℕ → List (Option Built) → Type 0
   AreBuiltFrom n [] = n ≡ length (paths_of files)
-  AreBuiltFrom n (o ∷ os) = (n < length (paths_of files)) × (IsBuiltAt n o × AreBuiltFrom (n + 1) os)
+  AreBuiltFrom n (o ∷ os) =
+      (n < length (paths_of files)) × (IsBuiltAt n o × AreBuiltFrom (n + 1) os)

@@ -1,5 +1,7 @@
--- What the packages of a workspace have (Bazel documentation, "Packages"; that a package fails whole is this project's own).
-use Rattle.std.specs.Prelude.{◌≡◌, ◌&&◌, true, ℕ, List, [], ◌∷◌, map, Option, Some, None, Result, Ok, Err, bytes_eq}
+-- What the packages of a workspace have (Bazel documentation, "Packages"; that a package fails
+-- whole is this project's own).
+use Rattle.std.specs.Prelude.{◌≡◌, ◌&&◌, true, ℕ, List, [], ◌∷◌, map, Option, Some, None, Result}
+use Rattle.std.specs.Prelude.{Ok, Err, bytes_eq}
 use Rattle.std.specs.List.{filter, list_any}
 use Rattle.lexer.specs.declared.fault.FaultKind.{FaultKind}
 use Rattle.ticks.specs.declared.ticks.Kind.{Kind}
@@ -24,22 +26,29 @@ first (a ∷ later) = Some a
 abbrev pub build_file_of : List Path → List ℕ → Option Path
 build_file_of paths p = first (filter (λ q. is_build_file q && bytes_eq p (package_of q)) paths)
 
+-- what a package has whose BUILD file came to this
 abbrev pub package_with : Result (List Target) (LoadFault FaultKind Kind) → Package
 package_with (Ok ts) = declaring ts
 package_with (Err f) = faulty
 
--- the files of a workspace, in ascending order of their paths, and how many ticks each evaluation may use
+-- the files of a workspace, in ascending order of their paths, and how many ticks each evaluation
+-- may use
 module _ (files : List Pair) (limit : ℕ) where
+  -- what a package has whose BUILD file is at this path, if it has one
   abbrev pub package_of_file : Option Path → Package
   package_of_file None = no_build_file
   package_of_file (Some path) = package_with (build_at files limit path)
 
+  -- what the package of a name has
   abbrev pub package_at : List ℕ → Package
   package_at p = package_of_file (build_file_of (paths_of files) p)
 
+  -- the names of all packages, in the order of their BUILD files
   abbrev pub packages : List (List ℕ)
   packages = map package_of (filter is_build_file (paths_of files))
 
   -- what declares targets is a package of the workspace
   abbrev pub AreListed : Type 0
-  AreListed = (p : List ℕ) (ts : List Target) → package_at p ≡ declaring ts → list_any (bytes_eq p) packages ≡ true
+  AreListed =
+      (p : List ℕ) (ts : List Target) → package_at p ≡ declaring ts
+      → list_any (bytes_eq p) packages ≡ true

@@ -80,8 +80,8 @@ fn is_file(alloc: Global, files: &LoadedFiles, label: &Label) -> Result<bool, Al
 }
 
 impl Targets {
-    /// Evaluates each `BUILD` file of a workspace, by one of so many threads, which have ended when this returns. `rt` is the
-    /// permission to start threads.
+    /// Evaluates each `BUILD` file of a workspace, by one of so many threads, which have ended when
+    /// this returns. `rt` is the permission to start threads.
     ///
     /// # Errors
     ///
@@ -150,8 +150,8 @@ impl Targets {
         }
     }
 
-    /// What a label names: a target that its package declares, else a source file of its path. Memory is used only to look
-    /// for the file.
+    /// What a label names: a target that its package declares, else a source file of its path.
+    /// Memory is used only to look for the file.
     ///
     /// # Errors
     ///

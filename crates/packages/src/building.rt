@@ -117,8 +117,9 @@ fn declare_package(
     put_package(&mut declared.packages, name, package)
 }
 
-/// Goes through the file at a path, of which it is known what it came to if it is a `BUILD` file. `rest` are the faults of
-/// the modules from there on; those of the modules behind it are given back.
+/// Goes through the file at a path, of which it is known what it came to if it is a `BUILD` file.
+/// `rest` are the faults of the modules from there on; those of the modules behind it are given
+/// back.
 fn declare_file<'a>(
     alloc: Global,
     files: &LoadedFiles,
@@ -144,7 +145,8 @@ fn declare_file<'a>(
     }
 }
 
-/// Goes through all files, in the order of their paths, of each of which it is known what it came to.
+/// Goes through all files, in the order of their paths, of each of which it is known what it came
+/// to.
 fn put_all(
     alloc: Global,
     files: &LoadedFiles,
@@ -168,7 +170,8 @@ fn put_all(
     Ok(declared)
 }
 
-/// Goes through all files, in the order of their paths. Each `BUILD` file is evaluated once, by one of so many threads.
+/// Goes through all files, in the order of their paths. Each `BUILD` file is evaluated once, by one
+/// of so many threads.
 pub(crate) fn declare_all<R: Threads + Sync>(
     rt: &R,
     alloc: Global,

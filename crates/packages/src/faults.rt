@@ -12,8 +12,8 @@ use plain::Text;
 use std::alloc::AllocError;
 use values::Kind;
 
-/// Puts the fault of the module at a path behind the others, if it has one. It is the first of those that are left, `rest`:
-/// the rest after it are given back.
+/// Puts the fault of the module at a path behind the others, if it has one. It is the first of
+/// those that are left, `rest`: the rest after it are given back.
 pub(crate) fn put_module_fault<'a>(
     modules: &Modules<Module, FaultKind, Kind>,
     path: &Text,
@@ -35,7 +35,8 @@ pub(crate) fn put_module_fault<'a>(
     }
 }
 
-/// What a package has whose `BUILD` file, at a path, came to this. Its fault, if it has one, is put behind the others.
+/// What a package has whose `BUILD` file, at a path, came to this. Its fault, if it has one, is put
+/// behind the others.
 pub(crate) fn package_with(
     path: &Text,
     built: BuiltPackage,

@@ -1,4 +1,5 @@
-//! What the definitions of packages mean. The function does nothing; its contract holds of every workspace.
+//! What the definitions of packages mean. The function does nothing; its contract holds of every
+//! workspace.
 ghost use Rattle.std.specs.Prelude.{ℕ, List};
 ghost use Rattle.workspace.specs.Workspaces.{Pair};
 ghost use Rattle.packages.specs.Packages.{AreListed};

@@ -1,5 +1,5 @@
-//! The packages of a workspace: what each `BUILD` file declares, which files fail, what a label names, and what targets
-//! depend on.
+//! The packages of a workspace: what each `BUILD` file declares, which files fail, what a label
+//! names, and what targets depend on.
 //!
 //! [`Targets`] evaluates each `BUILD` file once. `specs/Packages` says what a package has.
 #![tactic(auto)]

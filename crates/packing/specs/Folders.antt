@@ -1,8 +1,11 @@
--- What stands in a folder, and what a walk through it reaches (docs/REPORT.md, "From a folder to an input"; this project's own choice).
+-- What stands in a folder, and what a walk through it reaches (docs/REPORT.md, "From a folder to an
+-- input"; this project's own choice).
 --
--- A folder is seen as a function: what stands at each path below it. `None` says that it isn't known, as of the
--- folders of a system, or that nothing stands there. The folder itself is at the empty path.
-use Rattle.std.specs.Prelude.{◌≡◌, ◌<◌, ℕ, Bool, true, false, nat_eq, List, [], ◌∷◌, ◌++◌, length, codes, Option, Some, None, Contains, IsSome, ⊤}
+-- A folder is seen as a function: what stands at each path below it. `None` says that it isn't
+-- known, as of the folders of a system, or that nothing stands there. The folder itself is at the
+-- empty path.
+use Rattle.std.specs.Prelude.{◌≡◌, ◌<◌, ℕ, Bool, true, false, nat_eq, List, [], ◌∷◌, ◌++◌, length}
+use Rattle.std.specs.Prelude.{codes, Option, Some, None, Contains, IsSome, ⊤}
 use Rattle.std.specs.List.{starts_with}
 use Rattle.packing.specs.declared.folders.Kind.{Kind}
 use Rattle.packing.specs.declared.folders.Kind.TheVariants as kind
@@ -14,6 +17,7 @@ pub data Node : Type 0 where
   link : Node
   special : Node
 
+-- what is known of a folder: what stands at each path below it
 abbrev pub At : Type 0
 At = List ℕ → Option Node
 
@@ -31,7 +35,7 @@ is_output (b ∷ bs) name = false
 abbrev pub is_hidden : List ℕ → Bool
 is_hidden name = starts_with nat_eq name (codes ".")
 
--- a folder whose name begins with a dot
+-- what stands there is known to be a folder, and its name begins with a dot
 abbrev pub IsHiddenFolder : Option Node → List ℕ → Type 0
 IsHiddenFolder None name = ⊥
 IsHiddenFolder (Some (folder names)) name = is_hidden name ≡ true
@@ -39,19 +43,21 @@ IsHiddenFolder (Some (file bytes)) name = ⊥
 IsHiddenFolder (Some link) name = ⊥
 IsHiddenFolder (Some special) name = ⊥
 
--- from a folder a walk reaches the regular file at a path: by names that stand in the folders on the way, none of
--- them left out
+-- from a folder a walk reaches the regular file at a path: by names that stand in the folders on
+-- the way, none of them left out
 pub data Reaches (at : At) : List ℕ → List ℕ → Type 0 where
   here : (path bytes : List ℕ) → at path ≡ Some (file bytes) → Reaches at path path
-  inside : (from name path : List ℕ) (names : List (List ℕ)) → at from ≡ Some (folder names) → Contains names name
+  inside : (from name path : List ℕ) (names : List (List ℕ))
+      → at from ≡ Some (folder names) → Contains names name
       → is_output from name ≡ false → (IsHiddenFolder (at (below from name)) name → ⊥)
       → Reaches at (below from name) path → Reaches at from path
 
--- a walk comes to a path: that of the folder itself, and of each name in a folder that it comes to, if what the name
--- stands for isn't left out
+-- a walk comes to a path: that of the folder itself, and of each name in a folder that it comes to,
+-- if what the name stands for isn't left out
 pub data Comes (at : At) : List ℕ → Type 0 where
   start : Comes at []
-  onward : (from name : List ℕ) (names : List (List ℕ)) → Comes at from → at from ≡ Some (folder names) → Contains names name
+  onward : (from name : List ℕ) (names : List (List ℕ)) → Comes at from
+      → at from ≡ Some (folder names) → Contains names name
       → is_output from name ≡ false → (IsHiddenFolder (at (below from name)) name → ⊥)
       → Comes at (below from name)
 
@@ -59,7 +65,7 @@ pub data Comes (at : At) : List ℕ → Type 0 where
 abbrev pub IsKnown : At → Type 0
 IsKnown at = (path : List ℕ) → Comes at path → IsSome (at path)
 
--- what a folder tells, against what is known: its names
+-- what a folder tells is true of what is known: the names in it
 abbrev pub HasNames : Option Node → List (List ℕ) → Type 0
 HasNames None told = ⊤
 HasNames (Some (folder names)) told = told ≡ names
@@ -67,7 +73,7 @@ HasNames (Some (file bytes)) told = ⊥
 HasNames (Some link) told = ⊥
 HasNames (Some special) told = ⊥
 
--- what stands at a path
+-- what a folder tells is true of what is known: the kind of what stands at a path
 abbrev pub HasKind : Option Node → Kind → Type 0
 HasKind None k = ⊤
 HasKind (Some (folder names)) k = k ≡ kind.Folder
@@ -75,7 +81,7 @@ HasKind (Some (file bytes)) k = k ≡ kind.File
 HasKind (Some link) k = k ≡ kind.Link
 HasKind (Some special) k = k ≡ kind.Special
 
--- a regular file's bytes
+-- what a folder tells is true of what is known: the bytes of a regular file
 abbrev pub HasBytes : Option Node → List ℕ → Type 0
 HasBytes None told = ⊤
 HasBytes (Some (folder names)) told = ⊥
@@ -83,7 +89,7 @@ HasBytes (Some (file bytes)) told = told ≡ bytes
 HasBytes (Some link) told = ⊥
 HasBytes (Some special) told = ⊥
 
--- a regular file has more bytes than these
+-- a regular file of more bytes than the limit, where it is known
 abbrev pub IsLonger : Option Node → ℕ → Type 0
 IsLonger None limit = ⊤
 IsLonger (Some (folder names)) limit = ⊥

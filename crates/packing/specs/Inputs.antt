@@ -1,4 +1,5 @@
--- The bytes that are written for a workspace (docs/REPORT.md, "From a folder to an input"; this project's own choice).
+-- The bytes that are written for a workspace (docs/REPORT.md, "From a folder to an input"; this
+-- project's own choice).
 use Rattle.std.specs.Prelude.{ℕ, List, [], ◌∷◌, length, if◌then◌else◌, nat_lt}
 use Rattle.json.specs.Print.{print}
 use Rattle.json.specs.Token.{begin_array}

@@ -1,5 +1,8 @@
--- What is packed of a folder, and what is left out (docs/REPORT.md, "From a folder to an input"; this project's own choice).
-use Rattle.std.specs.Prelude.{◌≡◌, ◌⊎◌, ◌-◌, ◌^◌, ℕ, Bool, true, false, not, ◌||◌, min, if◌then◌else◌, List, [], codes, Option, Some, None, Contains, All, IsUtf8, ⊤}
+-- What is packed of a folder, and what is left out (docs/REPORT.md, "From a folder to an input";
+-- this project's own choice).
+use Rattle.std.specs.Prelude.{◌≡◌, ◌⊎◌, ◌-◌, ◌^◌, ℕ, Bool, true, false, not, ◌||◌, min}
+use Rattle.std.specs.Prelude.{if◌then◌else◌, List, [], codes, Option, Some, None, Contains, All}
+use Rattle.std.specs.Prelude.{IsUtf8, ⊤}
 use Rattle.std.specs.Cmp.Lexicographic.{slice_cmp}
 use Rattle.std.specs.List.{count_by}
 use Rattle.std.specs.List.Sorted.{IsStrictlySortedBy}
@@ -23,7 +26,8 @@ is_used path = is_build_file path || is_module path
 -- `BUILD.bazel` and `MODULE.bazel`, which `bzlan` doesn't serve
 abbrev pub is_bazel_file : List ℕ → Bool
 is_bazel_file path =
-    bytes_eq (last_segment path) (codes "BUILD.bazel") || bytes_eq (last_segment path) (codes "MODULE.bazel")
+    bytes_eq (last_segment path) (codes "BUILD.bazel")
+    || bytes_eq (last_segment path) (codes "MODULE.bazel")
 
 -- the text of a file where it is used, and else the empty text
 abbrev pub used_text : List ℕ → List ℕ → List ℕ
@@ -66,6 +70,7 @@ Holds at path reason.Denied = ⊤
 Holds at path reason.NameTooLong = ⊤
 Holds at path reason.Failed = ⊤
 
+-- what is named as left out has the reason that is told for it
 abbrev pub HasCause : At → LeftOut → Type 0
 HasCause at l = Holds at l.path l.reason
 
@@ -89,9 +94,10 @@ counts_of paths = record {
   sources = how_many (λ path. not (is_used path)) paths;
 }
 
--- what is written spells a workspace: its pairs ascend by their paths, and each is of a file of the folder. Each file
--- that a walk reaches is one of them, or is named as left out, and each that is named has its cause. Where all is
--- known that a walk comes to, no other file is one of them. The files are counted by their kinds
+-- what is written spells a workspace: its pairs ascend by their paths, and each is of a file of the
+-- folder. Each file that a walk reaches is one of them, or is named as left out, and each that is
+-- named has its cause. Where all is known that a walk comes to, no other file is one of them. The
+-- files are counted by their kinds
 pub record Packs (at : At) (p : Packed) : Type 0 where
   pub workspace : List Pair
   pub spelt : Spells p.input.items workspace

@@ -8,12 +8,13 @@ use Rattle.packing.specs.declared.whole.Packed.{Packed}
 use Rattle.packing.specs.declared.whole.PackStop.{PackStop}
 use Rattle.packing.specs.declared.whole.PackStop.TheVariants as stop
 
--- each refusal has its cause. That the folder couldn't be read, that memory was refused and that the writer failed, no
--- definition tells
+-- each refusal has its cause. That the folder couldn't be read, that memory was refused and that
+-- the writer failed, no definition tells
 abbrev pub Refuses : At → Bool → PackStop → Type 0
 Refuses at strict (stop.Root unread) = ⊤
 Refuses at strict (stop.TooLong sizes) = IsTooMuch at
-Refuses at strict (stop.LeftOut left) = (strict ≡ true) × (0 < length left.items) × All (HasCause at) left.items
+Refuses at strict (stop.LeftOut left) = (strict ≡ true) × (0 < length left.items)
+    × All (HasCause at) left.items
 Refuses at strict stop.NoMemory = ⊤
 Refuses at strict stop.Write = ⊤
 

@@ -1,5 +1,6 @@
 -- An input that is written file by file.
-use Rattle.std.specs.Prelude.{◌≡◌, ◌<◌, ◌≤◌, ◌⊎◌, ◌++◌, ◌+◌, ◌-◌, ◌^◌, ℕ, Bool, true, false, not, min, List, [], ◌∷◌, length, All, Contains, IsUtf8, ⊤}
+use Rattle.std.specs.Prelude.{◌≡◌, ◌<◌, ◌≤◌, ◌⊎◌, ◌++◌, ◌+◌, ◌-◌, ◌^◌, ℕ, Bool, true, false, not}
+use Rattle.std.specs.Prelude.{min, List, [], ◌∷◌, length, All, Contains, IsUtf8, ⊤}
 use Rattle.std.specs.List.{list_all}
 use Rattle.request.specs.Input.{input_limit}
 use Rattle.workspace.specs.FileKinds.{is_build_file, is_module}
@@ -45,14 +46,16 @@ pub record Leaves (at : At) (path : List ℕ) (old new : Writing) : Type 0 where
   pub cause : HasCause at named
   pub counted : new.counts ≡ old.counts
 
--- one file more
+-- one file more was taken: its pair is put behind the others, or it is named as left out
 pub record Takes (at : At) (path : List ℕ) (old new : Writing) : Type 0 where
-  pub taken : (pairs : List Pair) → old.input.items ≡ begun_text pairs → Puts at path old new pairs ⊎ Leaves at path old new
+  pub taken : (pairs : List Pair) → old.input.items ≡ begun_text pairs
+      → Puts at path old new pairs ⊎ Leaves at path old new
   pub utf8 : IsUtf8 old.input.items → IsUtf8 new.input.items
 
 -- with the file's pair, and the last bracket, the input would be above the limit
 abbrev pub Exceeds : At → List ℕ → List ℕ → Type 0
-Exceeds at path input = (text : List ℕ) × (is_file (path, text) ≡ true) × IsOf (at path) (path, text)
+Exceeds at path input = (text : List ℕ) × (is_file (path, text) ≡ true)
+    × IsOf (at path) (path, text)
     × (input_limit ≤ length (input ++ (comma input ++ pair_text (path, text))))
 
 -- the pairs of some legal files, in order
@@ -61,8 +64,10 @@ pub record ArePacked (at : At) (pairs : List Pair) : Type 0 where
   pub ascending : AreAscending (paths_of pairs)
   pub of : All (λ p. IsOf (at p.0) p) pairs
 
--- each of these files was taken
-pub record Written (at : At) (done : List (List ℕ)) (before : List LeftOut) (w : Writing) : Type 0 where
+-- each of the files `done` was taken, and is packed or named as left out; what was left out before
+-- still is
+pub record Written (at : At) (done : List (List ℕ)) (before : List LeftOut)
+    (w : Writing) : Type 0 where
   pub pairs : List Pair
   pub packed : ArePacked at pairs
   pub begun : w.input.items ≡ begun_text pairs
@@ -79,6 +84,8 @@ pub record Written (at : At) (done : List (List ℕ)) (before : List LeftOut) (w
 abbrev pub IsTooMuch : At → Type 0
 IsTooMuch at = (pairs : List Pair) × ArePacked at pairs × (input_limit < length (input_text pairs))
 
+-- why the writing stopped: too many bytes have their cause; that memory was refused, no definition
+-- tells
 abbrev pub Stops : At → WriteStop → Type 0
 Stops at stop.TooLong = IsTooMuch at
 Stops at stop.NoMemory = ⊤

@@ -47,8 +47,8 @@ pub struct Names {
 
 /// A folder that can be walked.
 ///
-/// It tells what stands at each path below it, where that is known. Paths have `/` between their segments; the folder
-/// itself is at the empty path.
+/// It tells what stands at each path below it, where that is known. Paths have `/` between their
+/// segments; the folder itself is at the empty path.
 pub trait Folder {
     /// What stands at a path; `None` where it isn't known, as of the folders of a system.
     ghost at: { Self → At };
@@ -73,8 +73,8 @@ pub trait Folder {
     ///
     /// # Errors
     ///
-    /// `TooLong` where there are more, `NoMemory` where memory was refused, and the others where the file can't be
-    /// read.
+    /// `TooLong` where there are more, `NoMemory` where memory was refused, and the others where
+    /// the file can't be read.
     fn bytes(&self, alloc: Global, path: &str, limit: usize) -> Result<Vec<u8>, Unread>
         ensures bytes { IfOk result (λ b. HasBytes (at self.now path.now) b.items) }
         ensures limit { IfOk result (λ b. vec_len b ≤ limit) }
@@ -82,6 +82,10 @@ pub trait Folder {
 }
 
 /// The path of a name in a folder.
+///
+/// # Errors
+///
+/// `AllocError` where memory was refused.
 pub fn below(alloc: Global, folder: &str, name: &str) -> Result<Text, AllocError>
     ensures { IfOk result (λ t. t ≡ below folder.now name.now) }
 {

@@ -1,7 +1,7 @@
 //! From a folder to an input of `bzlan`.
 //!
-//! A [`Folder`] is walked, and its files are written as one JSON array of pairs of a path and a text ([`pack`]). What has
-//! no place in a workspace is left out and named ([`LeftOut`]).
+//! A [`Folder`] is walked, and its files are written as one JSON array of pairs of a path and a
+//! text ([`pack`]). What has no place in a workspace is left out and named ([`LeftOut`]).
 #![tactic(auto)]
 
 mod folders;

@@ -39,6 +39,10 @@ fn is_hidden(name: &str) -> bool
 }
 
 /// The reason of what couldn't be read.
+///
+/// # Errors
+///
+/// `AllocError` where it couldn't be read because memory was refused.
 pub fn unread_reason(unread: Unread) -> Result<Reason, AllocError>
     ensures { IfOk result (λ r. (at : At) (path : List ℕ) → Holds at path r) }
 {
@@ -69,7 +73,8 @@ impl Walk {
 
     /// Names what is left out.
     fn leave(&mut self, path: Text, reason: Reason) -> Result<(), AllocError>
-        ensures grows { OnOk result ((at : At) → Holds at path reason → Grows at self.old self.new) }
+        ensures grows { OnOk result ((at : At) → Holds at path reason
+            → Grows at self.old self.new) }
         ensures covers { OnOk result ((at : At) → CoversFrom at self.new path) }
         ensures only { OnOk result ((at : At) → Stays at self.old self.new) }
     {

@@ -1,6 +1,7 @@
 //! A whole folder packed: from its walk to the input that is written.
 
-ghost use Rattle.std.specs.Prelude.{◌≡◌, ◌≢◌, ◌++◌, ◌∷◌, [], Bool, true, Err, IfErr, IfOk, OnErr, OnOk};
+ghost use Rattle.std.specs.Prelude.{◌≡◌, ◌≢◌, ◌++◌, ◌∷◌, [], Bool, true, Err, IfErr, IfOk, OnErr};
+ghost use Rattle.std.specs.Prelude.{OnOk};
 ghost use Rattle.std.specs.Io.KnownBytes.{Appends};
 ghost use Rattle.devices.specs.Devices.{Failed};
 ghost use Rattle.packing.specs.Packs.{Packs};
@@ -45,7 +46,8 @@ pub struct Packed {
 pub enum PackStop {
     /// The folder itself couldn't be read.
     Root(Unread),
-    /// The input would have too many bytes. These are the greatest of the files whose texts are used.
+    /// The input would have too many bytes. These are the greatest of the files whose texts are
+    /// used.
     TooLong(Vec<FileSize>),
     /// This is left out, and nothing may be.
     LeftOut(Vec<LeftOut>),
@@ -125,15 +127,16 @@ fn pack_folder<F: Folder>(folder: &F, alloc: Global) -> Result<Packed, PackStop>
 
 /// Packs a folder and writes the input: bytes that spell the workspace of its files ([`Packed`]).
 ///
-/// A file that has no place in a workspace is left out, and so is what can't be read; each is named. Where `strict`
-/// says so, nothing may be left out. `folder` is read by its names and texts; links, folders whose name begins with a
-/// dot, and `bazel-*` in the root are passed over.
+/// A file that has no place in a workspace is left out, and so is what can't be read; each is
+/// named. Where `strict` says so, nothing may be left out. `folder` is read by its names and texts;
+/// links, folders whose name begins with a dot, and `bazel-*` in the root are passed over.
 ///
 /// # Errors
 ///
-/// `Root` where the folder itself can't be read; `TooLong` where the input would be above the limit; `LeftOut` where
-/// something is left out that may not be; `Write` where the writer failed; `NoMemory` where memory was refused. Only
-/// after `Write` something was written, a beginning of the input.
+/// `Root` where the folder itself can't be read; `TooLong` where the input would be above the
+/// limit; `LeftOut` where something is left out that may not be; `Write` where the writer failed;
+/// `NoMemory` where memory was refused. Only after `Write` something was written, a beginning of
+/// the input.
 pub fn pack<F: Folder, K: Sink>(
     folder: &F,
     alloc: Global,

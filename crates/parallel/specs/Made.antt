@@ -1,5 +1,6 @@
 -- What calls of a function made, at the places of a list.
-use Rattle.std.specs.Prelude.{◌≡◌, ℕ, ◌<◌, List, length, slice_index_or, Option, Some, None, Result, Ok, IfOk, Vec}
+use Rattle.std.specs.Prelude.{◌≡◌, ℕ, ◌<◌, List, length, slice_index_or, Option, Some, None, Result}
+use Rattle.std.specs.Prelude.{Ok, IfOk, Vec}
 use Rattle.std.specs.List.{All}
 use Rattle.std.specs.Fn.{FnReturns}
 use denote.Param.Members.{Shared}
@@ -22,9 +23,12 @@ module _ {F X E : Type 0} (g : Shared F (ℕ × Unit {0}) (Result X E)) (f : F) 
   FitsSlot i None = Unit
   FitsSlot i (Some x) = MayGive i x
 
+  -- each slot is empty, or has what a call of f at its place may give
   abbrev pub FitSlots : List (Option X) → Type 0
   FitSlots os = (i : ℕ) (d : Option X) → i < length os → FitsSlot i (slice_index_or os i d)
 
   -- each item is what a call of f at its place may give
   abbrev pub AreGiven : List X → Type 0
-  AreGiven xs = (i : ℕ) (d : X) → i < length xs → (slice_index_or xs i d ≡ slice_index_or xs i d) × MayGive i (slice_index_or xs i d)
+  AreGiven xs =
+      (i : ℕ) (d : X) → i < length xs
+      → (slice_index_or xs i d ≡ slice_index_or xs i d) × MayGive i (slice_index_or xs i d)

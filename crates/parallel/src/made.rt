@@ -119,10 +119,12 @@ fn all_made<X: Drop, F: Fn(usize) -> Result<X, AllocError>>(
     Ok(all)
 }
 
-/// What `f` makes at each place below `count`, in order, made by so many threads at most: each takes the next place that none
-/// has taken. With fewer than two threads the thread that calls makes all.
+/// What `f` makes at each place below `count`, in order, made by so many threads at most: each
+/// takes the next place that none has taken. With fewer than two threads the thread that calls
+/// makes all.
 ///
-/// What a thread could not keep, since memory was refused, is made once more by the thread that calls.
+/// What a thread could not keep, since memory was refused, is made once more by the thread that
+/// calls.
 ///
 /// # Errors
 ///

@@ -8,7 +8,8 @@ use std::sync::atomic::{AtomicUsize, Ordering};
 /// A place, and what was made there.
 pub(crate) type Made<X> = (usize, X);
 
-/// Takes the next place that no thread has taken, until none below `count` is left, and calls `f` there.
+/// Takes the next place that no thread has taken, until none below `count` is left, and calls `f`
+/// there.
 pub(crate) fn take_turns<X: Drop, F: Fn(usize) -> Result<X, AllocError>>(
     alloc: Global,
     next: &AtomicUsize,

@@ -1,5 +1,5 @@
--- No linked files, and no place: what an evaluation has that stands alone. (That `provider`, `rule` and rules are called only in
--- their places, and are `place` elsewhere, is this project's own.)
+-- No linked files, and no place: what an evaluation has that stands alone. (That `provider`, `rule`
+-- and rules are called only in their places, and are `place` elsewhere, is this project's own.)
 use Rattle.std.specs.Prelude.{false, [], None, Err}
 use Rattle.ticks.specs.declared.ticks.Kind.TheVariants as kind
 use Rattle.operations.specs.Names.{Linked}

@@ -1,8 +1,10 @@
-//! What an evaluation stands in: the files that are linked with its own, and what only its place has.
+//! What an evaluation stands in: the files that are linked with its own, and what only its place
+//! has.
 //!
-//! [`Link`] is what is known of the linked files, all of which were evaluated before. [`Place`] is what only a module, a
-//! `BUILD` file or an implementation has: its own work, its calls, and what its targets and objects show. [`NoFiles`] and
-//! [`NoPlace`] are for an evaluation that stands alone.
+//! [`Link`] is what is known of the linked files, all of which were evaluated before. [`Place`] is
+//! what only a module, a `BUILD` file or an implementation has: its own work, its calls, and what
+//! its targets and objects show. [`NoFiles`] and [`NoPlace`] are for an evaluation that stands
+//! alone.
 #![tactic(auto)]
 
 mod link;

@@ -7,8 +7,8 @@ use plain::Text;
 use std::alloc::AllocError;
 use values::{Item, Value};
 
-/// What is known of the files that are linked, which live longer than the evaluation: what lies in them is lent. Files and
-/// functions are numbers; a number that no file has is none.
+/// What is known of the files that are linked, which live longer than the evaluation: what lies in
+/// them is lent. Files and functions are numbers; a number that no file has is none.
 pub trait Link<'a> {
     ghost linked: { Self → Linked };
 

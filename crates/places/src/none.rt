@@ -36,8 +36,8 @@ impl<'a> Link<'a> for NoFiles {
     }
 }
 
-/// Outside of modules, `BUILD` files and implementations: calls of `provider`, of `rule` and of rules are `place`, and
-/// nothing has a field or a method.
+/// Outside of modules, `BUILD` files and implementations: calls of `provider`, of `rule` and of
+/// rules are `place`, and nothing has a field or a method.
 #[derive(Clone, Copy)]
 pub struct NoPlace;
 

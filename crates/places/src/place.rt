@@ -18,11 +18,11 @@ pub trait Works {
     type Work;
 }
 
-/// A module, a `BUILD` file or an implementation: its calls, and what its targets and objects show. What lies in what lives
-/// longer than the evaluation is lent.
+/// A module, a `BUILD` file or an implementation: its calls, and what its targets and objects show.
+/// What lies in what lives longer than the evaluation is lent.
 ///
-/// Each method gives what the place gives, with the state after it, or the fault that it has. Where memory was refused
-/// nothing is said.
+/// Each method gives what the place gives, with the state after it, or the fault that it has. Where
+/// memory was refused nothing is said.
 pub trait Place<'a>: Works {
     ghost place: { Self → Having Self.Work };
 
@@ -71,7 +71,8 @@ pub trait Place<'a>: Works {
         target: usize,
         provider: Item<'_>,
     ) -> Result<Operand<'a>, Broken>
-        ensures { Reads ((place self.now).item target (item_value provider.entry) whole.now) result };
+        ensures { Reads
+            ((place self.now).item target (item_value provider.entry) whole.now) result };
 
     /// `P in t` of the target at a place among the dependencies.
     fn offers(
@@ -80,5 +81,6 @@ pub trait Place<'a>: Works {
         target: usize,
         provider: Item<'_>,
     ) -> Result<bool, Broken>
-        ensures { Reads ((place self.now).offers target (item_value provider.entry) whole.now) result };
+        ensures { Reads
+            ((place self.now).offers target (item_value provider.entry) whole.now) result };
 }

@@ -3,7 +3,12 @@ ghost use Rattle.std.specs.Prelude.{◌≡◌, ◌++◌, ◌∷◌, [], OnOk, On
 
 use std::alloc::AllocError;
 
-/// Puts an item last. Where room was taken for it before, it looks for no more. After a refusal of memory all is as it was.
+/// Puts an item last. Where room was taken for it before, it looks for no more. After a refusal of
+/// memory all is as it was.
+///
+/// # Errors
+///
+/// `AllocError` where there was no room and memory for it was refused.
 #[inline(always)]
 pub fn push_last<T: Drop>(items: &mut Vec<T>, item: T) -> Result<(), AllocError>
     ensures ok { OnOk result (items.new.items ≡ items.old.items ++ item ∷ []) }

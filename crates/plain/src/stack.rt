@@ -1,6 +1,7 @@
 //! A stack, seen from its top.
 
-ghost use Rattle.std.specs.Prelude.{◌≡◌, ◌<◌, List, [], ◌∷◌, length, reverse, IfOk, IfErr, MatchOption};
+ghost use Rattle.std.specs.Prelude.{◌≡◌, ◌<◌, List, [], ◌∷◌, length, reverse, IfOk, IfErr};
+ghost use Rattle.std.specs.Prelude.{MatchOption};
 
 use std::alloc::{AllocError, Global};
 use std::marker::Model;
@@ -51,14 +52,16 @@ impl<T: Copy> Stack<T> {
 
     /// The item at the top, which stays.
     pub fn top(&self) -> Option<T>
-        ensures { MatchOption result (self.now ≡ []) (λ x. (rest : List T) × (self.now ≡ x ∷ rest)) }
+        ensures { MatchOption result (self.now ≡ [])
+            (λ x. (rest : List T) × (self.now ≡ x ∷ rest)) }
     {
         self.items.last().copied()
     }
 
     /// Takes the item off the top.
     pub fn pop(&mut self) -> Option<T>
-        ensures { MatchOption result ((self.old ≡ []) × (self.new ≡ [])) (λ x. self.old ≡ x ∷ self.new) }
+        ensures { MatchOption result ((self.old ≡ []) × (self.new ≡ []))
+            (λ x. self.old ≡ x ∷ self.new) }
     {
         self.items.pop()
     }

@@ -1,7 +1,7 @@
 //! Texts that never change, shared by all who name them.
 //!
-//! To a contract a `Text` is the list of its bytes. It is kept behind one counted pointer, so that a
-//! second name of a text costs a count and not a copy, also from another thread. A short one lies
+//! To a contract a `Text` is the list of its bytes. It is kept behind one counted pointer, so that
+//! a second name of a text costs a count and not a copy, also from another thread. A short one lies
 //! beside its count: it is one allocation.
 ghost use Rattle.std.specs.Prelude.{◌≡◌, ◌↔◌, [], length, string_bytes, IfOk, IsTrue};
 

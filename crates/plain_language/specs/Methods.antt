@@ -17,14 +17,17 @@ use Rattle.operations.specs.States.{Op}
 use Rattle.operations.specs.declared.method.Method.{Method}
 use Rattle.operations.specs.declared.method.Method.TheVariants as method
 
--- a new list of the depset's elements: the walk of its whole tree, and of each element the first occurrence
+-- a new list of the depset's elements: the walk of its whole tree, and of each element the first
+-- occurrence
 abbrev pub to_list : Rose Own → Op Value
 to_list d s = new_list (map element_value (flat d)) s
 
+-- `to_list()` of a depset, which takes no argument; of any other value it is `type`
 abbrev pub of_depset : Option (Rose Own) → List Value → Op Value
 of_depset (Some d) vs s = with_none (to_list d) vs s
 of_depset None vs s = Err kind.Wrong
 
+-- the same, of a value with the positions that a call gives, or the fault of its arguments
 abbrev pub listed_with : Result (List Value) Kind → Value → Op Value
 listed_with (Ok vs) v s = of_depset (depset_in (shape s.heap v)) vs s
 listed_with (Err k) v s = Err k

@@ -14,9 +14,10 @@ use Rattle.pool.specs.declared.worker.Ending.TheVariants as E
 abbrev pub AreEnds : {E : Type 0} → (E → ℕ) → ℕ → List E → Type 0
 AreEnds nodes count ends = All (λ e. nodes e ≡ count) ends
 
--- With these ends and passes workers can run: 1 to 64 ends of a shelf for so many nodes, and all passes of the board,
--- one more than there are ends, of which none has done anything.
-pub record CanRun {E V : Type 0} (nodes : E → ℕ) (graph : ℕ) (b : BoardView) (ends : List E) (passes : List (PassView V)) : Type 0 where
+-- With these ends and passes workers can run: 1 to 64 ends of a shelf for so many nodes, and all
+-- passes of the board, one more than there are ends, of which none has done anything.
+pub record CanRun {E V : Type 0} (nodes : E → ℕ) (graph : ℕ) (b : BoardView) (ends : List E)
+    (passes : List (PassView V)) : Type 0 where
   pub shelves : AreEnds nodes graph ends
   pub some : 0 < length ends
   pub most : length ends < 65
@@ -62,4 +63,5 @@ module _ {V : Type 0} (step : ℕ → List V → V) (fits : ℕ → List V → T
   pub record IsGathering (ps : List (PassView V)) : Type 0 where
     pub count : length ps ≡ b.passes
     pub quiet : All IsQuiet ps
-    pub worker : (before : List (PassView V)) × (p : PassView V) × (rest : List (PassView V)) × (ps ≡ before ++ p ∷ rest) × EndedWell p.journal
+    pub worker : (before : List (PassView V)) × (p : PassView V) × (rest : List (PassView V))
+        × (ps ≡ before ++ p ∷ rest) × EndedWell p.journal

@@ -1,4 +1,5 @@
--- What a run found: a value for each node that ran, and the outcome of those that are cyclic. No worker, order or number of threads stands here.
+-- What a run found: a value for each node that ran, and the outcome of those that are cyclic. No
+-- worker, order or number of threads stands here.
 use Rattle.std.specs.Prelude.{◌≡◌, ℕ, ◌<◌, List, length, unwrap_or}
 use Rattle.board.specs.Views.{ClosedView, told}
 use Rattle.edges.specs.Rows.{row}
@@ -14,8 +15,10 @@ pub record GatheredView (V : Type 0) : Type 0 where
 abbrev pub outcome_in : {V : Type 0} → GatheredView V → ℕ → V
 outcome_in g n = unwrap_or (told g.closed n) g.cycle
 
-module _ {V : Type 0} (cycle : V) (step : ℕ → List V → V) (fits : ℕ → List V → Type 0) (deps : List (List ℕ)) where
-  -- A run that gathered g found the outcome of each node, which is by recursion along edges, wherever the outcomes of all dependencies fit.
+module _ {V : Type 0} (cycle : V) (step : ℕ → List V → V) (fits : ℕ → List V → Type 0)
+    (deps : List (List ℕ)) where
+  -- A run that gathered g found the outcome of each node, which is by recursion along edges,
+  -- wherever the outcomes of all dependencies fit.
   abbrev pub HasOutcomes : GatheredView V → Type 0
   HasOutcomes g =
       AllFit (row deps) (λ _. cycle) step fits (outcome_of deps (λ _. cycle) step)

@@ -22,13 +22,17 @@ pub trait Analyse<V>: Sync {
 
     /// The outcome of a cyclic node. No worker is asked for it.
     ///
-    /// `NoMemory` comes where the allocator refuses memory.
+    /// # Errors
+    ///
+    /// `NoMemory` where memory was refused.
     fn cyclic(&self, alloc: Global) -> Result<V, NoMemory>
         ensures cycle { IfOk result (λ v. v ≡ cycle self.now) };
 
     /// The outcome of the node, where `values` are the outcomes of its dependencies, in order.
     ///
-    /// `NoMemory` comes where the allocator refuses memory.
+    /// # Errors
+    ///
+    /// `NoMemory` where memory was refused.
     fn analyse_one(&self, alloc: Global, n: NodeId, values: &[&V]) -> Result<V, NoMemory>
         requires node { n < nodes self.now }
         ensures step { let us = map (λ r. r.now) values.now in

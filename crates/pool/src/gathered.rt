@@ -60,8 +60,8 @@ impl<V> Gathered<V> {
         }
     }
 
-    /// The board at its end: each node that is not cyclic has a value, under its own number, none is
-    /// left, and nobody set the halt.
+    /// The board at its end: each node that is not cyclic has a value, under its own number, none
+    /// is left, and nobody set the halt.
     pub fn closed(&self) -> &Closed<V>
         ensures value { result.now ≡ self.now.closed }
         ensures whole { IsWhole result.now }

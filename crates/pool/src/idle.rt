@@ -9,11 +9,12 @@ use std::thread;
 ///
 /// They are woken as nodes come on the shelf, and all of them once no node is left or the halt is
 /// set. One worker stays awake whatever happens, and goes on looking: so a run never stands still
-/// because all workers sleep, with whatever shelf. A worker that is alone never sleeps, and where it is not, all
-/// start: so each counts as awake from the beginning.
+/// because all workers sleep, with whatever shelf. A worker that is alone never sleeps, and where
+/// it is not, all start: so each counts as awake from the beginning.
 ///
-/// They are woken one after the other: once a worker was called for, nobody calls another until one has told that it
-/// will sleep, and looks once more before it does, or has found a node after that, and then it calls the next.
+/// They are woken one after the other: once a worker was called for, nobody calls another until one
+/// has told that it will sleep, and looks once more before it does, or has found a node after that,
+/// and then it calls the next.
 #[derive(Drop)]
 pub struct Idle {
     sleepers: EventCount,
@@ -33,7 +34,8 @@ impl Idle {
         }
     }
 
-    /// Wakes a worker, if one sleeps and none was called for that hasn't answered. Call it after a node came on the shelf.
+    /// Wakes a worker, if one sleeps and none was called for that hasn't answered. Call it after a
+    /// node came on the shelf.
     pub fn wake_one(&self) {
         if !self.is_called.load(Ordering::SeqCst) {
             self.is_called.store(true, Ordering::SeqCst);
@@ -41,20 +43,21 @@ impl Idle {
         }
     }
 
-    /// A worker answers: it has found a node, or looks once more before it sleeps. The next node calls for another.
+    /// A worker answers: it has found a node, or looks once more before it sleeps. The next node
+    /// calls for another.
     fn answer(&self) {
         self.is_called.store(false, Ordering::SeqCst);
     }
 
-    /// The run is over: tells so, and wakes all workers. Call it after the halt was set, or once no node is
-    /// left.
+    /// The run is over: tells so, and wakes all workers. Call it after the halt was set, or once no
+    /// node is left.
     pub fn call_off(&self) {
         self.is_over.store(true, Ordering::SeqCst);
         self.sleepers.notify_all();
     }
 
-    /// Whether the run was called off. So a worker that has nodes need not look at the words of the board that
-    /// all workers change.
+    /// Whether the run was called off. So a worker that has nodes need not look at the words of the
+    /// board that all workers change.
     pub fn is_over(&self) -> bool {
         self.is_over.load(Ordering::SeqCst)
     }
@@ -114,7 +117,8 @@ impl<'i> Rest<'i> {
         self.backoff.snooze();
     }
 
-    /// The worker has a node. If it may have been called for there can be more, for which it wakes another.
+    /// The worker has a node. If it may have been called for there can be more, for which it wakes
+    /// another.
     pub fn end(&mut self) {
         self.backoff.reset();
         self.key = None;

@@ -32,7 +32,9 @@ impl<'g> Plan for Acyclic<'g> {
 
 /// A board for the nodes of the graph that are not cyclic, and so many passes of it.
 ///
-/// It fails where the allocator refuses memory.
+/// # Errors
+///
+/// `NoMemory` where memory was refused.
 pub fn open_board<V: Drop>(
     alloc: Global,
     graph: &Edges,

@@ -26,16 +26,20 @@ pub enum Refused {
     NoThread,
 }
 
-/// The outcome of every node of the graph, by so many workers, from 1 to 64, with a deque each. One of them
-/// runs in the thread that calls, whose stack should be as large as those of the others: 2 MiB.
+/// The outcome of every node of the graph, by so many workers, from 1 to 64, with a deque each. One
+/// of them runs in the thread that calls, whose stack should be as large as those of the others: 2
+/// MiB.
 ///
 /// Whenever it answers `Ok`, the outcomes are those along edges: whatever the number of workers,
 /// whichever of them ran which node, and whatever the gate does. Cyclic nodes have theirs without a
-/// worker. No more workers start than there are nodes that are not cyclic, but one always does; the others start
-/// once there may be nodes for them.
-/// `NoMemory` comes where the allocator refuses memory, also to a worker; `NoThread` where a thread
-/// was refused, or the memory to start it. In either case all workers are joined, and nothing is
-/// kept.
+/// worker. No more workers start than there are nodes that are not cyclic, but one always does; the
+/// others start once there may be nodes for them.
+///
+/// # Errors
+///
+/// `NoMemory` where memory was refused, also to a worker; `NoThread` where a thread was refused, or
+/// the memory to start it, and no worker was refused memory. In either case all workers are joined,
+/// and nothing is kept.
 pub fn run<V, A, G, R>(
     rt: &R,
     alloc: Global,
@@ -67,6 +71,10 @@ where
 ///
 /// It promises what [`run`] does, for every shelf and 1 to 64 ends of it. Where there are more ends
 /// than nodes that are not cyclic, it lets those at the back go.
+///
+/// # Errors
+///
+/// As for [`run`].
 pub fn run_on<V, A, S, G, R>(
     rt: &R,
     alloc: Global,

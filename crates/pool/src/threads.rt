@@ -1,5 +1,5 @@
-//! Workers, one an end: one in the thread that calls, the others in threads of their own, once there may be nodes for
-//! them; and their passes back from them.
+//! Workers, one an end: one in the thread that calls, the others in threads of their own, once
+//! there may be nodes for them; and their passes back from them.
 ghost use Rattle.std.specs.Prelude.{◌≡◌, ◌+◌, ◌<◌, ◌≤◌, true, false, [], ◌∷◌, ◌++◌, length};
 ghost use Rattle.std.specs.Prelude.{MatchBool, MatchOption, IfOk, IfSome, vec_len, vec_capacity};
 ghost use Rattle.std.specs.Bool.{OnTrue};
@@ -21,9 +21,9 @@ use std::sync::Wait;
 use std::thread;
 use std::thread::{Promise, PromisedHandle, Scope, Threads};
 
-/// The stack of a worker's thread, in bytes. Nothing that a worker runs recurses by the length of an
-/// input: values are at most 64 levels deep and depsets at most 1,000, and such a depset is made,
-/// listed and let go on an eighth of this.
+/// The stack of a worker's thread, in bytes. Nothing that a worker runs recurses by the length of
+/// an input: values are at most 64 levels deep and depsets at most 1,000, and such a depset is
+/// made, listed and let go on an eighth of this.
 const STACK: usize = 2 * 1024 * 1024;
 
 /// What a worker's thread promises: its pass is of the board, each node that it finished has the
@@ -166,8 +166,8 @@ where
     (passes, well)
 }
 
-/// The turns of the worker in this thread while it is alone. `None` says that there may be nodes for others: so
-/// it is from the beginning where more than one node depends on none.
+/// The turns of the worker in this thread while it is alone. `None` says that there may be nodes
+/// for others: so it is from the beginning where more than one node depends on none.
 fn work_alone<'s, V, A, S, G, R>(
     site: &'s Site<'s, V, A, G, R>,
     end: &mut S,
@@ -195,7 +195,8 @@ where
     take_turns(site, end, pass, true)
 }
 
-/// All passes: those of the others, and behind them the run's own, and the one of the worker in this thread.
+/// All passes: those of the others, and behind them the run's own, and the one of the worker in
+/// this thread.
 fn with_own<V>(mut passes: Vec<Pass<V>>, own: Pass<V>, pass: Pass<V>) -> Vec<Pass<V>>
     requires room { vec_len passes + 1 < vec_capacity passes }
     ensures { result.items ≡ (passes.items ++ own ∷ []) ++ pass ∷ [] }
@@ -205,7 +206,8 @@ fn with_own<V>(mut passes: Vec<Pass<V>>, own: Pass<V>, pass: Pass<V>) -> Vec<Pas
     passes
 }
 
-/// All passes, after the worker in this thread has gone on beside others, each in a thread of its own.
+/// All passes, after the worker in this thread has gone on beside others, each in a thread of its
+/// own.
 fn with_others<'s, E, V, A, S, G, R>(
     scope: &Scope<'s, E>,
     site: &'s Site<'s, V, A, G, R>,
@@ -253,9 +255,9 @@ where
     Ok(with_own(back, own, pass))
 }
 
-/// All passes, after all workers have ended. The worker at the last end runs in this thread, and its pass comes
-/// last: what the last pass knows is where a board that is closed gathers the rest. The others start once there may
-/// be nodes for them.
+/// All passes, after all workers have ended. The worker at the last end runs in this thread, and
+/// its pass comes last: what the last pass knows is where a board that is closed gathers the rest.
+/// The others start once there may be nodes for them.
 ///
 /// `NoMemory` comes where a worker was refused memory or there was none for the passes, `NoThread`
 /// where a thread was refused, or the memory to start it, and none of this was. All workers that
@@ -288,6 +290,11 @@ where
 }
 
 /// The same, in a scope of its own.
+///
+/// # Errors
+///
+/// `NoMemory` where a worker was refused memory or there was none for the passes; `NoThread` where
+/// a thread was refused, or the memory to start it, and none of this was.
 pub fn in_threads<'x, V, A, S, G, R>(
     site: &'x Site<'x, V, A, G, R>,
     ends: Vec<S>,

@@ -82,7 +82,8 @@ fn wait_for<'b, V, R: Wait>(
     unreachable!()
 }
 
-/// The value of a node that was started, which is nearly always there; `None` where the halt was seen.
+/// The value of a node that was started, which is nearly always there; `None` where the halt was
+/// seen.
 fn value_of<'b, V, R: Wait>(
     rt: &R,
     board: &'b Board<V>,
@@ -206,8 +207,9 @@ fn deliver_one<V, S: Shelf>(
 
 /// Delivers a published node to all its users, and puts those that can be started now on the shelf.
 ///
-/// For each of these but one it wakes a worker: the one is for this worker, which looks next. Where its shelf gives others
-/// before, it wakes one for each. True says that there is one for another worker.
+/// For each of these but one it wakes a worker: the one is for this worker, which looks next. Where
+/// its shelf gives others before, it wakes one for each. True says that there is one for another
+/// worker.
 fn deliver_all<V, S: Shelf>(
     board: &Board<V>,
     graph: &Edges,
@@ -291,8 +293,8 @@ fn complete<V: Drop, A: Analyse<V>, S: Shelf, G: Gate, R: Wait>(
     }
 }
 
-/// The whole work on a node that this pass has started. True says that it made a node ready for another
-/// worker.
+/// The whole work on a node that this pass has started. True says that it made a node ready for
+/// another worker.
 fn work<'s, V: Drop, A: Analyse<V>, S: Shelf, G: Gate, R: Wait>(
     site: &Site<'s, V, A, G, R>,
     shelf: &mut S,
@@ -365,8 +367,8 @@ fn seen_end<V, A: Analyse<V>, G, R>(site: &Site<V, A, G, R>, pass: &mut Pass<V>)
 /// Takes nodes from the shelf and works on those that can be started, until no node is left, the
 /// halt is seen, or memory is refused. In the last case it sets the halt.
 ///
-/// A worker that is alone also ends its turns, with `None`, once there may be something for others: it
-/// made more than one node ready, or found none that it could start.
+/// A worker that is alone also ends its turns, with `None`, once there may be something for others:
+/// it made more than one node ready, or found none that it could start.
 ///
 /// It asks the board for an end where it found no node, or where another has seen or set one.
 pub fn take_turns<V: Drop, A: Analyse<V>, S: Shelf, G: Gate, R: Wait>(

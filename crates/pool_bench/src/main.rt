@@ -1,6 +1,6 @@
 //! Times whole runs of `pool`: how long a board takes to open and to close, and a run between, for
-//! chains, layers and nodes without edges, by 1, 2, 4 and 64 workers, on a deque a worker and on one
-//! locked queue.
+//! chains, layers and nodes without edges, by 1, 2, 4 and 64 workers, on a deque a worker and on
+//! one locked queue.
 //!
 //! Without words it runs small graphs and prints whether all workers found the same outcomes, which
 //! never changes. With `time` it prints for each row the milliseconds of opening and closing, and

@@ -176,7 +176,8 @@ fn open_and_close<R: Clock>(
     Ok((opened, time))
 }
 
-/// How many nanoseconds the graph of a row takes to be made, its rows among it, and how many edges it has.
+/// How many nanoseconds the graph of a row takes to be made, its rows among it, and how many edges
+/// it has.
 fn graph_times<R: Clock>(rt: &R, alloc: Global, row: &Row) -> io::Result<Option<(u128, usize)>> {
     let start = Instant::now(rt)?;
     let Some(graph) = graph_of(alloc, row)? else {

@@ -7,7 +7,10 @@ plus a b = (a + b) % 2 ^ 64
 
 -- a number from the outcomes of the first and the last dependency
 abbrev pub mixed : ℕ → List ℕ → ℕ
-mixed n us = plus n (plus (plus (slice_index_or us 0 0) (slice_index_or us 0 0)) (slice_index_or us (length us - 1) 0))
+mixed n us =
+    plus n
+    (plus (plus (slice_index_or us 0 0) (slice_index_or us 0 0))
+    (slice_index_or us (length us - 1) 0))
 
 -- the texts one after the other
 abbrev pub joined : List (List ℕ) → List ℕ

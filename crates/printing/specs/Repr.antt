@@ -1,6 +1,8 @@
--- What `str` gives: the text of a value, which is visited from the outside in and from left to right.
--- (Starlark's specification, "str" and "repr"; ticks, depth, size and what has no text are this project's own.)
-use Rattle.std.specs.Prelude.{◌≡◌, MatchResult, ℕ, zero, suc, Bool, true, false, List, ◌++◌, length, Option, Some, None, Result, Ok, Err, if◌then◌else◌, nat_lt, codes}
+-- What `str` gives: the text of a value, which is visited from the outside in and from left to
+-- right. (Starlark's specification, "str" and "repr"; ticks, depth, size and what has no text are
+-- this project's own.)
+use Rattle.std.specs.Prelude.{◌≡◌, MatchResult, ℕ, zero, suc, Bool, true, false, List, ◌++◌, length}
+use Rattle.std.specs.Prelude.{Option, Some, None, Result, Ok, Err, if◌then◌else◌, nat_lt, codes}
 use Rattle.depsets.specs.Listed.{flat}
 use Rattle.ticks.specs.Ticking.{Count, Ticking, after_tick, then_on, with_count, entered, FaultOr}
 use Rattle.values.specs.Visits.{all_of}
@@ -25,12 +27,15 @@ has_text (plain.Label s) = true
 has_text (plain.File f) = true
 has_text _ = false
 
+-- the text of a leaf that has one, and `type` of any other
 abbrev pub printed_leaf : Leaf → Result (List ℕ) Kind
 printed_leaf l = if has_text l then Ok (leaf_text flat l) else Err Wrong
 
 -- the visit of a key, and then the text of its value behind that of the key
-abbrev pub printed_entry : (Count → Result Count Kind) → (Value → Count → Ticking (List ℕ)) → Key × Value → Count → Ticking (List ℕ)
-printed_entry visit print e c = after_tick (visit c) (λ d. then_on (print e.1 d) (λ t f. Ok (entry_head e.0 ++ t, f)))
+abbrev pub printed_entry : (Count → Result Count Kind) → (Value → Count → Ticking (List ℕ))
+    → Key × Value → Count → Ticking (List ℕ)
+printed_entry visit print e c =
+    after_tick (visit c) (λ d. then_on (print e.1 d) (λ t f. Ok (entry_head e.0 ++ t, f)))
 
 -- how the text of a list or of a tuple begins
 abbrev pub opening : Bool → List ℕ
@@ -50,24 +55,30 @@ commas r = then_on r (λ ts d. Ok (joined ts, d))
 abbrev pub enclosed : List ℕ → List ℕ → Ticking (List ℕ) → Ticking (List ℕ)
 enclosed before behind r = then_on r (λ t d. Ok (before ++ t ++ behind, d))
 
--- The text of what a value shows. A key of a dict is visited before its value; instances have no text here.
-abbrev pub printed : (Count → Result Count Kind) → (Value → Count → Ticking (List ℕ)) → Shape → Count → Ticking (List ℕ)
+-- The text of what a value shows. A key of a dict is visited before its value; instances have no
+-- text here.
+abbrev pub printed : (Count → Result Count Kind) → (Value → Count → Ticking (List ℕ)) → Shape
+    → Count → Ticking (List ℕ)
 printed visit print (key k) c = Ok (key_text k, c)
 printed visit print (atom l) c = with_count (printed_leaf l) c
-printed visit print (items j xs) c = enclosed (opening j) (closing j (length xs)) (commas (all_of print xs c))
-printed visit print (entries es) c = enclosed (codes "{") (codes "}") (commas (all_of (printed_entry visit print) es c))
+printed visit print (items j xs) c =
+    enclosed (opening j) (closing j (length xs)) (commas (all_of print xs c))
+printed visit print (entries es) c =
+    enclosed (codes "{") (codes "}") (commas (all_of (printed_entry visit print) es c))
 printed visit print (fields p xs) c = Err Wrong
 printed visit print nothing c = Err Wrong
 
 -- A value is one tick; then it is `deep` where no level is left; then its type decides.
 unfoldable pub print_at : ℕ → List Cell → Value → Count → Ticking (List ℕ)
 print_at zero h v c = after_tick (entered zero c) (λ d. Err Deep)
-print_at (suc n) h v c = after_tick (entered (suc n) c) (λ d. printed (entered n) (print_at n h) (shape h v) d)
+print_at (suc n) h v c =
+    after_tick (entered (suc n) c) (λ d. printed (entered n) (print_at n h) (shape h v) d)
 
 -- a string, unless it has too many bytes for one
 abbrev pub fits : List ℕ → Result (List ℕ) Kind
 fits s = if nat_lt LARGEST_TEXT (length s) then Err Large else Ok s
 
+-- the string that a key is, if it is one
 abbrev pub string_key : Key → Option (List ℕ)
 string_key (index.Text s) = Some s
 string_key _ = None
@@ -77,6 +88,7 @@ abbrev pub string_in : Shape → Option (List ℕ)
 string_in (key k) = string_key k
 string_in _ = None
 
+-- the string, where there is one, in place of the text
 abbrev pub itself : Option (List ℕ) → List ℕ → List ℕ
 itself (Some s) t = s
 itself None t = t
@@ -85,7 +97,8 @@ itself None t = t
 abbrev pub whole_at : ℕ → List Cell → Value → Count → Ticking (List ℕ)
 whole_at n h v c = then_on (print_at n h v c) (λ t d. Ok (itself (string_in (shape h v)) t, d))
 
--- What `str` gives: all of the value is visited, and then it is `large` if it has too many bytes for a string.
+-- What `str` gives: all of the value is visited, and then it is `large` if it has too many bytes
+-- for a string.
 abbrev pub repr_of : List Cell → Value → Count → Ticking (List ℕ)
 repr_of h v c = then_on (whole_at VISITED_LEVELS h v c) (λ t d. with_count (fits t) d)
 
@@ -93,6 +106,8 @@ repr_of h v c = then_on (whole_at VISITED_LEVELS h v c) (λ t d. with_count (fit
 abbrev pub appended : List ℕ → Ticking (List ℕ) → Ticking (Result (List ℕ) Kind)
 appended before r = then_on r (λ t d. Ok (fits (before ++ t), d))
 
--- A call that appends a text appends what the definition gives. What has too many bytes for a string already may stay.
+-- A call that appends a text appends what the definition gives. What has too many bytes for a
+-- string already may stay.
 abbrev pub Prints : Ticking (List ℕ) → Result (Unit {0}) Broken → List ℕ → List ℕ → Count → Type 0
-Prints r result old new now = MatchResult result (λ _. appended old r ≡ Ok (fits new, now)) (λ e. FaultOr r e)
+Prints r result old new now =
+    MatchResult result (λ _. appended old r ≡ Ok (fits new, now)) (λ e. FaultOr r e)

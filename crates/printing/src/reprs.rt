@@ -1,14 +1,18 @@
 //! `str`: the text of a value in the language, with ticks.
 //!
-//! All of a value is visited before the size of its text is looked at. What comes after more bytes than a string
-//! may have isn't written: so a value that holds one large string many times takes no more memory than a few of them.
-ghost use Rattle.std.specs.Prelude.{◌≡◌, ◌++◌, true, Ok, codes, length, nat_lt, option_copied, string_bytes, MatchResult, OnOk};
+//! All of a value is visited before the size of its text is looked at. What comes after more bytes
+//! than a string may have isn't written: so a value that holds one large string many times takes no
+//! more memory than a few of them.
+ghost use Rattle.std.specs.Prelude.{◌≡◌, ◌++◌, true, Ok, codes, length, nat_lt, option_copied};
+ghost use Rattle.std.specs.Prelude.{string_bytes, MatchResult, OnOk};
 ghost use Rattle.depsets.specs.Listed.{flat};
 ghost use Rattle.ticks.specs.Ticking.{FaultOr, after_tick, with_count, entered};
 ghost use Rattle.values.specs.Visits.{all_of};
 ghost use Rattle.values.specs.Seeing.{seen, item_value, group_items, table_entries};
 ghost use Rattle.leaf_texts.specs.Texts.{separator, leaf_text, key_text, entry_head};
-ghost use Rattle.printing.specs.Repr.{has_text, printed_leaf, printed_entry, opening, closing, commas, enclosed, printed, print_at, fits, string_in, string_key, whole_at, repr_of, Prints};
+ghost use Rattle.printing.specs.Repr.{has_text, printed_leaf, printed_entry, opening, closing};
+ghost use Rattle.printing.specs.Repr.{commas, enclosed, printed, print_at, fits, string_in};
+ghost use Rattle.printing.specs.Repr.{string_key, whole_at, repr_of, Prints};
 
 use heap::Heap;
 use leaf_texts::{end_of_tuple, put_key, put_leaf, put_separator};
@@ -19,14 +23,15 @@ use values::{Broken, Group, Item, Key, Kind, Leaf, Seen, Table, Ticks, VISITED_L
 /// How many bytes a string has at most. (This project's own limit.)
 pub const LARGEST_TEXT: usize = 1_048_576;
 
-/// What `str` gives: of a string the string itself, and of every other value its text. Each value that is visited
-/// costs a tick, a key of a dict too.
+/// What `str` gives: of a string the string itself, and of every other value its text. Each value
+/// that is visited costs a tick, a key of a dict too.
 ///
 /// # Errors
 ///
-/// `steps` at the tick past the limit; `deep` at a value at depth 65; `type` at a value that is no None, bool,
-/// number, string, list, tuple, dict, label or File; each value is tested in this order. At the end `large`
-/// where there are more than `LARGEST_TEXT` bytes. After a `Broken` the ticks are open.
+/// `steps` at the tick past the limit; `deep` at a value at depth 65; `type` at a value that is no
+/// None, bool, number, string, list, tuple, dict, label or File; each value is tested in this
+/// order. At the end `large` where there are more than `LARGEST_TEXT` bytes. After a `Broken` the
+/// ticks are open.
 pub fn repr(alloc: Global, item: Item<'_>, heap: &Heap, ticks: &mut Ticks) -> Result<String, Broken>
     ensures { MatchResult result (λ s. repr_of heap.now (item_value item.entry) ticks.old
         ≡ Ok (string_bytes s, ticks.new)) (λ e. FaultOr

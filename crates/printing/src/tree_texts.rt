@@ -1,10 +1,12 @@
 //! The text of a frozen value, for a report: without ticks, and without a limit of size.
-ghost use Rattle.std.specs.Prelude.{◌≡◌, ◌<◌, ◌++◌, Some, length, slice_get, string_bytes, IfOk, OnOk};
+ghost use Rattle.std.specs.Prelude.{◌≡◌, ◌<◌, ◌++◌, Some, length, slice_get, string_bytes, IfOk};
+ghost use Rattle.std.specs.Prelude.{OnOk};
 ghost use Rattle.depsets.specs.Listed.{walked};
 ghost use Rattle.values.specs.Tree.{trees, pairs, slots};
 ghost use Rattle.values.specs.View.{tree_of, node_branch};
 ghost use Rattle.leaf_texts.specs.Texts.{joined, entry_head};
-ghost use Rattle.printing.specs.TreeTexts.{text_by, branch_text_by, texts_by, pair_texts_by, field_texts_by, text_of, IsCoherentTree};
+ghost use Rattle.printing.specs.TreeTexts.{text_by, branch_text_by, texts_by, pair_texts_by};
+ghost use Rattle.printing.specs.TreeTexts.{field_texts_by, text_of, IsCoherentTree};
 
 use indexmap::IndexSet;
 use leaf_texts::{end_of_tuple, put_field_head, put_key, put_leaf, put_provider, put_separator};
@@ -14,8 +16,8 @@ use values::{Frozen, Held, Key, Node, key_at, tree_at};
 
 /// The text of a frozen value, as a report prints it. A depset is printed by its whole listing.
 ///
-/// Of any value that is the walk which skips ids; of a coherent one, where two parts of a depset with one id are the same, it is
-/// the plain listing.
+/// Of any value that is the walk which skips ids; of a coherent one, where two parts of a depset
+/// with one id are the same, it is the plain listing.
 ///
 /// # Errors
 ///
@@ -56,6 +58,10 @@ fn name_at(names: &[Text], place: usize) -> &Text
 }
 
 /// Appends a frozen value.
+///
+/// # Errors
+///
+/// `AllocError` where memory was refused.
 #[cycle(text)]
 pub fn put_tree(alloc: Global, out: &mut String, tree: &Frozen) -> Result<(), AllocError>
     ensures { OnOk result (string_bytes out.new ≡ string_bytes out.old ++ text_by walked tree.now) }

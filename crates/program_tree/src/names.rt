@@ -1,7 +1,8 @@
 //! What names stand for, and those that each file finds bound.
 
 ghost use Rattle.std.specs.Prelude.{◌≡◌};
-ghost use Rattle.program_tree.specs.Names.{predeclared_value, predeclared_function, predeclared_for_rules, predeclared};
+ghost use Rattle.program_tree.specs.Names.{predeclared_value, predeclared_function};
+ghost use Rattle.program_tree.specs.Names.{predeclared_for_rules, predeclared};
 
 /// What each file finds bound, whatever it binds itself.
 #[derive(Clone, Copy, PartialEq, Eq, Debug)]
@@ -37,9 +38,9 @@ pub enum Predeclared {
 /// What a name stands for.
 #[derive(Clone, Copy, PartialEq, Eq, Debug)]
 pub enum Binding {
-    /// A slot of the function or of the top level around: its own, or one of the comprehensions around. The parameters of a
-    /// function have its first slots, then the names that its lines bind, each once, by their first bindings; those of a
-    /// comprehension stand behind them.
+    /// A slot of the function or of the top level around: its own, or one of the comprehensions
+    /// around. The parameters of a function have its first slots, then the names that its lines
+    /// bind, each once, by their first bindings; those of a comprehension stand behind them.
     Slot(usize),
     /// A name of the file's top level, counted by first bindings. Those that are loaded come first.
     Global(usize),
@@ -84,8 +85,9 @@ fn predeclared_for_rules(name: &str) -> Option<Predeclared>
     }
 }
 
-/// What a name stands for in each file that doesn't bind it; None where it isn't predeclared. The names are those of the
-/// Starlark specification and of Bazel's documentation that this project's profile has.
+/// What a name stands for in each file that doesn't bind it; None where it isn't predeclared. The
+/// names are those of the Starlark specification and of Bazel's documentation that this project's
+/// profile has.
 pub fn predeclared_as(name: &str) -> Option<Predeclared>
     ensures { result ≡ predeclared name.now }
 {

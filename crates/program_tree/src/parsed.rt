@@ -7,8 +7,8 @@ use plain::Text;
 /// The tree of a file, with its names resolved.
 #[derive(Drop)]
 pub struct Parsed {
-    /// The names that its top level binds, by number: first those that its loads bind, then its globals, each in the order of
-    /// the text.
+    /// The names that its top level binds, by number: first those that its loads bind, then its
+    /// globals, each in the order of the text.
     pub globals: IndexSet<Text>,
     /// How many of these names its loads bind.
     pub loaded: usize,

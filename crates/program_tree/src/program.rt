@@ -9,8 +9,9 @@ use crate::names::Binding;
 use grammar::{Operator, Sign};
 use plain::Text;
 
-/// The slots of a comprehension's own names: from the first up to the end, which isn't one of them. They are made unset when
-/// its first operand has its value, before its first turn: what stands in that operand may have used the same ones.
+/// The slots of a comprehension's own names: from the first up to the end, which isn't one of them.
+/// They are made unset when its first operand has its value, before its first turn: what stands in
+/// that operand may have used the same ones.
 #[derive(Clone, Copy, PartialEq, Eq, Debug)]
 pub struct OwnSlots {
     pub first: usize,
@@ -20,7 +21,9 @@ pub struct OwnSlots {
 /// An expression. It is at most 200 deep in a file that was read.
 #[cycle(terms)]
 pub enum Term {
+    /// A name, with what it stands for.
     Name(Binding),
+    /// A number, which has no sign of its own.
     Number(u64),
     /// A string, with its escapes read.
     Str(Text),
@@ -31,11 +34,14 @@ pub enum Term {
     Choice(Box<Term>, Box<Term>, Box<Term>),
     Binary(Operator, Box<Term>, Box<Term>),
     Unary(Sign, Box<Term>),
+    /// `BASE.NAME`.
     Attribute(Box<Term>, Text),
+    /// `BASE[INDEX]`.
     Index(Box<Term>, Box<Term>),
     /// A call, with its positional arguments and then those with names.
     Call(Box<Term>, Vec<Term>, Vec<Argument>),
-    /// `[ELEMENT for ..]`, with the slots of its names, and all its clauses; the first one is a `for`.
+    /// `[ELEMENT for ..]`, with the slots of its names, and all its clauses; the first one is a
+    /// `for`.
     ListEach(OwnSlots, Box<Term>, Vec<Round>),
     /// `{KEY: VALUE for ..}`.
     DictEach(OwnSlots, Box<Term>, Box<Term>, Vec<Round>),
@@ -86,6 +92,7 @@ pub struct Argument {
 pub enum Round {
     /// `for`, with what its names stand for, and its operand.
     For(Vec<Binding>, Term),
+    /// `if`, with its test.
     If(Term),
 }
 
@@ -102,9 +109,12 @@ pub enum Statement {
     /// `load(MODULE, ..)`.
     Load(Text, Vec<Loaded>),
     Define(Function),
-    /// The branches of an `if` and of its `elif`s, of which there is one at least, and the statements of its `else`.
+    /// The branches of an `if` and of its `elif`s, of which there is one at least, and the
+    /// statements of its `else`.
     If(Vec<Branch>, Vec<Step>),
+    /// `for NAMES in OPERAND`, with the statements of its block.
     For(Vec<Binding>, Term, Vec<Step>),
+    /// `NAMES = VALUE`.
     Assign(Vec<Binding>, Term),
     /// `BASE[INDEX] = VALUE`.
     AssignAt(Box<Term>, Box<Term>, Term),
@@ -112,10 +122,12 @@ pub enum Statement {
     Add(Binding, Term),
     /// `BASE[INDEX] += VALUE`.
     AddAt(Box<Term>, Box<Term>, Term),
+    /// An expression whose value is dropped.
     Evaluate(Term),
     Pass,
     Break,
     Continue,
+    /// `return`, with its operand if it has one.
     Return(Option<Term>),
 }
 
@@ -141,8 +153,8 @@ impl Drop for Statement {
     }
 }
 
-/// A test of a condition, with the number of its first line in the file, and the statements that run where it is the first
-/// that holds.
+/// A test of a condition, with the number of its first line in the file, and the statements that
+/// run where it is the first that holds.
 #[cycle(steps)]
 #[derive(Drop)]
 pub struct Branch {
@@ -159,11 +171,13 @@ pub struct Function {
     pub number: usize,
     /// The number of the name that it binds at the top level.
     pub binds: usize,
+    /// The names of its parameters.
     pub params: Vec<Text>,
     /// The defaults of the last parameters.
     pub defaults: Vec<Term>,
-    /// How many slots it has: its parameters have the first ones, then the names that its lines bind, and behind them the
-    /// comprehensions in it, of which two that aren't in each other may share some.
+    /// How many slots it has: its parameters have the first ones, then the names that its lines
+    /// bind, and behind them the comprehensions in it, of which two that aren't in each other may
+    /// share some.
     pub slots: usize,
     pub steps: Vec<Step>,
 }

@@ -1,5 +1,6 @@
 -- Nodes where they lie, as the definitions of a report see them.
-use Rattle.std.specs.Prelude.{◌≡◌, ℕ, ◌+◌, ◌/◌, ◌%◌, ◌<◌, min, List, [], ◌∷◌, length, map, take, drop, slice_index_or, string_bytes, String}
+use Rattle.std.specs.Prelude.{◌≡◌, ℕ, ◌+◌, ◌/◌, ◌%◌, ◌<◌, min, List, [], ◌∷◌, length, map, take}
+use Rattle.std.specs.Prelude.{drop, slice_index_or, string_bytes, String}
 use Rattle.std.specs.Fork.{slice_chunk}
 use Rattle.std.specs.List.{flat_map}
 use Rattle.depsets.specs.Listed.{walked}
@@ -12,9 +13,11 @@ use Rattle.reporting.specs.Lines.{outcome_text}
 use Rattle.reporting.specs.declared.blocks.Block.{Block}
 use Rattle.reporting.specs.declared.node_lines.Node.{Node}
 
+-- a label with what becomes of it, as plain data
 abbrev pub node_seen : Node → Told
 node_seen n = record { label = n.label.now; outcome = n.outcome.now }
 
+-- the same of several
 abbrev pub nodes_seen : List Node → List Told
 nodes_seen ns = map node_seen ns
 
@@ -25,8 +28,11 @@ block_seen b = (b.tellings.now, node_seen b.node)
 -- nodes, each with how its actions are told, where the actions of all are told so
 abbrev pub blocks_of : List Telling → List Told → List (List Telling × Told)
 blocks_of ts [] = []
-blocks_of ts (n ∷ ns) = let count = length (actions_of n.outcome) in (take count ts, n) ∷ blocks_of (drop count ts) ns
+blocks_of ts (n ∷ ns) =
+    let count = length (actions_of n.outcome) in
+    (take count ts, n) ∷ blocks_of (drop count ts) ns
 
+-- the lines of a node, by how its actions are told
 abbrev pub block_text : (Rose Own → List Element) → List Telling × Told → List ℕ
 block_text listing b = outcome_text listing b.0 b.1.label b.1.outcome
 
@@ -39,6 +45,8 @@ abbrev pub text_of : {A : Type 0} → List (String A) → List ℕ
 text_of ts = flat_map string_bytes ts
 
 -- these are the texts of all parts of nodes, of so many nodes each
-pub record AreParts {A : Type 0} (ns : List Block) (size : ℕ) (texts : List (String A)) : Type 0 where
+pub record AreParts {A : Type 0} (ns : List Block) (size : ℕ)
+    (texts : List (String A)) : Type 0 where
   pub len : length texts ≡ length ns / size + min 1 (length ns % size)
-  pub each : (i : ℕ) (d : String A) → i < length texts → string_bytes (slice_index_or texts i d) ≡ lines_of (slice_chunk ns size i)
+  pub each : (i : ℕ) (d : String A) → i < length texts
+      → string_bytes (slice_index_or texts i d) ≡ lines_of (slice_chunk ns size i)

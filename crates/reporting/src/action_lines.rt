@@ -2,7 +2,9 @@
 ghost use Rattle.std.specs.Prelude.{◌≡◌, ◌++◌, codes, string_bytes, OnOk, option_copied};
 ghost use Rattle.depsets.specs.Listed.{walked};
 ghost use Rattle.claims.specs.Same.{input_paths};
-ghost use Rattle.reporting.specs.Lines.{action_line, action_lines, action_text, content_text, given_words, line, outputs_text, owners_text, strings_text, telling_at};
+ghost use Rattle.reporting.specs.Lines.{action_line, action_lines, action_text, content_text};
+ghost use Rattle.reporting.specs.Lines.{given_words, line, outputs_text, owners_text, strings_text};
+ghost use Rattle.reporting.specs.Lines.{telling_at};
 
 use crate::conflict_lines::put_spaced;
 use crate::strings_in::{put_element_list, put_file_list, put_text_list};
@@ -39,7 +41,8 @@ fn put_inputs(alloc: Global, out: &mut String, inputs: &Inputs) -> Result<(), Al
 
 /// Appends what is written, if an action writes a text.
 fn put_content(out: &mut String, content: &Option<Text>) -> Result<(), AllocError>
-    ensures { OnOk result (string_bytes out.new ≡ string_bytes out.old ++ content_text content.now) }
+    ensures { OnOk result
+        (string_bytes out.new ≡ string_bytes out.old ++ content_text content.now) }
 {
     if let Some(text) = content {
         out.push_str(" content ")?;

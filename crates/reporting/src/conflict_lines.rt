@@ -25,7 +25,8 @@ pub(crate) fn put_spaced(out: &mut String, texts: &[Text]) -> Result<(), AllocEr
 ///
 /// `AllocError` where memory was refused. A part of the line may have been appended then.
 pub fn put_conflict(out: &mut String, conflict: &Conflict) -> Result<(), AllocError>
-    ensures { OnOk result (string_bytes out.new ≡ string_bytes out.old ++ conflict_line conflict.now) }
+    ensures { OnOk result
+        (string_bytes out.new ≡ string_bytes out.old ++ conflict_line conflict.now) }
 {
     out.push_str("conflict ")?;
     out.push_str(conflict.path.as_str())?;

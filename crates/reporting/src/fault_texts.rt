@@ -10,7 +10,8 @@ use values::Kind;
 
 /// Appends a line of a file, as `a/r.bzl:3`.
 pub(crate) fn put_place(out: &mut String, path: &Text, line: u64) -> Result<(), AllocError>
-    ensures { OnOk result (string_bytes out.new ≡ string_bytes out.old ++ place_text path.now line) }
+    ensures { OnOk result
+        (string_bytes out.new ≡ string_bytes out.old ++ place_text path.now line) }
 {
     out.push_str(path.as_str())?;
     write!(out, ":{line}")?;
@@ -19,7 +20,8 @@ pub(crate) fn put_place(out: &mut String, path: &Text, line: u64) -> Result<(), 
 
 /// Appends the kind of a fault of an evaluation; that of `fail` with its text.
 pub(crate) fn put_kind(out: &mut String, kind: &Kind) -> Result<(), AllocError>
-    ensures { OnOk result (string_bytes out.new ≡ string_bytes out.old ++ evaluation_text kind.now) }
+    ensures { OnOk result
+        (string_bytes out.new ≡ string_bytes out.old ++ evaluation_text kind.now) }
 {
     match kind {
         Kind::Fail(text) => {

@@ -5,7 +5,8 @@ ghost use Rattle.depsets.specs.Listed.{walked};
 ghost use Rattle.targets.specs.Steps.{is_failed};
 ghost use Rattle.reporting.specs.Lines.{conflict_line};
 ghost use Rattle.reporting.specs.Answers.{file_line, has_some, is_loud, report_text};
-ghost use Rattle.reporting.specs.Seen.{block_text, blocks_of, lines_of, node_seen, nodes_seen, text_of};
+ghost use Rattle.reporting.specs.Seen.{block_text, blocks_of, lines_of, node_seen, nodes_seen};
+ghost use Rattle.reporting.specs.Seen.{text_of};
 ghost use Rattle.reporting.specs.Reported.{report_bytes};
 
 use crate::blocks::{Block, blocks, tell_nodes};
@@ -19,8 +20,8 @@ use std::alloc::{AllocError, Global};
 use std::thread::Threads;
 use values::Kind;
 
-/// The text of a report, and whether it is loud: whether it tells of a file that failed, a label that failed (also one that
-/// names nothing) or a conflict.
+/// The text of a report, and whether it is loud: whether it tells of a file that failed, a label
+/// that failed (also one that names nothing) or a conflict.
 #[derive(Drop)]
 pub struct Report {
     /// Parts of the text, which stand one after the other.
@@ -98,9 +99,10 @@ fn has_failed(nodes: &[Node<'_>]) -> bool
 
 /// The report of files that failed and of nodes, both in the order in which they are to stand.
 ///
-/// It takes time linear in its length, and n log n comparisons of paths for n outputs of actions; no action and no value is
-/// copied. An action that declares a path that another declares too has its inputs listed once more. The lines of many nodes
-/// are written by so many threads at most, which have ended when this returns; what they are depends on none of them.
+/// It takes time linear in its length, and n log n comparisons of paths for n outputs of actions;
+/// no action and no value is copied. An action that declares a path that another declares too has
+/// its inputs listed once more. The lines of many nodes are written by so many threads at most,
+/// which have ended when this returns; what they are depends on none of them.
 ///
 /// # Errors
 ///

@@ -12,8 +12,8 @@ use std::thread::Threads;
 use targets::Outcome;
 use workspace::Label;
 
-/// How many nodes each part of a report has. A thread takes the next part that none has taken, so the more parts there are
-/// the more evenly the threads end.
+/// How many nodes each part of a report has. A thread takes the next part that none has taken, so
+/// the more parts there are the more evenly the threads end.
 const PART: usize = 256;
 
 /// A label, and what becomes of it.
@@ -110,7 +110,8 @@ fn lines_of_parts<R: Threads + Sync>(
     )
 }
 
-/// The lines of nodes, in parts that stand one after the other, which are written by so many threads at most.
+/// The lines of nodes, in parts that stand one after the other, which are written by so many
+/// threads at most.
 ///
 /// Where no thread can be started, the parts are written one after the other.
 #[tactic(auto, using(crate::proofs::Parts::parts_are_whole))]

@@ -3,7 +3,8 @@ ghost use Rattle.std.specs.Prelude.{◌≡◌, ◌++◌, codes, string_bytes, On
 ghost use Rattle.std.specs.List.{flat_map};
 ghost use Rattle.depsets.specs.Listed.{walked};
 ghost use Rattle.workspace.specs.Labels.{label_text};
-ghost use Rattle.reporting.specs.Lines.{evaluation_text, line, outcome_text, place_text, refused_text, spaced_label, target_fault_text};
+ghost use Rattle.reporting.specs.Lines.{evaluation_text, line, outcome_text, place_text};
+ghost use Rattle.reporting.specs.Lines.{refused_text, spaced_label, target_fault_text};
 
 use crate::action_lines::put_actions;
 use crate::fault_texts::put_kind_behind;
@@ -150,7 +151,8 @@ fn put_done(out: &mut String, label: &Label) -> Result<(), AllocError>
 ///
 /// # Errors
 ///
-/// `AllocError` where memory for the text or for a listing was refused. A part of the lines may have been appended then.
+/// `AllocError` where memory for the text or for a listing was refused. A part of the lines may
+/// have been appended then.
 pub fn put_outcome(
     alloc: Global,
     out: &mut String,

@@ -1,10 +1,12 @@
 //! The lines of providers.
-ghost use Rattle.std.specs.Prelude.{◌≡◌, ◌<◌, ◌++◌, Some, codes, length, slice_get, string_bytes, OnOk};
+ghost use Rattle.std.specs.Prelude.{◌≡◌, ◌<◌, ◌++◌, Some, codes, length, slice_get, string_bytes};
+ghost use Rattle.std.specs.Prelude.{OnOk};
 ghost use Rattle.std.specs.List.{flat_map};
 ghost use Rattle.depsets.specs.Listed.{walked};
 ghost use Rattle.values.specs.Tree.{slots};
 ghost use Rattle.values.specs.View.{node_branch};
-ghost use Rattle.reporting.specs.Lines.{fields_text, field_text, given_text, instance_line, provider_line};
+ghost use Rattle.reporting.specs.Lines.{fields_text, field_text, given_text, instance_line};
+ghost use Rattle.reporting.specs.Lines.{provider_line};
 
 use leaf_texts::{put_field_head, put_provider};
 use plain::Text;

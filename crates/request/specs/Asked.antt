@@ -1,5 +1,7 @@
--- What the words of the command line ask for (docs/REPORT.md, "Command line"; this project's own choice).
-use Rattle.std.specs.Prelude.{ℕ, List, [], ◌∷◌, Option, Some, None, map, option_map, option_and_then}
+-- What the words of the command line ask for (docs/REPORT.md, "Command line"; this project's own
+-- choice).
+use Rattle.std.specs.Prelude.{ℕ, List, [], ◌∷◌, Option, Some, None, map, option_map}
+use Rattle.std.specs.Prelude.{option_and_then}
 use Rattle.request.specs.CommandLine.{Written, written}
 use Rattle.workspace.specs.Labels.{LabelParts, label_of}
 use Rattle.request.specs.declared.words.Request.{Request}
@@ -20,8 +22,10 @@ abbrev pub each_label : List (List ℕ) → Option (List LabelParts)
 each_label [] = Some []
 each_label (text ∷ texts) = label_before (each_label texts) text
 
+-- what is asked for with these words, where each text for a label is a legal one
 abbrev pub asked_of : Written → Option Asked
-asked_of w = option_map (λ ls. record { workers = w.workers; steps = w.steps; labels = ls }) (each_label w.labels)
+asked_of w = option_map
+    (λ ls. record { workers = w.workers; steps = w.steps; labels = ls }) (each_label w.labels)
 
 -- what the words ask for, the program's name first: the command takes them, and each label is legal
 abbrev pub asked : List (List ℕ) → Option Asked
@@ -33,4 +37,5 @@ asked_by r = record { workers = r.workers; steps = r.steps; labels = r.labels.it
 
 -- what was taken from the words
 abbrev pub written_by : Taken → Written
-written_by t = record { workers = t.workers; steps = t.steps; labels = map (λ s. s.now) t.labels.items }
+written_by t =
+    record { workers = t.workers; steps = t.steps; labels = map (λ s. s.now) t.labels.items }

@@ -1,7 +1,7 @@
 //! The input: a workspace as JSON.
 //!
-//! The text is read token by token and each pair copied as it comes, so that no tree of the whole stands beside the
-//! bytes and the files.
+//! The text is read token by token and each pair copied as it comes, so that no tree of the whole
+//! stands beside the bytes and the files.
 
 ghost use Rattle.std.specs.Prelude.{◌≡◌, ◌∷◌, List, IfOk, IsUtf8, Err, MatchOption, true};
 ghost use Rattle.std.specs.Bool.{MatchBool};
@@ -9,7 +9,8 @@ ghost use Rattle.std.specs.List.{list_all};
 ghost use Rattle.json.specs.Lex.{tokens};
 ghost use Rattle.json.specs.Token as spec;
 ghost use Rattle.request.specs.Input.{Spells};
-ghost use Rattle.request.specs.InputTokens.{BeginsArray, BeginsString, BeginsPair, input_tokens, pair_before};
+ghost use Rattle.request.specs.InputTokens.{BeginsArray, BeginsString, BeginsPair, input_tokens};
+ghost use Rattle.request.specs.InputTokens.{pair_before};
 ghost use Rattle.workspace.specs.Workspaces.{Pair, is_file};
 
 use json::{Reader, Scratch, Token};
@@ -110,13 +111,14 @@ fn input_files(alloc: Global, input: &[u8]) -> Result<WorkspaceBuilder, InputRef
     }
 }
 
-/// The workspace that an input spells: a JSON array of arrays of exactly two strings, a path and a text, in at most
-/// [`INPUT_LIMIT`] bytes of UTF-8. The input is given back to memory before the paths are compared.
+/// The workspace that an input spells: a JSON array of arrays of exactly two strings, a path and a
+/// text, in at most [`INPUT_LIMIT`] bytes of UTF-8. The input is given back to memory before the
+/// paths are compared.
 ///
 /// # Errors
 ///
-/// `Illegal` where the input is longer, or is no such array, or the pairs are no workspace, and `NoMemory` where memory
-/// was refused.
+/// `Illegal` where the input is longer, or is no such array, or the pairs are no workspace, and
+/// `NoMemory` where memory was refused.
 pub fn read_workspace(alloc: Global, input: Vec<u8>) -> Result<Workspace, InputRefused>
     ensures ok { IfOk result (λ w. Spells input.items w) }
     ensures illegal { result ≡ Err InputRefused.Illegal

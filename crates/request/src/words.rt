@@ -1,11 +1,13 @@
 //! The words of the command line.
 
-ghost use Rattle.std.specs.Prelude.{◌≤◌, ◌≡◌, IfOk, IfSome, None, Some, false, true, Err, map, option_and_then};
+ghost use Rattle.std.specs.Prelude.{◌≤◌, ◌≡◌, IfOk, IfSome, None, Some, false, true, Err, map};
+ghost use Rattle.std.specs.Prelude.{option_and_then};
 ghost use Rattle.clap.specs.Walk.{is_empty};
 ghost use Rattle.clap.specs.Words.{fault_of, app_of, found_of, one_of, rows_of, rule_of};
 ghost use Rattle.clap.specs.declared.builder.value_parser.ValueParser.TheVariants as vp;
 ghost use Rattle.request.specs.Asked.{asked, asked_by, each_label, written_by};
-ghost use Rattle.request.specs.CommandLine.{Takes, command_line, texts_of, labels_rule, number_within, steps_rule, workers_rule, written};
+ghost use Rattle.request.specs.CommandLine.{Takes, command_line, texts_of, labels_rule};
+ghost use Rattle.request.specs.CommandLine.{number_within, steps_rule, workers_rule, written};
 
 use clap::builder::ValueParser;
 use clap::error::ErrorKind;
@@ -19,7 +21,8 @@ use workspace::{Label, LabelRefused};
 pub struct Request {
     /// The number of workers, from 1 to 64.
     pub workers: u64,
-    /// The limit of steps for each evaluation, from 1 to 1,000,000,000; 1,000,000 where none is given.
+    /// The limit of steps for each evaluation, from 1 to 1,000,000,000; 1,000,000 where none is
+    /// given.
     pub steps: u64,
     /// The labels, in the order of the words; one that is given twice stands twice.
     pub labels: Vec<Label>,
@@ -98,7 +101,8 @@ fn command<'a>(alloc: Global) -> Result<Command<'a>, AllocError>
 
 /// The number of an option, where it lies within the limits.
 ///
-/// The command has refused all others before, but no contract of `clap` says so of the number that it reads.
+/// The command has refused all others before, but no contract of `clap` says so of the number that
+/// it reads.
 fn number(matches: &ArgMatches<'_>, id: &str, low: u64, high: u64) -> Option<u64>
     ensures within { IfSome result (λ n. (low ≤ n) × (n ≤ high)) }
     ensures value { result ≡ option_and_then (number_within low high)
@@ -198,8 +202,8 @@ fn read_labels(alloc: Global, texts: &[&str]) -> Result<Vec<Label>, LabelRefused
 ///
 /// # Errors
 ///
-/// `Words` where the command doesn't take the words, `--help` and `--version` among them, or where a label is
-/// illegal without a package; `NoMemory` where memory was refused.
+/// `Words` where the command doesn't take the words, `--help` and `--version` among them, or where
+/// a label is illegal without a package; `NoMemory` where memory was refused.
 pub fn read_words<S: AsStr>(alloc: Global, words: &[S]) -> Result<Request, WordsStop>
     ensures ok { IfOk result (λ r. asked (map S.text words.now) ≡ Some (asked_by r)) }
     ensures workers { IfOk result (λ r. (1 ≤ r.workers) × (r.workers ≤ 64)) }

@@ -14,6 +14,9 @@ abbrev pub frozen_option : Option Value → List Cell → Count → Ticking (Uni
 frozen_option None h c = Ok (tt, c)
 frozen_option (Some v) h c = then_on (freeze_at VISITED_LEVELS h v c) (λ t d. Ok (tt, d))
 
+-- what a call gives for these attributes is frozen, in their order: the ticks after it, or the
+-- first fault
 abbrev pub frozen_for : List NamedAttribute → Given → List Cell → Count → Ticking (Unit {0})
 frozen_for [] g h c = Ok (tt, c)
-frozen_for (a ∷ rest) g h c = then_on (frozen_option (given_as g a.name) h c) (λ u d. frozen_for rest g h d)
+frozen_for (a ∷ rest) g h c =
+    then_on (frozen_option (given_as g a.name) h c) (λ u d. frozen_for rest g h d)

@@ -12,8 +12,13 @@ use targets::NamedAttribute;
 use values::{Broken, Ticks};
 use visits::freeze;
 
-/// Freezes what is given for attributes, in their order. Nothing is kept of it: the target has what was read of it, so
-/// that it costs ticks alone.
+/// Freezes what is given for attributes, in their order. Nothing is kept of it: the target has what
+/// was read of it, so that it costs ticks alone.
+///
+/// # Errors
+///
+/// The fault of the first value that can't be frozen, where one can't; `NoMemory` where memory was
+/// refused.
 pub fn freeze_given(
     alloc: Global,
     attributes: &[NamedAttribute],

@@ -37,6 +37,10 @@ impl<'a, 'v> Model for ByName<'a, 'v> {
 
 impl<'a, 'v> ByName<'a, 'v> {
     /// The arguments of a call.
+    ///
+    /// # Errors
+    ///
+    /// `AllocError` where memory was refused.
     pub fn new(alloc: Global, arguments: &Arguments<'a, 'v>) -> Result<ByName<'a, 'v>, AllocError>
         ensures { IfOk result (λ b. b ≡ given arguments.now) }
     {

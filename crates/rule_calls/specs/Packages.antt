@@ -13,8 +13,10 @@ pub record Declared : Type 0 where
 abbrev pub is_named : List ℕ → (List ℕ × Target) → Bool
 is_named p e = same_label (record { «package» = p; name = e.0 }) e.1.label
 
+-- each of a package's targets stands under its name
 abbrev pub are_named : List ℕ → List (List ℕ × Target) → Bool
 are_named p es = list_all (is_named p) es
 
+-- what a package has declared, by the table in which its targets stand under their names
 abbrev pub declared_of : List ℕ → List (List ℕ × Target) → Declared
 declared_of p es = record { «package» = p; targets = map (λ e. e.1) es }

@@ -1,5 +1,6 @@
 //! The targets of a package.
-ghost use Rattle.std.specs.Prelude.{◌≡◌, ◌<◌, ◌++◌, ◌∷◌, [], true, false, None, Some, length, slice_get, MatchOption, IfSome, OnOk, OnErr, option_copied};
+ghost use Rattle.std.specs.Prelude.{◌≡◌, ◌<◌, ◌++◌, ◌∷◌, [], true, false, None, Some, length};
+ghost use Rattle.std.specs.Prelude.{slice_get, MatchOption, IfSome, OnOk, OnErr, option_copied};
 ghost use Rattle.targets.specs.RuleCalls.{has_declared};
 ghost use Rattle.targets.specs.Resolving.{target_with};
 ghost use Rattle.rule_calls.specs.Packages.{are_named};
@@ -13,7 +14,8 @@ use std::marker::Model;
 use targets::Target;
 use workspace::Label;
 
-/// The targets that a package has declared so far, in order, each found by its name, which is a part of its label's text.
+/// The targets that a package has declared so far, in order, each found by its name, which is a
+/// part of its label's text.
 #[derive(Drop)]
 pub struct PackageTargets {
     package: Text,
@@ -135,7 +137,8 @@ impl PackageTargets {
         }
     }
 
-    /// The target of a label and its place among those that the package has declared, from 0, if it has declared it.
+    /// The target of a label and its place among those that the package has declared, from 0, if it
+    /// has declared it.
     pub fn find(&self, label: &Label) -> Option<(usize, &Target)>
         ensures { MatchOption result (target_with label.now self.now.targets ≡ None)
             (λ r. (target_with label.now self.now.targets ≡ Some r.1.now)
@@ -174,6 +177,10 @@ impl PackageTargets {
     }
 
     /// Puts a target last. After a refusal of memory they are as they were.
+    ///
+    /// # Errors
+    ///
+    /// `AllocError` where memory was refused.
     pub fn push(&mut self, target: Target) -> Result<(), AllocError>
         requires here { target.label.«package» ≡ self.old.«package» }
         requires new { has_declared self.old.targets target.label ≡ false }
@@ -190,7 +197,8 @@ impl PackageTargets {
 
     /// The label of the target of a name, if the package has declared it.
     pub(crate) fn named(&self, name: &str) -> Option<&Shared<Label>>
-        ensures { IfSome result (λ l. l.now ≡ record { «package» = self.now.«package»; name = name.now }) }
+        ensures { IfSome result
+            (λ l. l.now ≡ record { «package» = self.now.«package»; name = name.now }) }
     {
         match self.by_name.get(Name { text: name }) {
             Some(target) => Some(&target.label),

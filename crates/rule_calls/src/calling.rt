@@ -24,8 +24,8 @@ use workspace::Label;
 ///
 /// # Errors
 ///
-/// The first of `arity`, `type`, `key` and `steps`, as `docs/PROFILE.md` says of calls of rules. After a `Broken` the
-/// heap and the count of depsets are as they were; the ticks are open.
+/// The first of `arity`, `type`, `key` and `steps`, as `docs/PROFILE.md` says of calls of rules.
+/// After a `Broken` the heap and the count of depsets are as they were; the ticks are open.
 pub fn declare_target(
     alloc: Global,
     state: &mut State,
@@ -65,7 +65,8 @@ fn declare_by_name(
     }
 }
 
-/// A call of a rule while the `BUILD` file of a package runs: the package has the target that it declares.
+/// A call of a rule while the `BUILD` file of a package runs: the package has the target that it
+/// declares.
 ///
 /// # Errors
 ///

@@ -7,8 +7,8 @@ use plain::Text;
 use rule_arguments::ByName;
 use targets::{NamedAttribute, Rule, RuleAttributes, is_private};
 
-/// Whether there is no position, each name is one that a call may give, and `name` and each mandatory attribute are
-/// given.
+/// Whether there is no position, each name is one that a call may give, and `name` and each
+/// mandatory attribute are given.
 pub(crate) fn fits(rule: &Rule, arguments: &ByName<'_, '_>) -> bool
     ensures { result ≡ fits rule.now arguments.now }
 {

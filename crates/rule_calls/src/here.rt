@@ -11,7 +11,8 @@ use std::marker::Model;
 use values::{Broken, Kind};
 use workspace::{Label, LabelRefused};
 
-/// The package in which labels are read, with the targets that it has declared. To a contract it is the package.
+/// The package in which labels are read, with the targets that it has declared. To a contract it is
+/// the package.
 #[derive(Drop)]
 pub(crate) struct Here<'a> {
     declared: &'a PackageTargets,
@@ -33,8 +34,8 @@ impl<'a> Here<'a> {
         Here { declared }
     }
 
-    /// The label that a text is, or `type`. That of a target that the package has declared is shared, where the text is the
-    /// target's name.
+    /// The label that a text is, or `type`. That of a target that the package has declared is
+    /// shared, where the text is the target's name.
     pub(crate) fn label(&self, alloc: Global, text: &str) -> Result<Shared<Label>, Broken>
         ensures { Gives (or_fault Kind.Wrong (label_of text.now (Some self.now))) result }
     {

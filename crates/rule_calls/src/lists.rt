@@ -45,7 +45,8 @@ fn put_label(
     labels: &mut Sequence<Shared<Label>>,
 ) -> Result<(), Broken>
     ensures { MatchResult result
-        (λ _. put_read labels.old (label_in heap.now «package».now (seen value.now)) ≡ Ok labels.new)
+        (λ _. put_read labels.old (label_in heap.now «package».now (seen value.now))
+        ≡ Ok labels.new)
         (λ e. FaultOr (put_read labels.old (label_in heap.now «package».now (seen value.now))) e) }
 {
     let Some(text) = text_of(value) else {

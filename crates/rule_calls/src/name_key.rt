@@ -7,8 +7,8 @@ use std::hash::{Hash, Hasher};
 use std::marker::Model;
 use workspace::Label;
 
-/// A label as a key, compared and hashed by its name alone. To a contract it is the name. The name is a part of the label's text,
-/// so the key takes no text of its own.
+/// A label as a key, compared and hashed by its name alone. To a contract it is the name. The name
+/// is a part of the label's text, so the key takes no text of its own.
 #[derive(Drop)]
 pub struct NameKey {
     label: Shared<Label>,

@@ -109,7 +109,8 @@ fn put_value(
     }
 }
 
-/// What a target has for an attribute: what is given, or else the default, which is shared; or `type`.
+/// What a target has for an attribute: what is given, or else the default, which is shared; or
+/// `type`.
 fn value_for(
     alloc: Global,
     heap: &Heap,

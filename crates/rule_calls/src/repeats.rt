@@ -54,7 +54,8 @@ fn repeats_for(
     }
 }
 
-/// Whether one of the labels is there twice. They are found by order, so who chooses them can't make this slow.
+/// Whether one of the labels is there twice. They are found by order, so who chooses them can't
+/// make this slow.
 fn repeats(alloc: Global, labels: &[Shared<Label>]) -> Result<bool, AllocError>
     ensures { IfOk result (λ b. b ≡ repeats labels.now) }
 {

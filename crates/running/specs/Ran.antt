@@ -13,11 +13,13 @@ abbrev pub by_path : List Path → Fault Kind → Placed Kind
 by_path paths f = record { kind = f.kind; path = path_at paths f.file; line = f.line }
 
 -- a value with the state after it, or a fault
-abbrev pub ran : {W : Type 0} → List Path → Final (Whole W) Value Kind → Result (Value × Whole W) (Placed Kind)
+abbrev pub ran : {W : Type 0} → List Path → Final (Whole W) Value Kind
+    → Result (Value × Whole W) (Placed Kind)
 ran paths (Ok r) = Ok r
 ran paths (Err f) = Err (by_path paths f)
 
 -- of a top level its value isn't used
-abbrev pub top_ran : {W : Type 0} → List Path → Final (Whole W) Value Kind → Result (Whole W) (Placed Kind)
+abbrev pub top_ran : {W : Type 0} → List Path → Final (Whole W) Value Kind
+    → Result (Whole W) (Placed Kind)
 top_ran paths (Ok r) = Ok r.1
 top_ran paths (Err f) = Err (by_path paths f)

@@ -53,8 +53,9 @@ fn call<'a, L: Link<'a>, P: Place<'a>>(
     run(setting, Start::Function(function_id(id), arguments), whole)
 }
 
-/// Calls the function that implements a target's rule, with `ctx` alone, from the beginning of the target: the value that it
-/// returned and the state after it, with the work of its place, or its fault. A fault of the call itself stands at the `def`.
+/// Calls the function that implements a target's rule, with `ctx` alone, from the beginning of the
+/// target: the value that it returned and the state after it, with the work of its place, or its
+/// fault. A fault of the call itself stands at the `def`.
 ///
 /// # Errors
 ///

@@ -9,10 +9,13 @@ use std::alloc::Global;
 /// What a run stands in.
 #[derive(Drop)]
 pub struct Setting<'a, L, P> {
+    /// Where memory comes from.
     pub alloc: Global,
     /// What is known of the linked files.
     pub linked: &'a L,
+    /// The place of the run: what it adds to the language, as calls that declare targets.
     pub place: &'a P,
+    /// The provider `DefaultInfo`.
     pub default_info: &'a DefaultInfo,
     /// The codes of all files, by number.
     pub codes: &'a Linked,
@@ -25,7 +28,9 @@ pub struct Setting<'a, L, P> {
 /// A file whose top level is run.
 #[derive(Drop)]
 pub struct TopFile<'a> {
+    /// Its path, which owns what the run makes.
     pub path: &'a Text,
+    /// Its place among the files, from 0.
     pub number: u32,
     /// The names that its top level binds.
     pub names: &'a Shared<TopNames>,

@@ -75,7 +75,8 @@ pub(crate) fn run<'a, L: Link<'a>, P: Place<'a>>(
     }
 }
 
-/// Runs the top level of a file, from its beginning: the state after it, with the work of its place, or its fault.
+/// Runs the top level of a file, from its beginning: the state after it, with the work of its
+/// place, or its fault.
 ///
 /// # Errors
 ///

@@ -1,33 +1,37 @@
 -- What the program's scopes stand for.
-use Rattle.std.specs.Prelude.{◌≡◌, ◌≤◌, ℕ, List, [], ◌∷◌, drop, length, map, take, Option, bytes_eq, ⊤}
+use Rattle.std.specs.Prelude.{◌≡◌, ◌≤◌, ℕ, List, [], ◌∷◌, drop, length, map, take, Option, bytes_eq}
+use Rattle.std.specs.Prelude.{⊤}
 use Rattle.std.specs.Map.{lookup}
 use Rattle.std.specs.Option.{option_flatten}
 use Rattle.program_tree.specs.Names.{Name, Scope, once, slot_of}
 use Rattle.scopes.specs.declared.levels.BoundName.{BoundName}
 
--- in a comprehension that binds these names, and behind it
+-- the scope in a comprehension that binds these names (Starlark specification, "Comprehensions")
 abbrev pub entered : List Name → Scope → Scope
 entered xs s = record { globals = s.globals; levels = once xs ∷ s.levels }
 
+-- the levels around the innermost one
 abbrev pub outer : List (List Name) → List (List Name)
 outer [] = []
 outer (l ∷ ls) = ls
 
+-- the scope behind a comprehension, from that inside of it
 abbrev pub left : Scope → Scope
 left s = record { globals = s.globals; levels = outer s.levels }
 
--- in a function that binds these names
+-- the scope in a function that binds these names
 abbrev pub in_function : List Name → Scope → Scope
 in_function xs s = record { globals = s.globals; levels = once xs ∷ [] }
 
--- the slot that a map of names has for one
+-- the slot that a map of names to slots has for a name
 abbrev pub found : Name → List (Name × Option ℕ) → Option ℕ
 found x es = option_flatten (lookup (bytes_eq x) es)
 
--- what it has for each name is the name's slot
+-- what such a map has for each name is the name's slot
 abbrev pub HasSlots : List (Name × Option ℕ) → List (List Name) → Type 0
 HasSlots es ls = (x : Name) → found x es ≡ slot_of x ls
 
+-- the names of a level, as the program keeps it
 abbrev pub names_in : List BoundName → List Name
 names_in bs = map (λ b. b.name) bs
 

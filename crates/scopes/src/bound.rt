@@ -8,7 +8,8 @@ ghost use Rattle.grammar.specs.LineView.{form_of, item_of, line_of, param_of};
 ghost use Rattle.grammar.specs.declared.statements.Line.{out-Line};
 ghost use Rattle.grammar.specs.TreeView.{clause_of, rests};
 ghost use Rattle.program_tree.specs.Names as names;
-ghost use Rattle.program_tree.specs.Names.{Name, form_binds, lines_bind, loads_bind, param_name, passed_on};
+ghost use Rattle.program_tree.specs.Names.{Name, form_binds, lines_bind, loads_bind, param_name};
+ghost use Rattle.program_tree.specs.Names.{passed_on};
 
 use crate::scope::add_names;
 use grammar::{Clause, Form, Item, Line, Name, Param};
@@ -125,8 +126,8 @@ pub fn add_loaded<'t>(found: &mut Vec<Name<'t>>, line: &Line<'t>) -> Result<(), 
     }
 }
 
-/// Adds the names that lines bind, in the order of the text. It calls itself once for each block that is open: 32 at most, and
-/// the line of a head.
+/// Adds the names that lines bind, in the order of the text. It calls itself once for each block
+/// that is open: 32 at most, and the line of a head.
 ///
 /// # Errors
 ///

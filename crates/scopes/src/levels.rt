@@ -1,6 +1,7 @@
 //! The slots of a function and of the comprehensions in it.
 
-ghost use Rattle.std.specs.Prelude.{◌≡◌, ◌≤◌, ◌∷◌, [], List, IfOk, OnOk, bytes_eq, drop, length, take};
+ghost use Rattle.std.specs.Prelude.{◌≡◌, ◌≤◌, ◌∷◌, [], List, IfOk, OnOk, bytes_eq, drop, length};
+ghost use Rattle.std.specs.Prelude.{take};
 ghost use Rattle.std.specs.Map.{set_value};
 ghost use Rattle.indexmap.specs.IndexSet.{insert_key};
 ghost use Rattle.program_tree.specs.Names.{Name as OfName, once, slot_of, width};
@@ -19,11 +20,12 @@ struct BoundName<'t> {
     around: Option<usize>,
 }
 
-/// Levels of names, of which each name has a slot: those of a function, and of each comprehension around. To a contract
-/// the innermost level is the first.
+/// Levels of names, of which each name has a slot: those of a function, and of each comprehension
+/// around. To a contract the innermost level is the first.
 #[derive(Drop)]
 pub struct Levels<'t> {
-    /// The names of all levels, those of the innermost last: each stands at the place that is its slot.
+    /// The names of all levels, those of the innermost last: each stands at the place that is its
+    /// slot.
     bound: Vec<BoundName<'t>>,
     /// Where each level begins, the innermost last.
     starts: Vec<usize>,
@@ -64,7 +66,8 @@ fn restore<'t>(slots: &mut IndexMap<Name<'t>, Option<usize>>, level: &[BoundName
     }
 }
 
-/// Binds a name in the innermost level, which begins at this place. One that the level has already keeps its slot.
+/// Binds a name in the innermost level, which begins at this place. One that the level has already
+/// keeps its slot.
 fn bind<'t>(
     slots: &mut IndexMap<Name<'t>, Option<usize>>,
     bound: &mut Vec<BoundName<'t>>,
@@ -136,7 +139,8 @@ impl<'t> Levels<'t> {
         self.bound.len()
     }
 
-    /// The slot of a name: of the innermost level that has it. However many levels there are, it is one look-up.
+    /// The slot of a name: of the innermost level that has it. However many levels there are, it is
+    /// one look-up.
     pub(crate) fn slot(&self, name: &Name<'t>) -> Option<usize>
         ensures { result ≡ slot_of name.now self.now }
     {

@@ -1,7 +1,8 @@
 //! What is in scope: the names of the top level, of a function and of the comprehensions in it.
 
 ghost use Rattle.std.specs.Prelude.{◌≡◌, ◌&&◌, ◌++◌, [], ℕ, List, IfOk, OnOk, is_none, true};
-ghost use Rattle.program_tree.specs.Names.{among, apart, distinct, once, predeclared, stands_for, width};
+ghost use Rattle.program_tree.specs.Names.{among, apart, distinct, once, predeclared, stands_for};
+ghost use Rattle.program_tree.specs.Names.{width};
 ghost use Rattle.program_tree.specs.Resolved.{binding_of, global_of};
 ghost use Rattle.file_syntax.specs.Scopes.{none_predeclared};
 ghost use Rattle.scopes.specs.ScopeView.{entered, in_function, left};
@@ -45,7 +46,8 @@ pub fn none_predeclared(names: &[Name<'_>]) -> bool
     true
 }
 
-/// Binds names beside those that are bound, up to the first that is bound already, and tells whether there is none such.
+/// Binds names beside those that are bound, up to the first that is bound already, and tells
+/// whether there is none such.
 ///
 /// # Errors
 ///

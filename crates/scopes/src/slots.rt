@@ -1,4 +1,5 @@
-//! How many slots comprehensions take, in expressions and in statements: what the frame of a function needs of them.
+//! How many slots comprehensions take, in expressions and in statements: what the frame of a
+//! function needs of them.
 
 ghost use Rattle.std.specs.Prelude.{◌≡◌};
 ghost use Rattle.program_tree.specs.ProgramView as view;
@@ -133,8 +134,8 @@ fn branches_slots(branches: &[Branch]) -> usize
     most
 }
 
-/// The slots that comprehensions in statements take: the number behind that of the last one. It calls itself once for each
-/// block and each expression around another.
+/// The slots that comprehensions in statements take: the number behind that of the last one. It
+/// calls itself once for each block and each expression around another.
 #[cycle(step_frames)]
 pub fn steps_slots(steps: &[Step]) -> usize
     ensures { result ≡ resolved.steps_slots (view.steps steps.now) }

@@ -1,9 +1,11 @@
--- How the program ends: its exit status, and its line on standard error, which is empty where there is none
--- (docs/REPORT.md, "Exit status"; this project's own choice).
+-- How the program ends: its exit status, and its line on standard error, which is empty where there
+-- is none (docs/REPORT.md, "Exit status"; this project's own choice).
 use Rattle.std.specs.Prelude.{ℕ, List, [], Bool, true, false, Result, Ok, Err, codes}
 use Rattle.serve.specs.declared.stops.ServeStop.{ServeStop}
 use Rattle.serve.specs.declared.stops.ServeStop.TheVariants as stop
 
+-- the exit status and the line of a run: 0 after a report without a failure or a conflict, 1 after
+-- any other report, and else those of what stopped it
 abbrev pub closing_of : Result Bool ServeStop → ℕ × List ℕ
 closing_of (Ok false) = (0, [])
 closing_of (Ok true) = (1, [])

@@ -11,12 +11,14 @@ use Rattle.serve.specs.declared.stops.ServeStop.TheVariants as stop
 
 -- the input spells a workspace, and this is the report on it
 abbrev pub ReportsInput : Asked → List ℕ → Report → Type 0
-ReportsInput a input r = (workspace : List Pair) × Spells input workspace × Reports workspace a.labels a.steps r
+ReportsInput a input r =
+    (workspace : List Pair) × Spells input workspace × Reports workspace a.labels a.steps r
 
 -- the input spells a workspace in which more labels are reached than an answer has
 abbrev pub TooManyInput : Asked → List ℕ → Type 0
 TooManyInput a input =
-    (workspace : List Pair) × Spells input workspace × IsTooMany workspace a.labels a.steps NODE_LIMIT
+    (workspace : List Pair) × Spells input workspace
+    × IsTooMany workspace a.labels a.steps NODE_LIMIT
 
 -- the refusals that come from an input and its analysis
 abbrev pub IsOfReport : ServeStop → Type 0

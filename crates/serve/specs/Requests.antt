@@ -1,5 +1,5 @@
--- The request that the words of the command line and the input make together, and what is written for it
--- (docs/REPORT.md; this project's own choice).
+-- The request that the words of the command line and the input make together, and what is written
+-- for it (docs/REPORT.md; this project's own choice).
 use Rattle.std.specs.Prelude.{◌≡◌, ◌<◌, ◌⊎◌, ℕ, Bool, List, Option, Some, length}
 use Rattle.std.specs.Io.KnownBytes.{Appends, Consumes, IsAtEnd}
 use Rattle.request.specs.Asked.{Asked, asked}
@@ -22,16 +22,19 @@ pub record IsAnswered (words : List (List ℕ)) (input : List ℕ) (answer : Ans
   pub input_part : Spells input workspace
   pub answers : IsAnswer workspace asked.steps asked.labels answer
 
--- words and input make a request, the bytes of its answer were written and nothing else, and `loud` says whether the
--- answer has a load fault, a failed target or a conflict
-pub record WritesAnswer (words : List (List ℕ)) (input : List ℕ) (old new : Option (List ℕ)) (loud : Bool) : Type 0 where
+-- words and input make a request, the bytes of its answer were written and nothing else, and `loud`
+-- says whether the answer has a load fault, a failed target or a conflict
+pub record WritesAnswer (words : List (List ℕ)) (input : List ℕ) (old new : Option (List ℕ))
+    (loud : Bool) : Type 0 where
   pub answer : Answer
   pub answered : IsAnswered words input answer
   pub written : Appends old new (answer_text answer)
   pub is_loud : loud ≡ is_loud_answer answer
 
--- words and input make a request, and a beginning of its answer was written, perhaps none of it and perhaps all
-pub record BeginsAnswer (words : List (List ℕ)) (input : List ℕ) (old new : Option (List ℕ)) : Type 0 where
+-- words and input make a request, and a beginning of its answer was written, perhaps none of it and
+-- perhaps all
+pub record BeginsAnswer (words : List (List ℕ)) (input : List ℕ)
+    (old new : Option (List ℕ)) : Type 0 where
   pub answer : Answer
   pub answered : IsAnswered words input answer
   pub written : WritesBeginning old new (answer_text answer)
@@ -44,18 +47,20 @@ pub record AsksTooMany (words : List (List ℕ)) (input : List ℕ) : Type 0 whe
   pub input_part : Spells input workspace
   pub many : IsTooMany workspace asked.labels asked.steps NODE_LIMIT
 
+-- an input is no legal one: it spells no workspace
 abbrev pub SpellsNothing : List ℕ → Type 0
 SpellsNothing input = (workspace : List Pair) → Spells input workspace → ⊥
 
--- A source was read to its end, and of the bytes that it gave this holds. Where the source tells its bytes, these are
--- all that it had; where it doesn't, they are some bytes.
+-- A source was read to its end, and of the bytes that it gave this holds. Where the source tells
+-- its bytes, these are all that it had; where it doesn't, they are some bytes.
 pub record OfWholeInput (before after : Option (List ℕ)) (P : List ℕ → Type 0) : Type 0 where
   pub input : List ℕ
   pub taken : Consumes before after input
   pub end : IsAtEnd after
   pub holds : P input
 
--- what a source gave spells nothing, nor does anything that begins so: it was read to its end or past the limit
+-- what a source gave spells nothing, nor does anything that begins so: it was read to its end or
+-- past the limit
 pub record RefusesInput (before after : Option (List ℕ)) : Type 0 where
   pub input : List ℕ
   pub taken : Consumes before after input

@@ -11,17 +11,19 @@ use std::sync::Wait;
 use std::thread::Threads;
 use workspace::{Label, Workspace};
 
-/// The report on the requested labels and all that they depend on, under a limit of steps for each evaluation.
+/// The report on the requested labels and all that they depend on, under a limit of steps for each
+/// evaluation.
 ///
-/// Its bytes are the answer's, and depend on the workspace, the labels and the limit alone. `rt` is the permission to
-/// start threads and to wait. The targets are analysed by so many workers, one in the thread that calls
-/// and the others in threads of their own, which have ended when this returns. The gate is called round each target, by
-/// the worker that analyses it.
+/// Its bytes are the answer's, and depend on the workspace, the labels and the limit alone. `rt` is
+/// the permission to start threads and to wait. The targets are analysed by so many workers, one in
+/// the thread that calls and the others in threads of their own, which have ended when this
+/// returns. The gate is called round each target, by the worker that analyses it.
 ///
 /// # Errors
 ///
-/// `Workers` exactly where the number of workers isn't one from 1 to 64. `TooMany` only where more than [`NODE_LIMIT`]
-/// labels are reached. `NoMemory` where memory was refused; `NoThread` where a thread was refused.
+/// `Workers` exactly where the number of workers isn't one from 1 to 64. `TooMany` only where more
+/// than [`NODE_LIMIT`] labels are reached. `NoMemory` where memory was refused; `NoThread` where a
+/// thread was refused.
 pub fn analyse<R: Threads + Wait + Sync, G: Gate>(
     rt: &R,
     alloc: Global,

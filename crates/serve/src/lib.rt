@@ -1,9 +1,9 @@
-//! A whole request: from the words of the command line and an input to the report that is written, and to the exit
-//! status.
+//! A whole request: from the words of the command line and an input to the report that is written,
+//! and to the exit status.
 //!
 //! [`serve`] reads, analyses and writes, over any reader and writer; [`analyse`] is the analysis
-//! alone, of a workspace in memory, and [`report_on_shelf`] that by a [`Team`] of workers at any shelf;
-//! [`closing`] says how the program ends.
+//! alone, of a workspace in memory, and [`report_on_shelf`] that by a [`Team`] of workers at any
+//! shelf; [`closing`] says how the program ends.
 #![tactic(auto)]
 
 mod analysing;

@@ -1,10 +1,12 @@
 //! A whole request: from the words and the input to the report that is written.
 
-ghost use Rattle.std.specs.Prelude.{◌≡◌, ◌≢◌, ◌⊎◌, ◌≤◌, IfErr, IfOk, IfSome, OnOk, Err, None, map, true};
+ghost use Rattle.std.specs.Prelude.{◌≡◌, ◌≢◌, ◌⊎◌, ◌≤◌, IfErr, IfOk, IfSome, OnOk, Err, None, map};
+ghost use Rattle.std.specs.Prelude.{true};
 ghost use Rattle.std.specs.Io.KnownBytes.{IsAtEnd};
 ghost use Rattle.devices.specs.Devices.{Failed};
 ghost use Rattle.request.specs.Asked.{Asked, asked, asked_by};
-ghost use Rattle.serve.specs.Requests.{AsksFor, AsksTooMany, BeginsAnswer, OfWholeInput, RefusesInput, SpellsNothing, WritesAnswer};
+ghost use Rattle.serve.specs.Requests.{AsksFor, AsksTooMany, BeginsAnswer, OfWholeInput};
+ghost use Rattle.serve.specs.Requests.{RefusesInput, SpellsNothing, WritesAnswer};
 ghost use Rattle.serve.specs.RequestReports.{IsOfReport, ReportsInput, TooManyInput};
 
 use crate::stops::ServeStop;
@@ -63,16 +65,17 @@ fn report_of<R: Threads + Wait + Sync, G: Gate>(
 
 /// Reads the words, then the input to its end, analyses, and writes the report.
 ///
-/// `words` are those of the command line, the program's name first. `Ok(true)` says that the report has a load fault, a
-/// failed target or a conflict. `rt` is the permission to start threads and to wait; what is asked for is analysed as
-/// [`analyse`](crate::analyse) says. `leftovers` says whether the memory of what the report is made of is given back
-/// before it is written.
+/// `words` are those of the command line, the program's name first. `Ok(true)` says that the report
+/// has a load fault, a failed target or a conflict. `rt` is the permission to start threads and to
+/// wait; what is asked for is analysed as [`analyse`](crate::analyse) says. `leftovers` says
+/// whether the memory of what the report is made of is given back before it is written.
 ///
 /// # Errors
 ///
-/// Found in this order: `Words` before a byte is read; `Read`; `Input`; `TooMany`; `Write`. The input is read to its end
-/// or to the first byte past [`INPUT_LIMIT`]. `NoMemory` and `NoThread` may stand in place of any of these that isn't
-/// found yet. After `Write` a beginning of the report was written, after any other refusal nothing.
+/// Found in this order: `Words` before a byte is read; `Read`; `Input`; `TooMany`; `Write`. The
+/// input is read to its end or to the first byte past [`INPUT_LIMIT`]. `NoMemory` and `NoThread`
+/// may stand in place of any of these that isn't found yet. After `Write` a beginning of the report
+/// was written, after any other refusal nothing.
 pub fn serve<R, S, K, W, G>(
     rt: &R,
     alloc: Global,
@@ -88,7 +91,8 @@ where
     K: Sink,
     W: AsStr,
     G: Gate,
-    // The answer: for a reader that tells its bytes, of just these; else of some bytes that were read.
+    // The answer: for a reader that tells its bytes, of just these; else of some bytes that were
+    // read.
     ensures ok { IfOk result (λ loud. IfSome (S.remaining reader.old) (λ input. WritesAnswer
         (map W.text words.now) input (K.contents writer.old) (K.contents writer.new) loud)) }
     ensures whole { IfOk result (λ loud.
@@ -111,8 +115,8 @@ where
     ensures write_only { result ≡ Err ServeStop.Write
         → Failed (K.failures writer.old) (K.failures writer.new) }
 
-    // Their order: whatever comes after the words has words that ask for something, and whatever comes after the
-    // reads has no failed read.
+    // Their order: whatever comes after the words has words that ask for something, and whatever
+    // comes after the reads has no failed read.
     ensures words_first { IfErr result (λ e. (e ≡ ServeStop.Words) ⊎ ((e ≡ ServeStop.NoMemory)
         ⊎ ((a : Asked) × AsksFor (map W.text words.now) a))) }
     ensures reads_first { result ≢ Err ServeStop.Read

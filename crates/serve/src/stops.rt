@@ -48,7 +48,8 @@ pub enum ServeStop {
     Write,
 }
 
-/// The exit status, and the line on standard error without its newline, or the empty text where there is none.
+/// The exit status, and the line on standard error without its newline, or the empty text where
+/// there is none.
 ///
 /// `Ok(true)` says that the report has a load fault, a failed target or a conflict.
 pub fn closing(served: &Result<bool, ServeStop>) -> (u8, &'static str)

@@ -44,7 +44,8 @@ fn byte_of(item: &Value) -> Option<u8> {
     }
 }
 
-/// Appends a part of an input, a byte or a text with the number of times that it stands there; false where it is neither.
+/// Appends a part of an input, a byte or a text with the number of times that it stands there;
+/// false where it is neither.
 fn put_part(bytes: &mut Vec<u8>, part: &Value) -> Result<bool, AllocError> {
     if let Some(byte) = byte_of(part) {
         bytes.push(byte)?;

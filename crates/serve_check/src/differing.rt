@@ -76,8 +76,8 @@ fn with_workers<'a>(
     Ok(others)
 }
 
-/// The first answer to a case that isn't as wanted: as its words stand, or, where these aren't to be refused, by other numbers of
-/// workers.
+/// The first answer to a case that isn't as wanted: as its words stand, or, where these aren't to
+/// be refused, by other numbers of workers.
 ///
 /// # Errors
 ///

@@ -1,4 +1,5 @@
-//! Made workspaces: whether they are answered the same by any number of workers, how long they take, and their texts.
+//! Made workspaces: whether they are answered the same by any number of workers, how long they
+//! take, and their texts.
 
 use crate::requests::count_same;
 use crate::timing::time_workloads;
@@ -45,7 +46,8 @@ fn workspace(alloc: Global, words: &[&str]) -> Result<Option<String>, AllocError
     Ok(Some(made))
 }
 
-/// Serves so many random workspaces, prints for how many the reports are the same, and says whether for all.
+/// Serves so many random workspaces, prints for how many the reports are the same, and says whether
+/// for all.
 fn check<R: Print + Threads + Wait + Sync>(rt: &R, alloc: Global, count: u64) -> io::Result<bool> {
     let same = count_same(rt, alloc, count)?;
     println!(rt;

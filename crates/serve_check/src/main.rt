@@ -1,20 +1,25 @@
-//! Serves requests over memory: stored ones, whose answers are compared with what is wanted, and made ones, whose answers are the
-//! same by any number of workers, and are timed.
+//! Serves requests over memory: stored ones, whose answers are compared with what is wanted, and
+//! made ones, whose answers are the same by any number of workers, and are timed.
 //!
-//! Without a word both are done. Standard input is a JSON array of cases. A case is an array of six: its name; the words of the command
-//! line after the program's name; the input, as a text or, where it is long or none, as an array of parts, which are bytes and pairs of
-//! a text with the number of times that it stands there; the report that is wanted; the exit status; and the line on standard error
-//! without its newline, empty where there is none. Each request is served over memory as its words stand, and then, where its words
-//! aren't to be refused, by 1, 2 and 64 workers. For a case whose answer differs from what is wanted a line tells
-//! `NAME: WHAT --workers=N`, or `NAME: WHAT` for the words as they stand, where WHAT is `report`, `status` or `line`; and in the end
-//! `N of M cases agree`. Then some random workspaces are served by 1 and by 8 workers, with a deque each and at one queue, and it is
-//! printed for how many the reports are the same, which never changes; with `same N` that many alone.
+//! Without a word both are done. Standard input is a JSON array of cases. A case is an array of
+//! six: its name; the words of the command line after the program's name; the input, as a text or,
+//! where it is long or none, as an array of parts, which are bytes and pairs of a text with the
+//! number of times that it stands there; the report that is wanted; the exit status; and the line
+//! on standard error without its newline, empty where there is none. Each request is served over
+//! memory as its words stand, and then, where its words aren't to be refused, by 1, 2 and 64
+//! workers. For a case whose answer differs from what is wanted a line tells
+//! `NAME: WHAT --workers=N`, or `NAME: WHAT` for the words as they stand, where WHAT is `report`,
+//! `status` or `line`; and in the end `N of M cases agree`. Then some random workspaces are served
+//! by 1 and by 8 workers, with a deque each and at one queue, and it is printed for how many the
+//! reports are the same, which never changes; with `same N` that many alone.
 //!
-//! With `time` it prints, for made workspaces, the wall and the processor time of a request in milliseconds, from the bytes of the input
-//! to those of the report, and the report's length; with `time NAME`, for that one alone. `plain N`, `layers N WIDTH DEGREE`, `chain N`,
-//! `cycle N` and `random SEED` print a workspace, as `bzlan` reads it.
+//! With `time` it prints, for made workspaces, the wall and the processor time of a request in
+//! milliseconds, from the bytes of the input to those of the report, and the report's length; with
+//! `time NAME`, for that one alone. `plain N`, `layers N WIDTH DEGREE`, `chain N`, `cycle N` and
+//! `random SEED` print a workspace, as `bzlan` reads it.
 //!
-//! The status is 0 where all is as wanted, else 1, also where the input isn't of this form or the words are others.
+//! The status is 0 where all is as wanted, else 1, also where the input isn't of this form or the
+//! words are others.
 #![tactic(auto)]
 
 mod cases;

@@ -83,7 +83,8 @@ fn at_one_queue<R: Threads + Wait + Sync>(
     Ok(report.ok())
 }
 
-/// Whether a random workspace has the same report by 1 and by 8 workers with a deque each, and by 8 at one queue.
+/// Whether a random workspace has the same report by 1 and by 8 workers with a deque each, and by 8
+/// at one queue.
 fn is_same<R: Threads + Wait + Sync>(rt: &R, alloc: Global, seed: u64) -> Result<bool, AllocError> {
     let input = random_workspace(alloc, seed)?;
     let one = request(rt, alloc, input.as_str(), "--workers=1");

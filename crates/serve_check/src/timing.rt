@@ -15,7 +15,8 @@ const WORKERS: [&str; 3] = ["--workers=1", "--workers=2", "--workers=4"];
 /// How many times each request is served; the best time counts.
 const ROUNDS: usize = 3;
 
-/// Serves a request, and gives its wall and processor time in microseconds, and the length of the report.
+/// Serves a request, and gives its wall and processor time in microseconds, and the length of the
+/// report.
 fn time_once<R: Clock + CpuClock + Threads + Wait + Sync>(
     rt: &R,
     alloc: Global,
@@ -50,7 +51,8 @@ fn time_workers<R: Print + Clock + CpuClock + Threads + Wait + Sync>(
     )
 }
 
-/// Prints the best times of a workspace: by each number of workers where it has many targets, and else by one.
+/// Prints the best times of a workspace: by each number of workers where it has many targets, and
+/// else by one.
 fn time_workload<R: Print + Clock + CpuClock + Threads + Wait + Sync>(
     rt: &R,
     alloc: Global,
@@ -68,7 +70,8 @@ fn time_workload<R: Print + Clock + CpuClock + Threads + Wait + Sync>(
     Ok(())
 }
 
-/// Prints the times of the workspaces of this name, or of all where there is none, and says whether there was any.
+/// Prints the times of the workspaces of this name, or of all where there is none, and says whether
+/// there was any.
 pub fn time_workloads<R: Print + Clock + CpuClock + Threads + Wait + Sync>(
     rt: &R,
     alloc: Global,

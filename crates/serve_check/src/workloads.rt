@@ -19,7 +19,8 @@ pub enum Workload {
     Layers,
     /// 20,000 targets that depend on nothing, and one that depends on all of them.
     Single,
-    /// 20,000 targets in 20 layers, of which each depends on so many, and one above. By 40, the report has 243 MB.
+    /// 20,000 targets in 20 layers, of which each depends on so many, and one above. By 40, the
+    /// report has 243 MB.
     Degree(usize),
     /// 10,000 modules in 10 layers, of which each loads from 12 of the layer before.
     Modules,

@@ -17,7 +17,11 @@ use std::sync::{Arc, Mutex, Wait};
 pub trait Shelf: Drop {
     ghost nodes: { Self → ℕ };
 
-    /// Puts a node of the graph on the shelf. `NoMemory` comes where no memory could be had for it.
+    /// Puts a node of the graph on the shelf.
+    ///
+    /// # Errors
+    ///
+    /// `NoMemory` where no memory could be had for it.
     fn put(&mut self, n: NodeId) -> Result<(), NoMemory>
         requires node { n < nodes self.old }
         ensures same { nodes self.new ≡ nodes self.old };
@@ -27,17 +31,20 @@ pub trait Shelf: Drop {
         ensures same { nodes self.new ≡ nodes self.old }
         ensures node { IfSome result (λ n. n < nodes self.old) };
 
-    /// Whether this end has others to give before it gives what is put on it next, so that another end may
-    /// give that in the meantime.
+    /// Whether this end has others to give before it gives what is put on it next, so that another
+    /// end may give that in the meantime.
     fn has_others_first(&self) -> bool {
         false
     }
 
-    /// Puts the first nodes of a run over a graph with so many nodes on the shelf: once, before any of its
-    /// ends is asked for one.
+    /// Puts the first nodes of a run over a graph with so many nodes on the shelf: once, before any
+    /// of its ends is asked for one.
     ///
-    /// It puts them on the ends in turn, if an end has no way of its own. `NoMemory` comes where no
-    /// memory could be had for them.
+    /// It puts them on the ends in turn, if an end has no way of its own.
+    ///
+    /// # Errors
+    ///
+    /// `NoMemory` where no memory could be had for them.
     fn spread(ends: &mut Vec<Self>, first: &[NodeId], count: usize) -> Result<(), NoMemory>
         requires some { 0 < vec_len ends.old }
         requires shelves { All (λ e. nodes e ≡ count) ends.old.items }
@@ -97,7 +104,9 @@ impl<'r, R: Wait> Shelf for LockShelf<'r, R> {
 impl<'r, R: Wait> LockShelf<'r, R> {
     /// As many ends of one queue as there are workers, for a graph with so many nodes.
     ///
-    /// `NoMemory` comes where the allocator refuses memory, and then nothing is kept.
+    /// # Errors
+    ///
+    /// `NoMemory` where memory was refused; nothing is kept then.
     pub fn ends(
         rt: &'r R,
         alloc: Global,

@@ -25,7 +25,8 @@ const TRIES: usize = 16;
 /// How many of the first nodes an end takes at once, at most.
 const LONGEST: usize = 64;
 
-/// Into how many parts for each end the first nodes that are left are cut. An end takes one such part.
+/// Into how many parts for each end the first nodes that are left are cut. An end takes one such
+/// part.
 const PARTS: usize = 8;
 
 /// The rule of the deques: whoever uses one knows one number of nodes, and what lies in it is below
@@ -129,8 +130,8 @@ struct First {
 }
 
 impl First {
-    /// How many an end takes at once: ever fewer towards the end, so that no end has many left while
-    /// the others have none, where nodes take alike.
+    /// How many an end takes at once: ever fewer towards the end, so that no end has many left
+    /// while the others have none, where nodes take alike.
     fn length(&self) -> usize {
         let taken = self.taken.load(Ordering::SeqCst);
         let left = self.numbers.len().saturating_sub(taken);
@@ -174,9 +175,9 @@ impl Hand {
 /// A worker's end of the shelf: a deque of its own, and the means to steal from those of the other
 /// workers. Seen as its number of nodes. No call of it waits.
 ///
-/// Once it has been asked for a number and has found none of the first nodes left, it keeps one that is
-/// put while its own deque is empty beside that deque. Its next `take` gives this one, and no other end
-/// can. Nor can another give what it has taken of the first nodes of a run.
+/// Once it has been asked for a number and has found none of the first nodes left, it keeps one
+/// that is put while its own deque is empty beside that deque. Its next `take` gives this one, and
+/// no other end can. Nor can another give what it has taken of the first nodes of a run.
 #[derive(Drop)]
 pub struct StealShelf {
     own: Own,
@@ -267,7 +268,8 @@ impl Shelf for StealShelf {
         }
     }
 
-    /// The number that was kept, or else one of the first, or one from its own deque or that of another.
+    /// The number that was kept, or else one of the first, or one from its own deque or that of
+    /// another.
     fn take(&mut self) -> Option<NodeId> {
         self.was_asked = true;
         if let Some(n) = self.kept.take() {
@@ -283,8 +285,8 @@ impl Shelf for StealShelf {
         self.first.is_some()
     }
 
-    /// Each end takes some of these nodes at once, by one count, and gives them; the last end has the first of them. Each
-    /// node is given once.
+    /// Each end takes some of these nodes at once, by one count, and gives them; the last end has
+    /// the first of them. Each node is given once.
     fn spread(ends: &mut Vec<StealShelf>, first: &[NodeId], count: usize) -> Result<(), NoMemory> {
         match share_all(ends, first, count) {
             Ok(()) => Ok(()),
@@ -293,8 +295,8 @@ impl Shelf for StealShelf {
     }
 }
 
-/// Lets all ends take these nodes, some at once, by one count. The last end has some from the beginning: its
-/// worker begins before the others, or last where it starts their threads at once.
+/// Lets all ends take these nodes, some at once, by one count. The last end has some from the
+/// beginning: its worker begins before the others, or last where it starts their threads at once.
 fn share_all(ends: &mut Vec<StealShelf>, first: &[NodeId], nodes: usize) -> Result<(), AllocError>
     requires { All (λ e. e ≡ nodes) ends.old.items }
     ensures size { vec_len ends.new ≡ vec_len ends.old }
@@ -389,7 +391,9 @@ fn made(own: Own, others: Vec<Other>, nodes: usize) -> StealShelf
 impl StealShelf {
     /// An end for each of up to 64 workers, for a graph with so many nodes.
     ///
-    /// `NoMemory` comes where the allocator refuses memory, and then nothing is kept.
+    /// # Errors
+    ///
+    /// `NoMemory` where memory was refused; nothing is kept then.
     pub fn ends(alloc: Global, workers: usize, nodes: usize) -> Result<Vec<StealShelf>, NoMemory>
         requires workers { workers < 65 }
         ensures count { IfOk result (λ v. length v.items ≡ workers) }

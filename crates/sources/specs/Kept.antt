@@ -11,18 +11,25 @@ use Rattle.loading.specs.Loads.{Path, Load, Read}
 use Rattle.workspace.specs.Workspaces.{Pair}
 use Rattle.evaluation.specs.Workspaces.{loads_in, parsed, code_of_parsed, linked_files}
 
--- The names of a file's top level, how many functions it has, with its top level, and its loads or its syntax fault.
+-- The names of a file's top level, how many functions it has, with its top level, and its loads or
+-- its syntax fault.
 pub record KeptView : Type 0 where
   pub names : List Name
   pub functions : ℕ
   pub loads : Result (List Load) (FaultKind × ℕ)
 
+-- the loads of the file at a path that was parsed so, or the kind and the line of its syntax fault
 abbrev pub loads_of : Path → Result Program SyntaxFault → Result (List Load) (FaultKind × ℕ)
 loads_of path (Ok p) = Ok (loads_in path p.steps)
 loads_of path (Err f) = Err (f.kind, f.line)
 
+-- what is kept of the file at a path that was parsed so
 abbrev pub kept_as : Path → Result Program SyntaxFault → KeptView
-kept_as path r = record { names = (code_of_parsed r).globals; functions = length (functions (code_of_parsed r)); loads = loads_of path r }
+kept_as path r = record {
+  names = (code_of_parsed r).globals;
+  functions = length (functions (code_of_parsed r));
+  loads = loads_of path r;
+}
 
 -- what is kept of a file of a workspace
 abbrev pub kept_of : Pair → KeptView

@@ -1,5 +1,6 @@
 //! The files of a workspace, in the order of their paths.
-ghost use Rattle.std.specs.Prelude.{◌≡◌, ◌++◌, false, IfNone, IfOk, OnOk, length, position, bytes_eq};
+ghost use Rattle.std.specs.Prelude.{◌≡◌, ◌++◌, false, IfNone, IfOk, OnOk, length, position};
+ghost use Rattle.std.specs.Prelude.{bytes_eq};
 ghost use Rattle.std.specs.List.Sorted.{IsPermutation};
 ghost use Rattle.workspace.specs.Files.{file_pairs};
 ghost use Rattle.workspace.specs.Workspaces.{paths_of};
@@ -13,7 +14,8 @@ use workspace::{File, Workspace, is_module};
 /// A file's path, and its text.
 pub type PathAndText = (Text, Text);
 
-/// The files of a workspace in ascending order of their paths. The place of a file, from 0, is its number.
+/// The files of a workspace in ascending order of their paths. The place of a file, from 0, is its
+/// number.
 pub struct Files {
     files: Vec<PathAndText>,
     paths: Vec<Text>,
@@ -63,8 +65,8 @@ fn paths_of(alloc: Global, files: &[PathAndText]) -> Result<Vec<Text>, AllocErro
     Ok(paths)
 }
 
-/// For each path, how many modules stand before it: of a module its number among them. Modules are looked for there first, and
-/// nothing is asked of these numbers.
+/// For each path, how many modules stand before it: of a module its number among them. Modules are
+/// looked for there first, and nothing is asked of these numbers.
 fn module_numbers(alloc: Global, paths: &[Text]) -> Result<Vec<usize>, AllocError> {
     let mut numbers = Vec::with_capacity(alloc, paths.len())?;
     let mut next: usize = 0;
@@ -82,6 +84,10 @@ fn module_numbers(alloc: Global, paths: &[Text]) -> Result<Vec<usize>, AllocErro
 
 impl Files {
     /// The files of a workspace.
+    ///
+    /// # Errors
+    ///
+    /// `AllocError` where memory was refused.
     pub fn of(alloc: Global, workspace: &Workspace) -> Result<Files, AllocError>
         ensures all { IfOk result (IsPermutation workspace.now) }
         ensures ascending { IfOk result (λ f. ArePaths (paths_of f)) }

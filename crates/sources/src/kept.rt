@@ -29,6 +29,7 @@ pub struct Kept {
     pub names: Shared<TopNames>,
     /// How many functions it has, with its top level.
     pub functions: usize,
+    /// Its loads, or its syntax fault.
     pub loads: Loads,
 }
 
@@ -130,6 +131,10 @@ fn faulty(alloc: Global, path: &Text, fault: SyntaxFault) -> Result<FileDone, Al
 }
 
 /// Reads and compiles the file of a path and a text. What isn't Starlark isn't read.
+///
+/// # Errors
+///
+/// `AllocError` where memory was refused. A syntax fault is no error: it is kept.
 pub fn read_file(alloc: Global, path: &Text, text: &str) -> Result<FileDone, AllocError>
     ensures kept { IfOk result (λ d. d.kept ≡ kept_as path.now (parsed path.now text.now)) }
     ensures code { IfOk result

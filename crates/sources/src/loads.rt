@@ -51,6 +51,10 @@ fn add_load(
 }
 
 /// The load statements of the file at a path, in order.
+///
+/// # Errors
+///
+/// `AllocError` where memory was refused.
 pub fn loads_in(
     alloc: Global,
     path: &Text,

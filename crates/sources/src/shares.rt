@@ -38,6 +38,10 @@ fn statement(alloc: Global, load: &LoadStatement) -> Result<LoadStatement, Alloc
 }
 
 /// The same statements.
+///
+/// # Errors
+///
+/// `AllocError` where memory was refused.
 pub fn statements(alloc: Global, loads: &[LoadStatement]) -> Result<Vec<LoadStatement>, AllocError>
     ensures { IfOk result (λ v. v.items ≡ loads.now) }
 {

@@ -24,8 +24,8 @@ use std::marker::Model;
 use std::thread::Threads;
 use workspace::Workspace;
 
-/// The files of a workspace, in ascending order of their paths: what was read of each, and the codes of all of them. The
-/// place of a file, from 0, is its number.
+/// The files of a workspace, in ascending order of their paths: what was read of each, and the
+/// codes of all of them. The place of a file, from 0, is its number.
 pub struct Sources {
     files: Files,
     kept: Vec<Kept>,
@@ -73,8 +73,9 @@ fn as_read(
 }
 
 impl Sources {
-    /// The files of a workspace. Each is parsed and compiled once, by one of so many threads, which have ended when this
-    /// returns, and its tree let go at once. `rt` is the permission to start threads.
+    /// The files of a workspace. Each is parsed and compiled once, by one of so many threads, which
+    /// have ended when this returns, and its tree let go at once. `rt` is the permission to start
+    /// threads.
     ///
     /// # Errors
     ///
@@ -105,8 +106,8 @@ impl Sources {
         self.files.paths()
     }
 
-    /// For each file, how many modules stand before it: where its module is looked for first. Nothing is promised of these
-    /// numbers, since whoever looks there compares the paths.
+    /// For each file, how many modules stand before it: where its module is looked for first.
+    /// Nothing is promised of these numbers, since whoever looks there compares the paths.
     pub fn module_numbers(&self) -> &[usize] {
         self.files.module_numbers()
     }
@@ -118,7 +119,8 @@ impl Sources {
         self.files.number(path)
     }
 
-    /// The codes of the files, by number. A file that has a syntax fault or isn't Starlark has that of an empty one.
+    /// The codes of the files, by number. A file that has a syntax fault or isn't Starlark has that
+    /// of an empty one.
     pub fn linked(&self) -> &Linked
         ensures { codes_of result.now ≡ code_of (linked_files self.now) }
     {
@@ -143,7 +145,8 @@ impl Sources {
         kept.functions
     }
 
-    /// The file at a path, or the kind and the line of its syntax fault. A path without a file is read as an empty one.
+    /// The file at a path, or the kind and the line of its syntax fault. A path without a file is
+    /// read as an empty one.
     ///
     /// # Errors
     ///

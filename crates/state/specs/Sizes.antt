@@ -14,8 +14,10 @@ abbrev pub made_or_refused : {A : Type 0} → Result A Kind → Result (Unit {0}
 made_or_refused (Ok a) = Ok tt
 made_or_refused (Err k) = Err k
 
--- what two values add up to, or `large` where that is a list or a tuple of more items than one may have
+-- what two values add up to, or `large` where that is a list or a tuple of more items than one may
+-- have
 abbrev pub sum_within : Shape → Shape → Result Made Kind
 sum_within (key j) (key k) = key_sum j k
-sum_within (items j xs) (items k ys) = if same_truth j k then after (sequence j) (joined_items ys xs) else Err kind.Wrong
+sum_within (items j xs) (items k ys) =
+    if same_truth j k then after (sequence j) (joined_items ys xs) else Err kind.Wrong
 sum_within _ _ = Err kind.Wrong

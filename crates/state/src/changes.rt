@@ -1,4 +1,5 @@
-//! Changes of lists and dicts. Each is refused by the first of `type`, `frozen`, `iterating`, `index` and `large`.
+//! Changes of lists and dicts. Each is refused by the first of `type`, `frozen`, `iterating`,
+//! `index` and `large`.
 ghost use Rattle.std.specs.Prelude.{◌≡◌, ◌++◌, Ok, Err, Some, None, MatchResult, IfOk, OnOk};
 ghost use Rattle.ticks.specs.Ticking.{FaultOr};
 ghost use Rattle.heap.specs.Cells.{list_changed, dict_changed, indexed, keyed, joined};
@@ -16,6 +17,10 @@ use std::alloc::{AllocError, Global};
 use values::{Broken, Group, Item, Items, Kind, Leaf, Seen, Value};
 
 /// `list.append(item)`.
+///
+/// # Errors
+///
+/// The first of `type`, `frozen`, `iterating` and `large`; `NoMemory` where memory was refused.
 pub fn append(state: &mut State, list: &Value, item: Value) -> Result<Value, Broken>
     ensures { Does (append list.now item) state.old result state.new }
 {
@@ -23,8 +28,13 @@ pub fn append(state: &mut State, list: &Value, item: Value) -> Result<Value, Bro
     Ok(Value::Leaf(Leaf::None))
 }
 
-/// `list.extend(sequence)`, by the items that it has now. A list that can't be extended by so many refuses them before any
-/// is copied.
+/// `list.extend(sequence)`, by the items that it has now. A list that can't be extended by so many
+/// refuses them before any is copied.
+///
+/// # Errors
+///
+/// `type` where the sequence is no list or tuple; then the first of `type`, `frozen`, `iterating`
+/// and `large`, of the list; `NoMemory` where memory was refused.
 pub fn extend(
     alloc: Global,
     state: &mut State,
@@ -53,6 +63,10 @@ fn more_of(alloc: Global, state: &State, list: &Value, sequence: Item<'_>) -> Re
 }
 
 /// The items of a group.
+///
+/// # Errors
+///
+/// `AllocError` where memory was refused.
 pub fn copied(alloc: Global, group: Group<'_>) -> Result<Items, AllocError>
     ensures { IfOk result (λ items. items ≡ group_items group.entry) }
 {
@@ -73,6 +87,11 @@ pub(crate) fn copy_into(group: Group<'_>, items: &mut Items) -> Result<(), Alloc
 }
 
 /// `base[index] = value`.
+///
+/// # Errors
+///
+/// The first of `type`, `frozen` and `iterating`; then `index` where a list has no such item, and
+/// `large` where a dict would have an entry too many; `NoMemory` where memory was refused.
 pub fn set_item(
     state: &mut State,
     base: &Value,

@@ -15,7 +15,8 @@ use visits::equal;
 ///
 /// # Errors
 ///
-/// Of each pair `steps`, `deep`, and `type` where two values of a type that isn't compared meet. It takes no memory.
+/// Of each pair `steps`, `deep`, and `type` where two values of a type that isn't compared meet. It
+/// takes no memory.
 pub fn equals(state: &mut State, x: Item<'_>, y: Item<'_>) -> Result<bool, Kind>
     ensures { DoesKind (equals (item_value x.entry) (item_value y.entry)) state.old result
         state.new }
@@ -24,6 +25,10 @@ pub fn equals(state: &mut State, x: Item<'_>, y: Item<'_>) -> Result<bool, Kind>
 }
 
 /// Whether one of the items equals the value: `item == x`, in order, until one does.
+///
+/// # Errors
+///
+/// The fault of the first comparison that has one, as `equals` has them.
 pub fn is_among(heap: &Heap, ticks: &mut Ticks, x: Item<'_>, items: Group<'_>) -> Result<bool, Kind>
     ensures { SaysKind (among (equal_at VISITED_LEVELS heap.now) (item_value x.entry)
         (group_items items.entry) ticks.old) result ticks.new }

@@ -1,11 +1,13 @@
 //! Items of strings, lists, tuples and dicts.
-ghost use Rattle.std.specs.Prelude.{◌≡◌, ◌<◌, ◌∷◌, [], Ok, Err, Some, None, MatchResult, IfOk, option_copied};
+ghost use Rattle.std.specs.Prelude.{◌≡◌, ◌<◌, ◌∷◌, [], Ok, Err, Some, None, MatchResult, IfOk};
+ghost use Rattle.std.specs.Prelude.{option_copied};
 ghost use Rattle.ticks.specs.Ticking.{FaultOr};
 ghost use Rattle.values.specs.Seeing.{seen, item_value, group_items, table_entries, option_value};
 ghost use Rattle.operations.specs.States.{Does, Stays, Gives};
 ghost use Rattle.operations.specs.Reading.{number_in, key_in, of_type};
 ghost use Rattle.operations.specs.Making.{text};
-ghost use Rattle.operations.specs.Items.{item, item_in, item_at, value_at, key_item, byte_at, byte_text, found};
+ghost use Rattle.operations.specs.Items.{item, item_in, item_at, value_at, key_item, byte_at};
+ghost use Rattle.operations.specs.Items.{byte_text, found};
 
 use crate::reading::{key_of, number_of};
 use heap::place_of;
@@ -19,7 +21,8 @@ use values::{Broken, Group, Item, Key, Kind, Seen, Table, Value};
 ///
 /// # Errors
 ///
-/// `type`, where the base has no items or the index isn't one of it; then `index`, or of a dict `key`.
+/// `type`, where the base has no items or the index isn't one of it; then `index`, or of a dict
+/// `key`.
 #[inline(always)]
 pub fn item<'a>(
     alloc: Global,
@@ -138,7 +141,12 @@ fn value_at<'a>(entries: Table<'a>, key: &Key) -> Result<Operand<'a>, Broken>
     }
 }
 
-/// What these entries have for a key, if it is one of theirs: `type` where it can't be one. The value of a key is lent.
+/// What these entries have for a key, if it is one of theirs: `type` where it can't be one. The
+/// value of a key is lent.
+///
+/// # Errors
+///
+/// `type` where the value can't be a key.
 pub fn find<'a>(entries: Table<'a>, key: &Seen<'_>) -> Result<Option<Operand<'a>>, Broken>
     ensures { Gives (found (table_entries entries.entry) (seen key.now)) result }
 {

@@ -6,7 +6,8 @@ ghost use Rattle.values.specs.Seeing.{seen, item_value, table_entries, option_va
 ghost use Rattle.values.specs.Keyed.{has_key};
 ghost use Rattle.operations.specs.Reading.{key_in, of_type};
 ghost use Rattle.operations.specs.States.{Does, Stays};
-ghost use Rattle.operations.specs.Making.{new_list, new_tuple, new_dict, placed, collect, keep, enter, entries_in, unless_there, is_held};
+ghost use Rattle.operations.specs.Making.{new_list, new_tuple, new_dict, placed, collect, keep};
+ghost use Rattle.operations.specs.Making.{enter, entries_in, unless_there, is_held};
 
 use crate::changes::set_key;
 use heap::Heap;
@@ -15,6 +16,10 @@ use std::alloc::Global;
 use values::{Broken, Entries, Item, Items, Kind, Seen, Value};
 
 /// A new list of these items, or `large`.
+///
+/// # Errors
+///
+/// `large` where there are too many items; `NoMemory` where memory was refused.
 pub fn new_list(state: &mut State, items: Items) -> Result<Value, Broken>
     ensures { Does (new_list items) state.old result state.new }
 {
@@ -25,6 +30,10 @@ pub fn new_list(state: &mut State, items: Items) -> Result<Value, Broken>
 }
 
 /// A new tuple of these items, or `large`.
+///
+/// # Errors
+///
+/// `large` where there are too many items; `NoMemory` where memory was refused.
 pub fn new_tuple(state: &mut State, items: Items) -> Result<Value, Broken>
     ensures { Does (new_tuple items) state.old result state.new }
 {
@@ -35,6 +44,10 @@ pub fn new_tuple(state: &mut State, items: Items) -> Result<Value, Broken>
 }
 
 /// A new dict, without entries.
+///
+/// # Errors
+///
+/// `NoMemory` where memory was refused.
 pub fn new_dict(alloc: Global, state: &mut State) -> Result<Value, Broken>
     ensures { Does new_dict state.old result state.new }
 {
@@ -46,6 +59,10 @@ pub fn new_dict(alloc: Global, state: &mut State) -> Result<Value, Broken>
 }
 
 /// What an operation gave, at its place: a value of its own, or a new cell.
+///
+/// # Errors
+///
+/// `large` where there are too many items; `NoMemory` where memory was refused.
 #[inline(always)]
 pub fn place(state: &mut State, made: Made) -> Result<Value, Broken>
     ensures { Does (placed made) state.old result state.new }
@@ -59,6 +76,10 @@ pub fn place(state: &mut State, made: Made) -> Result<Value, Broken>
 }
 
 /// An item more of a comprehension's list, or `large`.
+///
+/// # Errors
+///
+/// `large` where the list would have an item too many; `NoMemory` where memory was refused.
 pub fn collect(state: &mut State, list: &Value, item: Value) -> Result<(), Broken>
     ensures { Does (collect list.now item) state.old result state.new }
 {
@@ -68,14 +89,26 @@ pub fn collect(state: &mut State, list: &Value, item: Value) -> Result<(), Broke
     }
 }
 
-/// An entry more of a comprehension's dict: `type` where the key can't be one, or `large`. The later value of a key stays.
+/// An entry more of a comprehension's dict: `type` where the key can't be one, or `large`. The
+/// later value of a key stays.
+///
+/// # Errors
+///
+/// `type` where the key can't be one; `large` where the dict would have an entry too many;
+/// `NoMemory` where memory was refused.
 pub fn keep(state: &mut State, dict: &Value, key: Item<'_>, value: Value) -> Result<(), Broken>
     ensures { Does (keep dict.now (item_value key.entry) value) state.old result state.new }
 {
     set_key(state, dict, key, value)
 }
 
-/// An entry more of a dict display: `type` where the key can't be one, then `key` where it is there already.
+/// An entry more of a dict display: `type` where the key can't be one, then `key` where it is there
+/// already.
+///
+/// # Errors
+///
+/// `type` where the key can't be one; `key` where the dict has it already; `large` where the dict
+/// would have an entry too many; `NoMemory` where memory was refused.
 pub fn enter(state: &mut State, dict: &Value, key: Item<'_>, value: Value) -> Result<(), Broken>
     ensures { Does (enter dict.now (item_value key.entry) value) state.old result state.new }
 {

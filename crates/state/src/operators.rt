@@ -1,5 +1,6 @@
 //! Sums, arithmetic and order.
-ghost use Rattle.std.specs.Prelude.{◌≡◌, ◌++◌, Ok, Err, Some, None, MatchOption, MatchResult, IfOk, IfSome};
+ghost use Rattle.std.specs.Prelude.{◌≡◌, ◌++◌, Ok, Err, Some, None, MatchOption, MatchResult, IfOk};
+ghost use Rattle.std.specs.Prelude.{IfSome};
 ghost use Rattle.ticks.specs.Ticking.{FaultOr};
 ghost use Rattle.values.specs.Shape.{shape};
 ghost use Rattle.values.specs.Seeing.{seen, item_value, group_items};
@@ -9,7 +10,9 @@ ghost use Rattle.operations.specs.Reading.{number_in, of_type};
 ghost use Rattle.operations.specs.Making.{placed, make};
 ghost use Rattle.operations.specs.Changes.{extension, extended};
 ghost use Rattle.heap.specs.Cells.{after, joined_items};
-ghost use Rattle.operations.specs.Operators.{number_fault, new_number, key_sum, plus, add_in_place, extended_or_sum, calculated, calculate, number_value, negative, key_order, order_in, compare};
+ghost use Rattle.operations.specs.Operators.{number_fault, new_number, key_sum, plus, add_in_place};
+ghost use Rattle.operations.specs.Operators.{extended_or_sum, calculated, calculate, number_value};
+ghost use Rattle.operations.specs.Operators.{negative, key_order, order_in, compare};
 ghost use Rattle.state.specs.Sizes.{sum_within};
 
 use crate::changes::{copied, copy_into};
@@ -151,8 +154,13 @@ fn both_copied(alloc: Global, xs: Group<'_>, ys: Group<'_>) -> Result<Items, All
     Ok(items)
 }
 
-/// `x += y`: a list is extended in place by a list or a tuple, and is given itself; all else is `x + y`, which only reads
-/// `x`: one that is lent isn't counted.
+/// `x += y`: a list is extended in place by a list or a tuple, and is given itself; all else is
+/// `x + y`, which only reads `x`: one that is lent isn't counted.
+///
+/// # Errors
+///
+/// Of a list that is extended by a list or a tuple, the first of `frozen`, `iterating` and `large`;
+/// of all else the fault of `x + y`. `NoMemory` where memory was refused.
 pub fn add_in_place(
     alloc: Global,
     state: &mut State,
@@ -168,8 +176,8 @@ pub fn add_in_place(
     }
 }
 
-/// What `x += y` extends `x` by, None where that is the sum. A list that can't be extended by so many items refuses them
-/// before any is copied.
+/// What `x += y` extends `x` by, None where that is the sum. A list that can't be extended by so
+/// many items refuses them before any is copied.
 fn extension_in(
     alloc: Global,
     state: &State,

@@ -12,8 +12,8 @@ ghost use Rattle.state.specs.Sizes.{made_or_refused};
 use heap::Heap;
 use values::{Branch, Broken, Cell, Frozen, Group, Held, Item, Kind, LARGEST, Value};
 
-/// A list may be extended by these items, or refuses them as its extension does: by the first of `type`, `frozen`,
-/// `iterating` and `large`.
+/// A list may be extended by these items, or refuses them as its extension does: by the first of
+/// `type`, `frozen`, `iterating` and `large`.
 pub(crate) fn room(heap: &Heap, list: Item<'_>, more: Group<'_>) -> Result<(), Broken>
     ensures { Gives (made_or_refused (list_changed (joined (group_items more.entry)) heap.now
         (item_value list.entry))) result }

@@ -12,6 +12,10 @@ use operations::State;
 use values::{Broken, Frozen, Held, Item, Kind, Value};
 
 /// One tick, or `steps`.
+///
+/// # Errors
+///
+/// `steps` where no tick of the limit is left.
 #[inline(always)]
 pub fn tick(state: &mut State) -> Result<(), Kind>
     ensures { DoesKind tick state.old result state.new }
@@ -23,7 +27,8 @@ pub fn tick(state: &mut State) -> Result<(), Kind>
 ///
 /// # Errors
 ///
-/// `type`, where the value is no list, tuple or dict; want of memory only where its cell counts 2^64 - 1 walks already.
+/// `type`, where the value is no list, tuple or dict; want of memory only where its cell counts
+/// 2^64 - 1 walks already.
 pub fn begin(state: &mut State, walked: Item<'_>) -> Result<(), Broken>
     ensures begun { MatchResult result (λ _. begin (item_value walked.entry) state.old
         ≡ Ok (walked_items (shape state.old.heap (item_value walked.entry)), state.new))

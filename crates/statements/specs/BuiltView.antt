@@ -8,17 +8,22 @@ use Rattle.statements.specs.declared.blocks.Body.TheVariants.{Nothing, Block, St
 use Rattle.statements.specs.declared.blocks.Read.{Read}
 use Rattle.statements.specs.declared.blocks.Pending.{Pending}
 
+-- what belongs to a line that was read: nothing, a block behind it, or a statement on the line
+-- itself
 abbrev pub body_of : Body → built.Belongs
 body_of Nothing = built.nothing
 body_of Block = built.block
 body_of (Statement f) = built.statement (form_of f.value)
 
+-- a line that was read, before it is put into a block
 abbrev pub read_of : Read → built.Made
-read_of r = record { number = r.number; column = r.column; form = form_of r.form; body = body_of r.body }
+read_of r =
+    record { number = r.number; column = r.column; form = form_of r.form; body = body_of r.body }
 
 -- a block has its last line first
 abbrev pub pending_of : {L : Type 0} → (L → Lines → Lines) → Pending L → built.Pending
-pending_of seen p = record { column = p.column; lines = lines_of (map seen (reverse p.lines.items)) }
+pending_of seen p =
+    record { column = p.column; lines = lines_of (map seen (reverse p.lines.items)) }
 
 -- the innermost block is the last
 abbrev pub pendings : {L : Type 0} → (L → Lines → Lines) → List (Pending L) → List built.Pending

@@ -1,4 +1,5 @@
-//! The blocks of a file: its lines are put into the blocks of their heads, from the last line to the first.
+//! The blocks of a file: its lines are put into the blocks of their heads, from the last line to
+//! the first.
 
 ghost use Rattle.std.specs.Prelude.{◌≡◌, ◌∷◌, [], map, IfOk};
 ghost use Rattle.grammar.specs.BareLines.{Lines};
@@ -29,8 +30,8 @@ pub(crate) struct Read<'t> {
     pub(crate) body: Body<'t>,
 }
 
-/// The lines of a block, the last one first, of which those before them aren't known yet. It doesn't matter here what a
-/// line is.
+/// The lines of a block, the last one first, of which those before them aren't known yet. It
+/// doesn't matter here what a line is.
 #[derive(Drop)]
 struct Pending<L> {
     column: usize,

@@ -1,4 +1,5 @@
-//! The form of a logical line, read by descent: its head or its simple statement, with the expressions in it.
+//! The form of a logical line, read by descent: its head or its simple statement, with the
+//! expressions in it.
 
 ghost use Rattle.std.specs.Prelude.{◌≡◌, ◌++◌, ◌∷◌, ◌-◌, [], IfOk, OnOk, Some, map};
 ghost use Rattle.std.specs.Option.{option_map};
@@ -107,7 +108,8 @@ impl FormReader {
         }
     }
 
-    /// Expressions with commas between them, up to the end of the line, behind those that were found.
+    /// Expressions with commas between them, up to the end of the line, behind those that were
+    /// found.
     #[tactic(auto, unfolding(grammar::specs::FormDescent::more_values))]
     fn more_values<'t>(
         &self,
@@ -145,7 +147,8 @@ impl FormReader {
         Ok(Box::into_inner(part.expr))
     }
 
-    /// What is assigned or returned: an expression up to the end of the line, or several, which are a tuple.
+    /// What is assigned or returned: an expression up to the end of the line, or several, which are
+    /// a tuple.
     #[tactic(auto, unfolding(grammar::specs::FormDescent::value))]
     fn value<'t>(&self, ahead: &mut Ahead<'_, 't>) -> Result<Expr<'t>, Stop>
         ensures { Makes tree_of (spec.value self.now.turns ahead.old) result }
@@ -468,8 +471,8 @@ impl FormReader {
     }
 }
 
-/// The form that these tokens are, with what belongs to it; None where they are none, or one with an expression that is
-/// deeper than [`MAX_DEPTH`].
+/// The form that these tokens are, with what belongs to it; None where they are none, or one with
+/// an expression that is deeper than [`MAX_DEPTH`].
 ///
 /// # Errors
 ///

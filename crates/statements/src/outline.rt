@@ -1,7 +1,11 @@
 //! Where logical lines may stand: a pass over their outlines, from the first to the last.
 
-ghost use Rattle.std.specs.Prelude.{◌≡◌, ◌+◌, ◌∷◌, ◌<◌, List, [], length, drop, IfOk, Ok, Err, Option};
-ghost use Rattle.statements.specs.Outlines.{is_top, is_function, shape_stands, within, formed_stands, follows, takes_else, early_enough, still_early, opens, fits, behind, inside, top_level, down_to, block_column, opened, stepped, pass, first_of};
+ghost use Rattle.std.specs.Prelude.{◌≡◌, ◌+◌, ◌∷◌, ◌<◌, List, [], length, drop, IfOk, Ok, Err};
+ghost use Rattle.std.specs.Prelude.{Option};
+ghost use Rattle.statements.specs.Outlines.{is_top, is_function, shape_stands, within};
+ghost use Rattle.statements.specs.Outlines.{formed_stands, follows, takes_else, early_enough};
+ghost use Rattle.statements.specs.Outlines.{still_early, opens, fits, behind, inside, top_level};
+ghost use Rattle.statements.specs.Outlines.{down_to, block_column, opened, stepped, pass, first_of};
 ghost use Rattle.lexer.specs.Stops.{FaultsAt};
 ghost use Rattle.statements.specs.declared.outline.Open.{Open};
 ghost use Rattle.lexer.specs.declared.fault.FaultKind.TheVariants as FaultKind;
@@ -10,7 +14,8 @@ use lexer::{FaultKind, ParseStop, SyntaxFault};
 use plain::Stack;
 use std::alloc::Global;
 
-/// Where a line may stand: at the top level of a module or of a `BUILD` file, in a function, and there in a loop.
+/// Where a line may stand: at the top level of a module or of a `BUILD` file, in a function, and
+/// there in a loop.
 #[derive(Clone, Copy)]
 pub(crate) enum Place {
     Module,
@@ -55,7 +60,8 @@ pub(crate) struct Formed {
     pub(crate) body: Body,
 }
 
-/// A logical line: its first line in the file, its column, and its form, if it has one that isn't too deep.
+/// A logical line: its first line in the file, its column, and its form, if it has one that isn't
+/// too deep.
 #[derive(Clone, Copy)]
 pub(crate) struct Outline {
     pub(crate) line: usize,
@@ -63,8 +69,8 @@ pub(crate) struct Outline {
     pub(crate) form: Option<Formed>,
 }
 
-/// An open block, as its next line finds it: whether the line before in it was an `if` or `elif`, and whether only loads
-/// and strings alone came before in it.
+/// An open block, as its next line finds it: whether the line before in it was an `if` or `elif`,
+/// and whether only loads and strings alone came before in it.
 #[derive(Clone, Copy)]
 struct Open {
     column: usize,

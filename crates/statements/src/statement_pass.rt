@@ -1,7 +1,8 @@
-//! The pass over the statements of a text: each logical line is read by itself, then all are seen to stand where they
-//! may, and are put into their blocks.
+//! The pass over the statements of a text: each logical line is read by itself, then all are seen
+//! to stand where they may, and are put into their blocks.
 
-ghost use Rattle.std.specs.Prelude.{◌≡◌, ◌++◌, ◌<◌, ◌≤◌, ℕ, List, [], ◌∷◌, map, filter_map, Some, Ok, IfOk, OnOk};
+ghost use Rattle.std.specs.Prelude.{◌≡◌, ◌++◌, ◌<◌, ◌≤◌, ℕ, List, [], ◌∷◌, map, filter_map, Some};
+ghost use Rattle.std.specs.Prelude.{Ok, IfOk, OnOk};
 ghost use Rattle.std.specs.List.{cons_option};
 ghost use Rattle.std.specs.Option.{option_map};
 ghost use Rattle.grammar.specs.Ahead.{tokens_seen};
@@ -12,7 +13,8 @@ ghost use Rattle.grammar.specs.Blocks.{Block, laid};
 ghost use Rattle.grammar.specs.Built.{Made};
 ghost use Rattle.statements.specs.BuiltView.{body_of, read_of};
 ghost use Rattle.grammar.specs.Places.{top_of};
-ghost use Rattle.statements.specs.FormView.{body_shape, formed_as, is_text, line_read, outline_read, shape_of, shaped_of};
+ghost use Rattle.statements.specs.FormView.{body_shape, formed_as, is_text, line_read};
+ghost use Rattle.statements.specs.FormView.{outline_read, shape_of, shaped_of};
 ghost use Rattle.grammar.specs.LineView as view;
 ghost use Rattle.grammar.specs.LineView.{form_of};
 ghost use Rattle.statements.specs.Outlines.{place_of};
@@ -137,7 +139,8 @@ fn with_start<'t>(
     }
 }
 
-/// What was read of the lines of a text: the outlines of all, and what was read of those that have a form.
+/// What was read of the lines of a text: the outlines of all, and what was read of those that have
+/// a form.
 #[derive(Drop)]
 struct LinesRead<R> {
     outlines: Vec<Outline>,
@@ -232,13 +235,13 @@ fn blocks_of<'t>(
     Ok(file_lines(alloc, read.reads)?)
 }
 
-/// Reads the logical lines of a file and puts them into their blocks. No expression in them is more than
-/// [`grammar::MAX_DEPTH`] deep. The logical lines are given back before the blocks are made.
+/// Reads the logical lines of a file and puts them into their blocks. No expression in them is more
+/// than [`grammar::MAX_DEPTH`] deep. The logical lines are given back before the blocks are made.
 ///
 /// # Errors
 ///
-/// A fault of the statements at the first line that has no form, or stands where it may not. Want of memory may be
-/// answered in its place.
+/// A fault of the statements at the first line that has no form, or stands where it may not. Want
+/// of memory may be answered in its place.
 pub fn read_file<'t>(
     alloc: Global,
     lines: Lines<'t>,

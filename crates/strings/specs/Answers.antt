@@ -10,5 +10,6 @@ RefusalOr r (refusal.String e) = r ≡ Err e
 RefusalOr r refusal.NoMemory = Unit {0}
 
 -- what the definition gives, as `view` reads the result
-abbrev pub Answers : {A B : Type 0} → (B → A) → Result A StringError → Result B StringRefusal → Type 0
+abbrev pub Answers : {A B : Type 0} → (B → A) → Result A StringError
+    → Result B StringRefusal → Type 0
 Answers view r result = MatchResult result (λ x. r ≡ Ok (view x)) (λ e. RefusalOr r e)

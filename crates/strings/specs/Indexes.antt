@@ -1,5 +1,6 @@
 -- The byte at a place, a text of its own. (Starlark's specification, "Index expressions".)
-use Rattle.std.specs.Prelude.{ℕ, zero, suc, ℤ, List, [], ◌∷◌, ◌++◌, length, Option, Some, None, slice_index, Result, Ok, Err}
+use Rattle.std.specs.Prelude.{ℕ, zero, suc, ℤ, List, [], ◌∷◌, ◌++◌, length, Option, Some, None}
+use Rattle.std.specs.Prelude.{slice_index, Result, Ok, Err}
 use Rattle.numbers.specs.Places.{place_of}
 use Rattle.strings.specs.declared.errors.StringError.{StringError}
 use Rattle.strings.specs.declared.errors.StringError.TheVariants.{Index}
@@ -9,6 +10,7 @@ abbrev pub byte_texts : ℕ → List (List ℕ)
 byte_texts zero = []
 byte_texts (suc n) = byte_texts n ++ (n ∷ []) ∷ []
 
+-- the byte at a place as a text of its own; no place is the fault `index`
 abbrev pub byte_at : List ℕ → Option ℕ → Result (List ℕ) StringError
 byte_at t (Some i) = Ok (slice_index t i ∷ [])
 byte_at t None = Err Index

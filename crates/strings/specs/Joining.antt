@@ -1,5 +1,7 @@
--- Texts, one after the other. (Starlark's specification, "string·join"; the limit is this project's own.)
-use Rattle.std.specs.Prelude.{ℕ, List, [], ◌∷◌, ◌++◌, length, nat_lt, Option, Some, None, Result, if◌then◌else◌}
+-- Texts, one after the other. (Starlark's specification, "string·join"; the limit is this project's
+-- own.)
+use Rattle.std.specs.Prelude.{ℕ, List, [], ◌∷◌, ◌++◌, length, nat_lt, Option, Some, None, Result}
+use Rattle.std.specs.Prelude.{if◌then◌else◌}
 use Rattle.strings.specs.Texts.{MOST_BYTES, unless_large}
 use Rattle.strings.specs.declared.errors.StringError.{StringError}
 

@@ -1,4 +1,5 @@
--- Whether bytes stand somewhere in a text, and where first. (Starlark's specification, "Membership tests".)
+-- Whether bytes stand somewhere in a text, and where first. (Starlark's specification, "Membership
+-- tests".)
 use Rattle.std.specs.Prelude.{ℕ, suc, Bool, ◌||◌, List, [], ◌∷◌, Option, Some, None, if◌then◌else◌}
 use Rattle.strings.specs.Affixes.{begins}
 
@@ -7,6 +8,7 @@ abbrev pub is_part : List ℕ → List ℕ → Bool
 is_part p [] = begins p []
 is_part p (y ∷ t) = begins p (y ∷ t) || is_part p t
 
+-- a place, counted from one byte further to the front
 abbrev pub one_on : Option ℕ → Option ℕ
 one_on (Some i) = Some (suc i)
 one_on None = None

@@ -1,5 +1,6 @@
 -- The texts of the language are lists of bytes below 128, and not longer than this project's limit.
-use Rattle.std.specs.Prelude.{ℕ, Bool, true, ◌&&◌, not, nat_lt, List, [], ◌∷◌, ◌++◌, length, Result, Ok, Err, if◌then◌else◌}
+use Rattle.std.specs.Prelude.{ℕ, Bool, true, ◌&&◌, not, nat_lt, List, [], ◌∷◌, ◌++◌, length, Result}
+use Rattle.std.specs.Prelude.{Ok, Err, if◌then◌else◌}
 use Rattle.strings.specs.declared.errors.StringError.{StringError}
 use Rattle.strings.specs.declared.errors.StringError.TheVariants.{Large}
 

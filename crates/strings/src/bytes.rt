@@ -6,7 +6,8 @@ use crate::text::AsciiText;
 use std::alloc::{AllocError, Global};
 use std::marker::Model;
 
-/// The 128 texts of one byte. An evaluation makes them once, so that an item of a text takes no memory.
+/// The 128 texts of one byte. An evaluation makes them once, so that an item of a text takes no
+/// memory.
 #[derive(Drop)]
 pub struct ByteTexts {
     texts: Vec<AsciiText>,

@@ -17,7 +17,9 @@ pub enum StringError {
 /// What the language refuses, or want of memory.
 #[derive(Clone, Copy, PartialEq, Eq, Debug)]
 pub enum StringRefusal {
+    /// What the language refuses.
     String(StringError),
+    /// Memory was refused.
     NoMemory,
 }
 

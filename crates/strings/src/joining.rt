@@ -8,12 +8,12 @@ use crate::text::MOST_BYTES;
 use plain::Text;
 use std::alloc::{AllocError, Global};
 
-/// These texts, of any bytes, with the separator between each and the next. How long the whole is, is known before it is
-/// made.
+/// These texts, of any bytes, with the separator between each and the next. How long the whole is,
+/// is known before it is made.
 ///
 /// # Errors
 ///
-/// `Large` past the limit.
+/// `Large` past the limit; `NoMemory` where memory is refused.
 pub fn join(alloc: Global, separator: &str, parts: &[&Text]) -> Result<Text, StringRefusal>
     ensures { Answers (λ t. t) (join_of separator.now (map (λ p. p.now) parts.now)) result }
 {

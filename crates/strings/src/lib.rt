@@ -1,7 +1,9 @@
-//! The language's texts: bytes below 128, shared by all who name them, and what the language does with them.
+//! The language's texts: bytes below 128, shared by all who name them, and what the language does
+//! with them.
 //!
-//! What each call gives is a definition over lists of bytes (`specs/`). Each looks at a byte a fixed number of times, no
-//! test of where a character begins is made, and nothing is built whose size isn't known and allowed.
+//! What each call gives is a definition over lists of bytes (`specs/`). Each looks at a byte a
+//! fixed number of times, no test of where a character begins is made, and nothing is built whose
+//! size isn't known and allowed.
 #![tactic(auto)]
 
 mod bytes;

@@ -11,12 +11,13 @@ use numbers::place;
 use std::alloc::{AllocError, Global};
 
 impl AsciiText {
-    /// The byte at an index, from the end where it is negative, as a text of its own: another name of one of the texts of one
-    /// byte.
+    /// The byte at an index, from the end where it is negative, as a text of its own: another name
+    /// of one of the texts of one byte.
     ///
     /// # Errors
     ///
-    /// `Index` outside of the text.
+    /// `Index` outside of the text; `NoMemory` where the count of the byte's names is at its
+    /// greatest.
     pub fn item(&self, bytes: &ByteTexts, index: i64) -> Result<AsciiText, StringRefusal>
         ensures { Answers (λ t. t) (item_of self.now index) result }
     {
@@ -31,7 +32,7 @@ impl AsciiText {
     ///
     /// # Errors
     ///
-    /// `Large` past the limit.
+    /// `Large` past the limit; `NoMemory` where memory is refused.
     pub fn sum(&self, alloc: Global, other: &AsciiText) -> Result<AsciiText, StringRefusal>
         ensures { Answers (λ t. t) (sum_of self.now other.now) result }
     {

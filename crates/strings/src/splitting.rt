@@ -1,5 +1,6 @@
 //! The parts of a text between occurrences of a separator.
-ghost use Rattle.std.specs.Prelude.{◌≡◌, ◌<◌, ◌≤◌, ◌+◌, ◌∷◌, [], true, length, IfOk, MatchOption, Some, None, nat_lt, if◌then◌else◌};
+ghost use Rattle.std.specs.Prelude.{◌≡◌, ◌<◌, ◌≤◌, ◌+◌, ◌∷◌, [], true, length, IfOk, MatchOption};
+ghost use Rattle.std.specs.Prelude.{Some, None, nat_lt, if◌then◌else◌};
 ghost use Rattle.strings.specs.Answers.{Answers};
 ghost use Rattle.strings.specs.Splitting.{parts, split_of, count_within};
 
@@ -10,12 +11,13 @@ use std::alloc::{AllocError, Global};
 /// How many items a list has at most.
 const MOST_ITEMS: usize = 1_048_576;
 
-/// The parts of a text of any bytes between occurrences of a separator, which are found from the left without overlap. They
-/// are counted before any is made.
+/// The parts of a text of any bytes between occurrences of a separator, which are found from the
+/// left without overlap. They are counted before any is made.
 ///
 /// # Errors
 ///
-/// `EmptySeparator`, and then `Large` where there are more parts than a list may have.
+/// `EmptySeparator`, and then `Large` where there are more parts than a list may have; `NoMemory`
+/// where memory is refused.
 pub fn split(alloc: Global, text: &str, separator: &str) -> Result<Vec<Text>, StringRefusal>
     ensures { Answers (λ ts. ts.items) (split_of separator.now text.now) result }
 {

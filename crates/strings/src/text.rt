@@ -1,5 +1,6 @@
 //! The type of the language's texts.
-ghost use Rattle.std.specs.Prelude.{◌≡◌, ◌≤◌, ◌↔◌, [], true, length, string_bytes, IfOk, IsTrue, Some, None, if◌then◌else◌};
+ghost use Rattle.std.specs.Prelude.{◌≡◌, ◌≤◌, ◌↔◌, [], true, length, string_bytes, IfOk, IsTrue};
+ghost use Rattle.std.specs.Prelude.{Some, None, if◌then◌else◌};
 ghost use Rattle.strings.specs.Texts.{MOST_BYTES as most, is_text};
 
 use plain::Text;
@@ -11,9 +12,11 @@ use std::marker::Model;
 /// How many bytes a text has at most.
 pub const MOST_BYTES: usize = 1_048_576;
 
-/// A text of the language: bytes below 128, no more of them than the limit, behind one count that its names share.
+/// A text of the language: bytes below 128, no more of them than the limit, behind one count that
+/// its names share.
 ///
-/// To a contract it is the list of its bytes. It is equal to another, hashed and ordered by its bytes.
+/// To a contract it is the list of its bytes. It is equal to another, hashed and ordered by its
+/// bytes.
 #[derive(Drop)]
 pub struct AsciiText {
     text: Text,

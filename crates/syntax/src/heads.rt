@@ -1,5 +1,6 @@
-//! Resolving the names of a line, but for those of its block, by the rules of scopes: what a line binds and the parameters
-//! of a function are not predeclared, parameters are distinct, and those with defaults come last.
+//! Resolving the names of a line, but for those of its block, by the rules of scopes: what a line
+//! binds and the parameters of a function are not predeclared, parameters are distinct, and those
+//! with defaults come last.
 
 ghost use Rattle.std.specs.Prelude.{◌≡◌, ◌≤◌, ◌&&◌, IfOk, map};
 ghost use Rattle.std.specs.List.{list_all};
@@ -13,7 +14,8 @@ ghost use Rattle.program_tree.specs.ProgramView.{terms_onto};
 ghost use Rattle.program_tree.specs.Resolved as resolved;
 ghost use Rattle.program_tree.specs.Resolved.{Terms, defaults, global_of, with_default};
 ghost use Rattle.syntax.specs.Resolves.{Gives, GivesHead, GivesTerm, Keeps};
-ghost use Rattle.file_syntax.specs.Scopes.{defaults_last, form_scoped, line_scoped, none_predeclared, param_scoped, scoped};
+ghost use Rattle.file_syntax.specs.Scopes.{defaults_last, form_scoped, line_scoped};
+ghost use Rattle.file_syntax.specs.Scopes.{none_predeclared, param_scoped, scoped};
 
 use crate::resolver::{Unresolved, bindings, resolve};
 use grammar::{Expr, Form, Item, MAX_DEPTH, Name, Param};
@@ -31,7 +33,8 @@ pub(crate) enum Head {
     Elif(Term),
     Else,
     For(Vec<Binding>, Term),
-    /// `def`, with the number of the name that it binds, the names of its parameters, and the defaults of the last of them.
+    /// `def`, with the number of the name that it binds, the names of its parameters, and the
+    /// defaults of the last of them.
     Def(usize, Vec<Text>, Vec<Term>),
 }
 
@@ -288,7 +291,8 @@ fn form_head<'t>(alloc: Global, scope: &mut Scope<'t>, form: &Form<'t>) -> Resul
 ///
 /// # Errors
 ///
-/// [`Unresolved::Breaks`] where it breaks a rule of scopes. [`Unresolved::NoMemory`] where memory was refused.
+/// [`Unresolved::Breaks`] where it breaks a rule of scopes. [`Unresolved::NoMemory`] where memory
+/// was refused.
 pub(crate) fn line_head<'t>(
     alloc: Global,
     scope: &mut Scope<'t>,

@@ -64,14 +64,16 @@ fn read(alloc: Global, text: &str, kind: FileKind) -> Result<Parsed, ParseStop>
     }
 }
 
-/// Reads a file: its characters, its tokens, its brackets and columns, its statements, and then its scopes. The grammar is
-/// that of the Starlark specification in this project's profile. What it gives is shallow, however long the text is, and each
-/// statement and what each name stands for is in its place.
+/// Reads a file: its characters, its tokens, its brackets and columns, its statements, and then its
+/// scopes. The grammar is that of the Starlark specification in this project's profile. What it
+/// gives is shallow, however long the text is, and each statement and what each name stands for is
+/// in its place.
 ///
 /// # Errors
 ///
-/// [`ParseStop::Fault`] where the text has no tree of this kind: the first fault of the first of the five passes that
-/// finds one, with its line. [`ParseStop::NoMemory`] may come in place of any answer, where memory was refused.
+/// [`ParseStop::Fault`] where the text has no tree of this kind: the first fault of the first of
+/// the five passes that finds one, with its line. [`ParseStop::NoMemory`] may come in place of any
+/// answer, where memory was refused.
 pub fn parse(alloc: Global, text: &str, kind: FileKind) -> Result<Parsed, ParseStop>
     ensures file { IfOk result (λ p. (tree : Block) × IsFile text.now kind tree
         × (program_of p ≡ resolved (bare_lines tree))) }

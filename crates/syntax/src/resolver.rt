@@ -1,19 +1,26 @@
-//! Resolving the names of expressions, by the rules of scopes: each name that is used is bound, no keyword comes twice in
-//! one call, and no comprehension binds a predeclared name. What resolves the expressions inside is a parameter, so that
-//! each form is proved by itself.
+//! Resolving the names of expressions, by the rules of scopes: each name that is used is bound, no
+//! keyword comes twice in one call, and no comprehension binds a predeclared name. What resolves
+//! the expressions inside is a parameter, so that each form is proved by itself.
 
-ghost use Rattle.std.specs.Prelude.{◌≡◌, ◌+◌, ◌≤◌, ◌&&◌, ◌∷◌, [], IfOk, MatchOption, Some, map, max};
+ghost use Rattle.std.specs.Prelude.{◌≡◌, ◌+◌, ◌≤◌, ◌&&◌, ◌∷◌, [], IfOk, MatchOption, Some, map};
+ghost use Rattle.std.specs.Prelude.{max};
 ghost use Rattle.std.specs.Option.{option_map};
-ghost use Rattle.grammar.specs.Bare.{Rest, choice as choice_tree, dict as dict_tree, each, each_entry, invokes, listing, named as name_tree, operates, selects, subscript, tuple as tuple_tree, turned};
-ghost use Rattle.grammar.specs.BareDepth.{entries_depth, keywords_depth, rest_depth, tree_depth, trees_depth};
+ghost use Rattle.grammar.specs.Bare.{Rest, choice as choice_tree, dict as dict_tree, each};
+ghost use Rattle.grammar.specs.Bare.{each_entry, invokes, listing, named as name_tree, operates};
+ghost use Rattle.grammar.specs.Bare.{selects, subscript, tuple as tuple_tree, turned};
+ghost use Rattle.grammar.specs.BareDepth.{entries_depth, keywords_depth, rest_depth, tree_depth};
+ghost use Rattle.grammar.specs.BareDepth.{trees_depth};
 ghost use Rattle.program_tree.specs.Names.{Scope as Around, distinct};
 ghost use Rattle.program_tree.specs.ProgramView as view;
 ghost use Rattle.program_tree.specs.ProgramView.{rounds_onto};
 ghost use Rattle.program_tree.specs.Resolved as resolved;
 ghost use Rattle.program_tree.specs.Resolved.{binding_of};
-ghost use Rattle.syntax.specs.Resolves.{Enters, Gives, GivesBoxed, GivesTerm, ResolvesInside, boxed_term, first_scoped, first_tree, others_scoped};
-ghost use Rattle.file_syntax.specs.Scopes.{entries_scoped, keyword_names, keywords_scoped, rest_scoped, scoped, trees_scoped};
-ghost use Rattle.grammar.specs.TreeView.{clause_of, entries, entry_of, keyword_of, keywords, operator_seen, rests, sign_seen, tree_of, trees};
+ghost use Rattle.syntax.specs.Resolves.{Enters, Gives, GivesBoxed, GivesTerm, ResolvesInside};
+ghost use Rattle.syntax.specs.Resolves.{boxed_term, first_scoped, first_tree, others_scoped};
+ghost use Rattle.file_syntax.specs.Scopes.{entries_scoped, keyword_names, keywords_scoped};
+ghost use Rattle.file_syntax.specs.Scopes.{rest_scoped, scoped, trees_scoped};
+ghost use Rattle.grammar.specs.TreeView.{clause_of, entries, entry_of, keyword_of, keywords};
+ghost use Rattle.grammar.specs.TreeView.{operator_seen, rests, sign_seen, tree_of, trees};
 
 use grammar::{Clause, Entry, Expr, Keyword, Name, Operator, Sign};
 use program_tree::program::{
@@ -99,7 +106,8 @@ fn operand<'l, 't>(clause: &'l Clause<'t>) -> &'l Expr<'t>
     }
 }
 
-/// A clause of the comprehension whose scope this is, with its expression, which was resolved before.
+/// A clause of the comprehension whose scope this is, with its expression, which was resolved
+/// before.
 #[inline(never)]
 fn round<'t>(
     alloc: Global,
@@ -191,7 +199,8 @@ impl<F: for<'t> Fn(Global, &mut Scope<'t>, &Expr<'t>, usize) -> Result<Term, Unr
         (self.inside)(self.alloc, scope, expr, self.turns)
     }
 
-    /// The same behind a `Box`, so that those who resolve one inside of another take little of the stack.
+    /// The same behind a `Box`, so that those who resolve one inside of another take little of the
+    /// stack.
     #[inline(never)]
     fn boxed<'t>(&self, scope: &mut Scope<'t>, expr: &Expr<'t>) -> Result<Box<Term>, Unresolved>
         requires inside { ResolvesInside self.now.turns (F.pre self.now.inside)
@@ -456,7 +465,8 @@ impl<F: for<'t> Fn(Global, &mut Scope<'t>, &Expr<'t>, usize) -> Result<Term, Unr
         Ok(())
     }
 
-    /// The clauses of the comprehension whose scope this is, of which the first has its expression already.
+    /// The clauses of the comprehension whose scope this is, of which the first has its expression
+    /// already.
     #[inline(never)]
     fn rounds<'t>(
         &self,
@@ -635,12 +645,13 @@ impl<F: for<'t> Fn(Global, &mut Scope<'t>, &Expr<'t>, usize) -> Result<Term, Unr
     }
 }
 
-/// An expression whose names are resolved. As many of its calls are inside of one another as expressions are, `turns`
-/// at most.
+/// An expression whose names are resolved. As many of its calls are inside of one another as
+/// expressions are, `turns` at most.
 ///
 /// # Errors
 ///
-/// [`Unresolved::Breaks`] where it breaks a rule of scopes. [`Unresolved::NoMemory`] where memory was refused.
+/// [`Unresolved::Breaks`] where it breaks a rule of scopes. [`Unresolved::NoMemory`] where memory
+/// was refused.
 pub(crate) fn resolve<'t>(
     alloc: Global,
     scope: &mut Scope<'t>,

@@ -1,5 +1,6 @@
-//! The statements of lines, with their names resolved: blocks in the place of lines, and the lines of a condition as one
-//! statement. The lines of a block are gone through from the last to the first.
+//! The statements of lines, with their names resolved: blocks in the place of lines, and the lines
+//! of a condition as one statement. The lines of a block are gone through from the last to the
+//! first.
 
 ghost use Rattle.std.specs.Prelude.{◌≡◌, ◌≤◌, ◌<◌, ◌+◌, ◌^◌, [], IfOk, OnOk, max, reverse};
 ghost use Rattle.grammar.specs.BareDepth.{form_depth, lines_depth};
@@ -10,8 +11,11 @@ ghost use Rattle.grammar.specs.declared.statements.Line.{out-Line};
 ghost use Rattle.program_tree.specs.Names.{Scope as Around, scope_of};
 ghost use Rattle.program_tree.specs.ProgramView as view;
 ghost use Rattle.program_tree.specs.Resolved as resolved;
-ghost use Rattle.program_tree.specs.Resolved.{Branches, begun, head, next_number, no_steps, steps_of, with_line, with_number};
-ghost use Rattle.syntax.specs.Resolves.{FollowsOn, IsLater, IsOwn, Places, PlacesSteps, back, before_lines, behind_seen, head_seen, line_depth, own_fault};
+ghost use Rattle.program_tree.specs.Resolved.{Branches, begun, head, next_number, no_steps};
+ghost use Rattle.program_tree.specs.Resolved.{steps_of, with_line, with_number};
+ghost use Rattle.syntax.specs.Resolves.{FollowsOn, IsLater, IsOwn, Places, PlacesSteps, back};
+ghost use Rattle.syntax.specs.Resolves.{before_lines, behind_seen, head_seen, line_depth};
+ghost use Rattle.syntax.specs.Resolves.{own_fault};
 ghost use Rattle.file_syntax.specs.Scopes.{line_scoped, lines_fault, top_fault, unless};
 
 use crate::heads::{Head, line_head};
@@ -193,8 +197,9 @@ pub(crate) struct Later {
     behind: Behind,
 }
 
-/// A line with its names resolved, but for those of its block; or its number. It is kept behind a `Box` while its block is
-/// resolved, so that blocks inside of one another take little of the stack.
+/// A line with its names resolved, but for those of its block; or its number. It is kept behind a
+/// `Box` while its block is resolved, so that blocks inside of one another take little of the
+/// stack.
 #[inline(never)]
 fn head_of<'t>(alloc: Global, scope: &mut Scope<'t>, line: &Line<'t>) -> Result<Box<Head>, Stopped>
     requires { form_depth (form_of (out-Line line.now).form) ≤ 200 }
@@ -210,7 +215,8 @@ fn head_of<'t>(alloc: Global, scope: &mut Scope<'t>, line: &Line<'t>) -> Result<
     }
 }
 
-/// Goes into the block of a line: that of a function has a scope of its own. Gives the levels to go back to from one.
+/// Goes into the block of a line: that of a function has a scope of its own. Gives the levels to go
+/// back to from one.
 #[inline(never)]
 fn enter_block<'t>(
     alloc: Global,
@@ -355,11 +361,13 @@ fn ended(later: Later) -> Result<Vec<Step>, Stopped>
     Ok(steps)
 }
 
-/// The statements of lines. It calls itself once for each block that is open: 32 at most, and the line of a head.
+/// The statements of lines. It calls itself once for each block that is open: 32 at most, and the
+/// line of a head.
 ///
 /// # Errors
 ///
-/// [`Stopped::At`] the first line that breaks a rule of scopes. [`Stopped::NoMemory`] where memory was refused.
+/// [`Stopped::At`] the first line that breaks a rule of scopes. [`Stopped::NoMemory`] where memory
+/// was refused.
 #[cycle(blocks)]
 #[inline(never)]
 fn resolve_lines<'t>(
@@ -411,7 +419,8 @@ fn resolve_owned<'t>(
 ///
 /// # Errors
 ///
-/// [`Stopped::At`] the first line that breaks a rule of scopes. [`Stopped::NoMemory`] where memory was refused.
+/// [`Stopped::At`] the first line that breaks a rule of scopes. [`Stopped::NoMemory`] where memory
+/// was refused.
 pub(crate) fn resolve_file<'t>(
     alloc: Global,
     scope: &mut Scope<'t>,

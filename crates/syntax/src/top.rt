@@ -1,11 +1,14 @@
-//! The rules of what the top level of a file binds: no name a second time, and nothing is added to one.
+//! The rules of what the top level of a file binds: no name a second time, and nothing is added to
+//! one.
 
-ghost use Rattle.std.specs.Prelude.{◌≡◌, ◌+◌, ◌<◌, ◌++◌, ◌∷◌, [], ℕ, List, None, IfOk, drop, length, take, true};
+ghost use Rattle.std.specs.Prelude.{◌≡◌, ◌+◌, ◌<◌, ◌++◌, ◌∷◌, [], ℕ, List, None, IfOk, drop};
+ghost use Rattle.std.specs.Prelude.{length, take, true};
 ghost use Rattle.grammar.specs.LineView as view;
 ghost use Rattle.grammar.specs.BareLines.{Lines, a_line};
 ghost use Rattle.grammar.specs.LineView.{form_of, line_of};
 ghost use Rattle.grammar.specs.declared.statements.Line.{out-Line};
-ghost use Rattle.program_tree.specs.Names.{Scope as Around, among, file_scope, form_binds, loads_bind, or_else};
+ghost use Rattle.program_tree.specs.Names.{Scope as Around, among, file_scope, form_binds};
+ghost use Rattle.program_tree.specs.Names.{loads_bind, or_else};
 ghost use Rattle.syntax.specs.Resolves.{binds_anew};
 ghost use Rattle.file_syntax.specs.Scopes.{adds_to_name, lines_fault, top_fault};
 
@@ -48,7 +51,8 @@ fn adds_to_name(form: &Form<'_>) -> bool
     matches!(form, Form::Add(_, _))
 }
 
-/// Binds what a line of the top level binds beside the names that were bound before, and tells whether it may.
+/// Binds what a line of the top level binds beside the names that were bound before, and tells
+/// whether it may.
 fn binds_anew<'t>(
     alloc: Global,
     before: &mut IndexSet<Name<'t>>,
@@ -76,7 +80,8 @@ fn line_at<'l, 't>(lines: &'l [Line<'t>], place: usize) -> &'l Line<'t>
     &lines[place]
 }
 
-/// How many lines of a top level stand before the first that binds what it may not, and the number of that line.
+/// How many lines of a top level stand before the first that binds what it may not, and the number
+/// of that line.
 pub(crate) fn until_rebound(
     alloc: Global,
     lines: &[Line<'_>],

@@ -1,5 +1,5 @@
-//! The reading of texts of 1,048,576 bytes down to their logical lines: one that looks like a module, and the worst cases of each
-//! pass.
+//! The reading of texts of 1,048,576 bytes down to their logical lines: one that looks like a
+//! module, and the worst cases of each pass.
 
 use anyhow::Result;
 use lexer::{ParseStop, logical_lines};

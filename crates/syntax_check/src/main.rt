@@ -1,12 +1,14 @@
 //! Checks the syntax of `BUILD` files and modules.
 //!
-//! Standard input is a JSON array of pairs of strings, a path and a text, as `bzlan` reads it. A path whose last segment
-//! is `BUILD` is a `BUILD` file's, one that ends in `.bzl` a module's; other files aren't looked at. For each file, in the
-//! order of the input, a line tells `PATH ok` or `PATH:LINE syntax KIND`. The status is 0 where every file has a tree, and
-//! 1 where one has a fault, or where the input isn't of this form, which an error line tells.
+//! Standard input is a JSON array of pairs of strings, a path and a text, as `bzlan` reads it. A
+//! path whose last segment is `BUILD` is a `BUILD` file's, one that ends in `.bzl` a module's;
+//! other files aren't looked at. For each file, in the order of the input, a line tells `PATH ok`
+//! or `PATH:LINE syntax KIND`. The status is 0 where every file has a tree, and 1 where one has a
+//! fault, or where the input isn't of this form, which an error line tells.
 //!
-//! With `time` nothing is read, and it prints how long the reading of long texts takes: down to their logical lines, and to their
-//! trees with the peak of memory. With `time lines` the former alone, with `time NAME` that of one text.
+//! With `time` nothing is read, and it prints how long the reading of long texts takes: down to
+//! their logical lines, and to their trees with the peak of memory. With `time lines` the former
+//! alone, with `time NAME` that of one text.
 #![tactic(auto)]
 
 mod lines;

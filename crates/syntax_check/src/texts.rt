@@ -1,11 +1,13 @@
-//! The whole reading of texts of about 1,048,576 bytes, from their bytes to their trees: many small functions, one long list, deep
-//! displays, nothing but signs, one condition of many branches, many names that are loaded, names inside of 99 comprehensions, and
-//! many calls with keywords.
+//! The whole reading of texts of about 1,048,576 bytes, from their bytes to their trees: many small
+//! functions, one long list, deep displays, nothing but signs, one condition of many branches, many
+//! names that are loaded, names inside of 99 comprehensions, and many calls with keywords.
 //!
-//! The clock begins with the bytes and ends when the tree is there: making the text and giving the tree back aren't counted. Beside
-//! the time stands the peak of memory, which is what Linux says that the program had at most while it read the text, less what it
-//! had before: the tree, what is held until it is there, and what the allocator keeps, without the text. It is that of one text where
-//! that is read in a program of its own; after others it comes out too low where an earlier text's memory is used again.
+//! The clock begins with the bytes and ends when the tree is there: making the text and giving the
+//! tree back aren't counted. Beside the time stands the peak of memory, which is what Linux says
+//! that the program had at most while it read the text, less what it had before: the tree, what is
+//! held until it is there, and what the allocator keeps, without the text. It is that of one text
+//! where that is read in a program of its own; after others it comes out too low where an earlier
+//! text's memory is used again.
 
 use anyhow::Result;
 use std::alloc::Global;

@@ -9,15 +9,20 @@ use Rattle.contexts.specs.Actions.{executable_in}
 use Rattle.target_actions.specs.declared.programs.Program.{Program}
 use Rattle.target_actions.specs.declared.programs.Program.TheVariants.{Executable, Command}
 
+-- the name of the parameter that tells what an action runs: `executable` of `run`, `command` of
+-- `run_shell`
 abbrev pub parameter : Program → List ℕ
 parameter Executable = codes "executable"
 parameter Command = codes "command"
 
+-- the first word of the action that a value of it gives, if it may be one: a string, and of
+-- `executable` a File too
 abbrev pub program_in : Program → Shape → Option (List ℕ)
 program_in Executable s = executable_in s
 program_in Command s = string_in s
 
--- what the parameters of a call get that has outputs and a word
+-- what the parameters of `run` or `run_shell` get in a call that has outputs and what it runs
 abbrev pub given_parts : Value → Value → Given → Bound
 given_parts outputs word g =
-    Some outputs ∷ Some word ∷ got_at 2 (codes "inputs") g ∷ got_at 3 (codes "arguments") g ∷ got_at 4 (codes "mnemonic") g ∷ []
+    Some outputs ∷ Some word ∷ got_at 2 (codes "inputs") g
+    ∷ got_at 3 (codes "arguments") g ∷ got_at 4 (codes "mnemonic") g ∷ []

@@ -16,12 +16,13 @@ use std::alloc::Global;
 use values::{Broken, Value};
 use workspace::Label;
 
-/// What a method gives to the implementation of the target of a label, whose work it adds to. Files that it declares share the
-/// label's text.
+/// What a method gives to the implementation of the target of a label, whose work it adds to. Files
+/// that it declares share the label's text.
 ///
 /// # Errors
 ///
-/// The first of `arity`, `type`, `place` and `key`, as `docs/PROFILE.md` says of calls for files and actions.
+/// The first of `arity`, `type`, `place` and `key`, as `docs/PROFILE.md` says of calls for files
+/// and actions.
 pub fn call_method(
     alloc: Global,
     label: &Label,
@@ -32,7 +33,8 @@ pub fn call_method(
     work: &mut Work,
 ) -> Result<Value, Broken>
     ensures { MatchResult result
-        (λ v. method_call label.now method heap.now (given arguments.now) work.old ≡ Ok (v, work.new))
+        (λ v. method_call label.now method heap.now (given arguments.now) work.old
+        ≡ Ok (v, work.new))
         (λ e. FaultOr (method_call label.now method heap.now (given arguments.now) work.old) e) }
 {
     match method {

@@ -20,7 +20,8 @@ use workspace::{Label, is_label};
 ///
 /// # Errors
 ///
-/// `arity`; `type`, where the name is no string or makes no path with the package; `key`, where it is declared already.
+/// `arity`; `type`, where the name is no string or makes no path with the package; `key`, where it
+/// is declared already.
 pub(crate) fn declare_file(
     alloc: Global,
     label: &Label,

@@ -1,4 +1,5 @@
-//! What an implementation does by the methods of `ctx.actions`: it declares Files and registers actions.
+//! What an implementation does by the methods of `ctx.actions`: it declares Files and registers
+//! actions.
 //!
 //! Each call does what its definition in `contexts` says, or answers that memory was refused.
 #![tactic(auto)]

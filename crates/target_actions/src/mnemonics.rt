@@ -14,6 +14,10 @@ pub struct Mnemonics {
 
 impl Mnemonics {
     /// Makes them.
+    ///
+    /// # Errors
+    ///
+    /// `AllocError` where memory was refused.
     pub fn new(alloc: Global) -> Result<Mnemonics, AllocError>
         ensures { IfOk result (λ m. (m.write ≡ codes "FileWrite") × (m.run ≡ codes "Action")) }
     {

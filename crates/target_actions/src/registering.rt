@@ -1,11 +1,13 @@
 //! Actions that are registered, and `ctx.actions.write`.
-ghost use Rattle.std.specs.Prelude.{◌≡◌, ◌∷◌, [], Ok, Err, Some, None, MatchResult, IfOk, map, option_copied};
+ghost use Rattle.std.specs.Prelude.{◌≡◌, ◌∷◌, [], Ok, Err, Some, None, MatchResult, IfOk, map};
+ghost use Rattle.std.specs.Prelude.{option_copied};
 ghost use Rattle.std.specs.List.{list_all};
 ghost use Rattle.ticks.specs.Ticking.{FaultOr};
 ghost use Rattle.operations.specs.Arguments.{given};
 ghost use Rattle.calls.specs.Parameters.{taken};
 ghost use Rattle.contexts.specs.Works.{is_among, repeats};
-ghost use Rattle.contexts.specs.Actions.{registered, write, write_with, written, write_parameters, file_write, file_in};
+ghost use Rattle.contexts.specs.Actions.{registered, write, write_with, written, write_parameters};
+ghost use Rattle.contexts.specs.Actions.{file_write, file_in};
 ghost use Rattle.operations.specs.Reading.{string_in};
 ghost use Rattle.values.specs.Shape.{shape};
 
@@ -78,7 +80,8 @@ fn repeats(alloc: Global, files: &[Shared<FileRef>]) -> Result<bool, AllocError>
 ///
 /// # Errors
 ///
-/// `arity`; `type`, where the output is no File or the content no string; then those of [`registered`].
+/// `arity`; `type`, where the output is no File or the content no string; then those of
+/// [`registered`].
 pub(crate) fn write(
     alloc: Global,
     mnemonics: &Mnemonics,

@@ -1,5 +1,6 @@
 //! `ctx.actions.run` and `ctx.actions.run_shell`.
-ghost use Rattle.std.specs.Prelude.{◌≡◌, ◌∷◌, [], Ok, Err, Some, None, MatchResult, map, option_copied, codes};
+ghost use Rattle.std.specs.Prelude.{◌≡◌, ◌∷◌, [], Ok, Err, Some, None, MatchResult, map};
+ghost use Rattle.std.specs.Prelude.{option_copied, codes};
 ghost use Rattle.values.specs.Seeing.{seen, group_items};
 ghost use Rattle.values.specs.Shape.{shape};
 ghost use Rattle.ticks.specs.Ticking.{FaultOr};
@@ -7,7 +8,8 @@ ghost use Rattle.operations.specs.Arguments.{given};
 ghost use Rattle.operations.specs.Reading.{sequence_in};
 ghost use Rattle.operations.specs.States.{Gives, then_give};
 ghost use Rattle.calls.specs.Parameters.{taken, got_at};
-ghost use Rattle.contexts.specs.Actions.{run_of, run_with, run_parameters, some_outputs, action_of, needed};
+ghost use Rattle.contexts.specs.Actions.{run_of, run_with, run_parameters, some_outputs, action_of};
+ghost use Rattle.contexts.specs.Actions.{needed};
 ghost use Rattle.target_actions.specs.Programs.{parameter, program_in, given_parts};
 
 use crate::inputs::{inputs_in, mnemonic_in, words_in};
@@ -26,8 +28,8 @@ use state::sequence_of;
 use std::alloc::Global;
 use values::{Broken, Group, Kind, Seen, Value};
 
-/// `ctx.actions.run(*, outputs, executable, inputs = [], arguments = [], mnemonic = "Action")`, or `run_shell`, which is given a
-/// command.
+/// `ctx.actions.run(*, outputs, executable, inputs = [], arguments = [], mnemonic = "Action")`, or
+/// `run_shell`, which is given a command.
 ///
 /// # Errors
 ///
@@ -41,8 +43,8 @@ pub(crate) fn run(
     work: &mut Work,
 ) -> Result<Value, Broken>
     ensures { MatchResult result
-        (λ v. run_of (parameter program) (program_in program) heap.now (given arguments.now) work.old
-        ≡ Ok (v, work.new))
+        (λ v. run_of (parameter program) (program_in program) heap.now
+        (given arguments.now) work.old ≡ Ok (v, work.new))
         (λ e. FaultOr (run_of (parameter program) (program_in program) heap.now
         (given arguments.now) work.old) e) }
 {

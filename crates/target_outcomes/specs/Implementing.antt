@@ -1,5 +1,5 @@
--- What the call of the implementation of a target's rule comes to in a workspace (Bazel documentation, "Rules", "Implementation
--- function"; docs/PROFILE.md, "Targets").
+-- What the call of the implementation of a target's rule comes to in a workspace (Bazel
+-- documentation, "Rules", "Implementation function"; docs/PROFILE.md, "Targets").
 use Rattle.std.specs.Prelude.{ℕ, List, Result}
 use Rattle.workspace.specs.Labels.{LabelParts}
 use Rattle.workspace.specs.Workspaces.{Pair, paths_of}
@@ -11,6 +11,9 @@ use Rattle.targets.specs.Steps.{Implemented, Fault}
 use Rattle.targets.specs.declared.target.Target.{Target}
 use Rattle.loader.specs.Files.{known}
 
--- with the files of a workspace, in ascending order of their paths, and so many ticks for each evaluation
-abbrev pub implement : List Pair → ℕ → LabelParts → Target → List Dependency → Result Implemented Fault
-implement files limit = run_implementation limit (linked_files files) (paths_of files) target_world (known files limit)
+-- The call, with the files of a workspace, in ascending order of their paths, and so many ticks for
+-- each evaluation: what it gave, or its fault.
+abbrev pub implement : List Pair → ℕ → LabelParts → Target → List Dependency
+    → Result Implemented Fault
+implement files limit =
+    run_implementation limit (linked_files files) (paths_of files) target_world (known files limit)

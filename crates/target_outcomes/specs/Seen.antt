@@ -1,4 +1,5 @@
--- What the call of an implementation answers, as the definitions of targets have it (this project's own).
+-- What the call of an implementation answers, as the definitions of targets have it (this project's
+-- own).
 use Rattle.std.specs.Prelude.{◌≡◌, List, Result, Ok, Err, MatchResult, unwrap_or}
 use Rattle.meaning.specs.Functions.{Files, def_line}
 use Rattle.leaves.specs.declared.leaf.MadeId.{MadeId}
@@ -10,7 +11,7 @@ use Rattle.targets.specs.Steps as outcome
 use Rattle.evaluation.specs.Worlds.{path_at}
 use Rattle.target_outcomes.specs.declared.returning.Implemented.{Implemented}
 
--- at the `def` of a function
+-- a fault of this kind, at the `def` of a function
 abbrev pub defined_at : Files → List Path → MadeId → Kind → Placed Kind
 defined_at files paths id k =
     record {
@@ -19,13 +20,16 @@ defined_at files paths id k =
       line = unwrap_or (def_line files (function_id id)) 0;
     }
 
+-- what an implementation gave, as the definitions of targets have it
 abbrev pub implemented_seen : Implemented → outcome.Implemented
 implemented_seen i = record { result = i.result; files = i.work.files; actions = i.work.actions }
 
+-- and its fault
 abbrev pub placed_seen : Placed Kind → outcome.Fault
 placed_seen f = record { kind = f.kind; path = f.path; line = f.line }
 
 -- a call answers what the implementation comes to
-abbrev pub Implements : Result outcome.Implemented outcome.Fault → Result Implemented (Placed Kind) → Type 0
+abbrev pub Implements : Result outcome.Implemented outcome.Fault → Result Implemented (Placed Kind)
+    → Type 0
 Implements meant result =
     MatchResult result (λ i. meant ≡ Ok (implemented_seen i)) (λ f. meant ≡ Err (placed_seen f))

@@ -65,7 +65,8 @@ fn call<'a, 'b, L: Link<'a>, I: FileLists>(
     }
 }
 
-/// The call of the implementation of the rule of a label's target, with its dependencies: what it gave, or its fault.
+/// The call of the implementation of the rule of a label's target, with its dependencies: what it
+/// gave, or its fault.
 pub(crate) fn implement<'a>(
     alloc: Global,
     files: &'a LoadedFiles,

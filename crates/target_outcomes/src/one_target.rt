@@ -21,8 +21,8 @@ use targets::{Outcome, SourceFile, Target, TargetFault};
 use values::{Kind, Provider};
 use workspace::Label;
 
-/// What the analysis of every target of a workspace takes: its files, with the modules, and the provider `DefaultInfo` and the
-/// mnemonics of actions, made once.
+/// What the analysis of every target of a workspace takes: its files, with the modules, and the
+/// provider `DefaultInfo` and the mnemonics of actions, made once.
 pub struct Analysis<'a> {
     files: &'a LoadedFiles,
     info: Shared<Provider>,
@@ -78,7 +78,8 @@ impl<'a> Analysis<'a> {
         })
     }
 
-    /// The outcome of a label that names a source file: the File at its path, which the label owns and whose text it shares.
+    /// The outcome of a label that names a source file: the File at its path, which the label owns
+    /// and whose text it shares.
     ///
     /// # Errors
     ///
@@ -93,9 +94,10 @@ impl<'a> Analysis<'a> {
         Ok(Outcome::Source(SourceFile::new(alloc, file, &self.info)?))
     }
 
-    /// The outcome of a label that names a target, from the outcomes of the labels that the target depends on, which stand in
-    /// the order of these. It is the first of these that applies: `dependency failed`, with all that failed; the first
-    /// dependency that an attribute refuses; and what the implementation of the target's rule comes to.
+    /// The outcome of a label that names a target, from the outcomes of the labels that the target
+    /// depends on, which stand in the order of these. It is the first of these that applies:
+    /// `dependency failed`, with all that failed; the first dependency that an attribute refuses;
+    /// and what the implementation of the target's rule comes to.
     ///
     /// # Errors
     ///

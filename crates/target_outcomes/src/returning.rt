@@ -70,7 +70,8 @@ fn frozen(alloc: Global, value: &Value, state: State<'_>) -> Result<Frozen, Brok
     freeze(alloc, Item::Value(value), &state.heap, &mut state.ticks)
 }
 
-/// What an implementation comes to whose call returned this. A fault of freezing stands at the `def`.
+/// What an implementation comes to whose call returned this. A fault of freezing stands at the
+/// `def`.
 pub(crate) fn returned(
     alloc: Global,
     codes: &Linked,

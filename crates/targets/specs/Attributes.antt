@@ -1,6 +1,7 @@
--- Attributes of rules, and what a target has for them (Bazel documentation, "Rules", "Attributes" and the module `attr`;
--- docs/PROFILE.md, "Attributes").
-use Rattle.std.specs.Prelude.{ℕ, Bool, false, not, ◌&&◌, ◌||◌, nat_eq, List, [], ◌∷◌, Option, Some, None, is_some, codes, bytes_eq}
+-- Attributes of rules, and what a target has for them (Bazel documentation, "Rules", "Attributes"
+-- and the module `attr`; docs/PROFILE.md, "Attributes").
+use Rattle.std.specs.Prelude.{ℕ, Bool, false, not, ◌&&◌, ◌||◌, nat_eq, List, [], ◌∷◌, Option, Some}
+use Rattle.std.specs.Prelude.{None, is_some, codes, bytes_eq}
 use Rattle.std.specs.List.{flat_map, list_all}
 use Rattle.workspace.specs.Labels.{LabelParts}
 use Rattle.targets.specs.declared.attributes.AttributeValue.{AttributeValue}
@@ -14,11 +15,13 @@ abbrev pub is_private : List ℕ → Bool
 is_private [] = false
 is_private (b ∷ bs) = nat_eq b 95
 
--- Whether a rule may have an attribute of this name: every rule has `name` already, and a private attribute needs a default
--- that is given. (The second is this project's own.)
+-- Whether a rule may have an attribute of this name: every rule has `name` already, and a private
+-- attribute needs a default that is given. (The second is this project's own.)
 abbrev pub is_attribute : NamedAttribute → Bool
-is_attribute a = not (bytes_eq a.name (codes "name")) && (not (is_private a.name) || is_some a.attribute.default)
+is_attribute a =
+    not (bytes_eq a.name (codes "name")) && (not (is_private a.name) || is_some a.attribute.default)
 
+-- whether a rule may have all these attributes
 abbrev pub are_attributes : List NamedAttribute → Bool
 are_attributes named = list_all is_attribute named
 

@@ -10,4 +10,5 @@ HasAll listed table = (k : Key) → list_any (same_key k) table ≡ list_any (sa
 
 -- what is found in a table is found after a key was put there, and that key is
 abbrev pub HasMore : Key → List Key → List Key → Type 0
-HasMore key olds news = (k : Key) → list_any (same_key k) news ≡ (list_any (same_key k) olds || same_key k key)
+HasMore key olds news =
+    (k : Key) → list_any (same_key k) news ≡ (list_any (same_key k) olds || same_key k key)

@@ -1,4 +1,5 @@
--- The defaults of attributes (Bazel documentation, the module `attr`; docs/PROFILE.md, "Attributes").
+-- The defaults of attributes (Bazel documentation, the module `attr`; docs/PROFILE.md,
+-- "Attributes").
 use Rattle.std.specs.Prelude.{pos, false, [], Option, Some, None}
 use Rattle.keys.specs.declared.key.Key.TheVariants as index
 use Rattle.leaves.specs.declared.leaf.AttributeKind.{AttributeKind}
@@ -17,6 +18,7 @@ default_of_kind kind.StringDict = has.StringDict []
 default_of_kind kind.Label = has.Label None
 default_of_kind kind.LabelList = has.Labels []
 
+-- the default that was given, or else this one
 abbrev pub value_or : Option AttributeValue → AttributeValue → AttributeValue
 value_or (Some v) d = v
 value_or None d = d

@@ -8,6 +8,7 @@ use Rattle.targets.specs.Defaults.{default_of}
 use Rattle.targets.specs.declared.attributes.AttributeValue.{AttributeValue}
 use Rattle.targets.specs.declared.attributes.NamedAttribute.{NamedAttribute}
 
+-- the names of a rule's attributes, in the order of `attrs`
 abbrev pub names_of : List NamedAttribute → List (List ℕ)
 names_of named = map (λ a. a.name) named
 
@@ -21,4 +22,6 @@ ArePlaced names places = (x : List ℕ) → get (slice_cmp nat_cmp) places x ≡
 
 -- a name has this place now, and every other the place that it had
 abbrev pub HasFirst : List ℕ → ℕ → BTreeMap (List ℕ) ℕ → BTreeMap (List ℕ) ℕ → Type 0
-HasFirst n i olds news = (x : List ℕ) → get (slice_cmp nat_cmp) news x ≡ (if bytes_eq x n then Some i else get (slice_cmp nat_cmp) olds x)
+HasFirst n i olds news =
+    (x : List ℕ) → get (slice_cmp nat_cmp) news x
+    ≡ (if bytes_eq x n then Some i else get (slice_cmp nat_cmp) olds x)

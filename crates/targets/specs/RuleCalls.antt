@@ -1,6 +1,8 @@
--- The call of a rule, which declares a target (Bazel documentation, "Rules", "Rule instantiation"; the order of the faults is
--- this project's own; docs/PROFILE.md, "Calling a rule").
-use Rattle.std.specs.Prelude.{ℕ, Bool, true, false, not, ◌&&◌, ◌||◌, nat_eq, List, [], ◌∷◌, length, Option, Some, None, option_map, option_and_then, Ok, Err, is_some, if◌then◌else◌, codes, bytes_eq}
+-- The call of a rule, which declares a target (Bazel documentation, "Rules", "Rule instantiation";
+-- the order of the faults is this project's own; docs/PROFILE.md, "Calling a rule").
+use Rattle.std.specs.Prelude.{ℕ, Bool, true, false, not, ◌&&◌, ◌||◌, nat_eq, List, [], ◌∷◌, length}
+use Rattle.std.specs.Prelude.{Option, Some, None, option_map, option_and_then, Ok, Err, is_some}
+use Rattle.std.specs.Prelude.{if◌then◌else◌, codes, bytes_eq}
 use Rattle.std.specs.List.{list_any, list_all}
 use Rattle.leaves.specs.Leaves.{same_key}
 use Rattle.values.specs.Shape.{Shape, key, items, entries, shape}
@@ -45,11 +47,14 @@ given_as g x = unless_none (given_for x g.names g.values)
 abbrev pub is_given : Given → List ℕ → Bool
 is_given g x = is_some (given_as g x)
 
--- ---- `arity`: a position; a name that is unknown or private, whatever stands for it; no `name`; no mandatory attribute
+-- ---- `arity`: a position; a name that is unknown or private, whatever stands for it; no `name`;
+-- no mandatory attribute
 
 -- what a call may name: `name`, and each attribute that isn't private
 abbrev pub may_name : List NamedAttribute → List ℕ → Bool
-may_name attributes x = bytes_eq x (codes "name") || (not (is_private x) && list_any (λ a. bytes_eq x a.name) attributes)
+may_name attributes x =
+    bytes_eq x (codes "name")
+    || (not (is_private x) && list_any (λ a. bytes_eq x a.name) attributes)
 
 -- a mandatory attribute that isn't given
 abbrev pub is_missed : Given → NamedAttribute → Bool
@@ -61,7 +66,8 @@ fits r g =
     nat_eq (length g.items) 0 && (list_all (may_name r.attributes) g.names
     && (is_given g (codes "name") && not (list_any (is_missed g) r.attributes)))
 
--- ---- `type`: the name makes no label; a value of another type; a text that is no label; a string or number that isn't allowed
+-- ---- `type`: the name makes no label; a value of another type; a text that is no label; a string
+-- or number that isn't allowed
 
 -- an empty list of values allows all
 abbrev pub is_allowed : List Key → Key → Bool
@@ -76,23 +82,26 @@ abbrev pub each_of : {A B : Type 0} → (A → Option B) → List A → Option (
 each_of f [] = Some []
 each_of f (x ∷ xs) = option_and_then (λ y. option_map (λ ys. y ∷ ys) (each_of f xs)) (f x)
 
--- Values of the heap, and the texts of labels, which are read in the package of the BUILD file that runs, also where a function
--- of another package makes the call.
+-- Values of the heap, and the texts of labels, which are read in the package of the BUILD file that
+-- runs, also where a function of another package makes the call.
 module _ (h : List Cell) («package» : List ℕ) where
   -- the label that a value shows as a text, if it shows one
   abbrev pub label_in : Shape → Option LabelParts
   label_in s = option_and_then (λ t. label_of t (Some «package»)) (string_in s)
 
-  -- What is shown, as a value of an attribute of this kind. A list attribute takes a list, and no tuple. Of a dict all keys and
-  -- all values are strings.
+  -- What is shown, as a value of an attribute of this kind. A list attribute takes a list, and no
+  -- tuple. Of a dict all keys and all values are strings.
   abbrev pub typed : AttributeKind → List Key → Shape → Option AttributeValue
   typed kind.String allowed (key (index.Text t)) = if_allowed allowed (index.Text t)
   typed kind.Int allowed (key (index.Number n)) = if_allowed allowed (index.Number n)
   typed kind.Bool allowed (key (index.Truth b)) = Some (has.Key (index.Truth b))
-  typed kind.StringList allowed (items true xs) = option_map has.Strings (each_of (λ v. string_in (shape h v)) xs)
+  typed kind.StringList allowed (items true xs) =
+      option_map has.Strings (each_of (λ v. string_in (shape h v)) xs)
   typed kind.StringDict allowed (entries es) = option_map has.StringDict (each_of (text_entry h) es)
-  typed kind.Label allowed (key (index.Text t)) = option_map (λ l. has.Label (Some l)) (label_of t (Some «package»))
-  typed kind.LabelList allowed (items true xs) = option_map has.Labels (each_of (λ v. label_in (shape h v)) xs)
+  typed kind.Label allowed (key (index.Text t)) =
+      option_map (λ l. has.Label (Some l)) (label_of t (Some «package»))
+  typed kind.LabelList allowed (items true xs) =
+      option_map has.Labels (each_of (λ v. label_in (shape h v)) xs)
   typed _ _ _ = None
 
   -- what was given, if it is of the attribute's kind; the default where nothing was given
@@ -100,14 +109,18 @@ module _ (h : List Cell) («package» : List ℕ) where
   given_or_default a None = Some (default_of a)
   given_or_default a (Some v) = typed a.kind a.values (shape h v)
 
-  -- what the target has for an attribute: what was given, else the default, which isn't asked whether it is allowed
+  -- what the target has for an attribute: what was given, else the default, which isn't asked
+  -- whether it is allowed
   abbrev pub value_for : Given → NamedAttribute → Option AttributeValue
   value_for g a = given_or_default a.attribute (given_as g a.name)
 
-  -- The target's label, whose name is what was given as `name`. That is no text of a label: `:x` and `//a:x` are refused.
+  -- The target's label, whose name is what was given as `name`. That is no text of a label: `:x`
+  -- and `//a:x` are refused.
   abbrev pub label_from : Option Value → Option LabelParts
   label_from None = None
-  label_from (Some v) = option_and_then (λ t. legal_label (record { «package» = «package»; name = t })) (string_in (shape h v))
+  label_from (Some v) =
+      option_and_then (λ t. legal_label (record { «package» = «package»; name = t }))
+      (string_in (shape h v))
 
 -- ---- `key`: a label twice in a list that was given; a name that the package has declared
 
@@ -125,11 +138,13 @@ abbrev pub repeats_label : AttributeValue → Bool
 repeats_label (has.Labels ls) = repeats ls
 repeats_label _ = false
 
--- A default may have a label twice.
+-- Whether a list of labels that was given for one of these attributes has one twice. A default may
+-- have a label twice.
 abbrev pub repeats_given : List NamedAttribute → Given → List AttributeValue → Bool
 repeats_given [] g vs = false
 repeats_given (a ∷ rest) g [] = false
-repeats_given (a ∷ rest) g (v ∷ vs) = (is_given g a.name && repeats_label v) || repeats_given rest g vs
+repeats_given (a ∷ rest) g (v ∷ vs) =
+    (is_given g a.name && repeats_label v) || repeats_given rest g vs
 
 -- whether a target of this label is among those that were declared
 abbrev pub has_declared : List Target → LabelParts → Bool
@@ -149,31 +164,37 @@ given_values (a ∷ rest) g = put_first (given_as g a.name) (given_values rest g
 
 -- what freezing all that comes to: the ticks after it, or its fault
 abbrev pub frozen_given : Rule → Given → List Cell → Count → Ticking (Unit {0})
-frozen_given r g h c = then_on (all_of (freeze_at VISITED_LEVELS h) (given_values r.attributes g) c) (λ ts d. Ok (tt, d))
+frozen_given r g h c =
+    then_on (all_of (freeze_at VISITED_LEVELS h) (given_values r.attributes g) c)
+    (λ ts d. Ok (tt, d))
 
 -- ---- the call
 
--- the target, once what was given is frozen: that takes ticks, and no target sees a later change of what was given
+-- the target, once what was given is frozen: that takes ticks, and no target sees a later change of
+-- what was given
 abbrev pub after_freezing : Target → Rule → Given → Op Target
 after_freezing t r g s = with_ticks s (then_on (frozen_given r g s.heap s.ticks) (λ u d. Ok (t, d)))
 
--- a call that fits, by the label and the values that it gives: `type` where it gives none, then `key`, then `steps`
-abbrev pub typed_call : Rule → List Target → Given → Option LabelParts → Option (List AttributeValue) → Op Target
+-- a call that fits, by the label and the values that it gives: `type` where it gives none, then
+-- `key`, then `steps`
+abbrev pub typed_call : Rule → List Target → Given → Option LabelParts
+    → Option (List AttributeValue) → Op Target
 typed_call r declared g (Some l) (Some vs) s =
     if repeats_given r.attributes g vs || has_declared declared l then Err key_fault
     else after_freezing (record { label = l; rule = r; values = vs }) r g s
 typed_call r declared g _ _ s = Err Wrong
 
--- A call of a rule while the BUILD file of a package runs, which has declared some targets so far: one more target, or the first
--- of `arity`, `type`, `key` and `steps`.
+-- A call of a rule while the BUILD file of a package runs, which has declared some targets so far:
+-- one more target, or the first of `arity`, `type`, `key` and `steps`.
 abbrev pub declares : List ℕ → List Target → Rule → Given → Op Target
 declares «package» declared r g s =
     if fits r g
-    then typed_call r declared g (label_from s.heap «package» (given_as g (codes "name"))) (each_of (value_for s.heap «package» g) r.attributes) s
+    then typed_call r declared g (label_from s.heap «package» (given_as g (codes "name")))
+    (each_of (value_for s.heap «package» g) r.attributes) s
     else Err Arity
 
--- what runs where a rule is called: a BUILD file, with its package and the targets that it has declared; a module; or an
--- implementation
+-- what runs where a rule is called: a BUILD file, with its package and the targets that it has
+-- declared; a module; or an implementation
 pub data Running : Type 0 where
   build_file : List ℕ → List Target → Running
   module_file : Running

@@ -12,9 +12,13 @@ use Rattle.values.specs.View.{FrozenTree}
 use Rattle.leaves.specs.declared.leaf.Leaf.TheVariants as plain
 use Rattle.operations.specs.Instances.{default_info}
 
--- a depset that no call made, with serial 0: that of a source file has its File, and that of a missing `DefaultInfo` is empty
+-- a depset that no call made, with serial 0: that of a source file has its File, and that of a
+-- missing `DefaultInfo` is empty
 abbrev pub first_depset : List ℕ → List Element → Rose Own
-first_depset owner es = node (record { id = record { owner = owner; serial = 0 }; order = order.Default; direct = es }) rose.none
+first_depset owner es =
+    node
+    (record { id = record { owner = owner; serial = 0 }; order = order.Default; direct = es })
+    rose.none
 
 -- the depset of a source file: it has its File, and no call made it
 abbrev pub source_files : FileRef → Rose Own

@@ -1,6 +1,8 @@
--- The outcome of a label from the outcomes of its dependencies (Bazel documentation, "Rules", "Implementation function"; the
--- order of the faults is this project's own; docs/PROFILE.md, "Outcomes").
-use Rattle.std.specs.Prelude.{ℕ, Bool, true, false, not, ◌&&◌, List, [], ◌∷◌, map, Option, Some, None, Result, Ok, Err, if◌then◌else◌, bytes_eq}
+-- The outcome of a label from the outcomes of its dependencies (Bazel documentation, "Rules",
+-- "Implementation function"; the order of the faults is this project's own; docs/PROFILE.md,
+-- "Outcomes").
+use Rattle.std.specs.Prelude.{ℕ, Bool, true, false, not, ◌&&◌, List, [], ◌∷◌, map, Option, Some}
+use Rattle.std.specs.Prelude.{None, Result, Ok, Err, if◌then◌else◌, bytes_eq}
 use Rattle.std.specs.List.{list_any, filter}
 use Rattle.depsets.specs.declared.element.FileRef.{FileRef}
 use Rattle.values.specs.Tree.{leaf, branch, list, instance, tree_list, slots}
@@ -11,7 +13,8 @@ use Rattle.ticks.specs.declared.ticks.Kind.{Kind}
 use Rattle.actions.specs.declared.action.Action.{Action}
 use Rattle.operations.specs.Instances.{default_info}
 use Rattle.workspace.specs.Labels.{LabelParts, label_text, label_path}
-use Rattle.targets.specs.Resolving.{Named, target, source_file, failed_package, nothing, dependencies}
+use Rattle.targets.specs.Resolving.{Named, target, source_file, failed_package, nothing}
+use Rattle.targets.specs.Resolving.{dependencies}
 use Rattle.targets.specs.Checks.{Dependency, provider_of, offers, first_refused}
 use Rattle.targets.specs.Sources.{first_depset}
 use Rattle.targets.specs.declared.outcome.Outcome.{Outcome}
@@ -20,8 +23,8 @@ use Rattle.targets.specs.declared.outcome.TargetFault.{TargetFault}
 use Rattle.targets.specs.declared.outcome.TargetFault.TheVariants as fault
 use Rattle.targets.specs.declared.target.Target.{Target}
 
--- What the call of an implementation gives, its result being frozen: the result, the Files that it declared and the actions that
--- it registered, both in order.
+-- What the call of an implementation gives, its result being frozen: the result, the Files that it
+-- declared and the actions that it registered, both in order.
 pub record Implemented : Type 0 where
   pub result : FrozenTree
   pub files : List FileRef
@@ -62,7 +65,9 @@ instances_in _ = None
 
 -- what a `DefaultInfo` is that isn't returned
 abbrev pub missing_default_info : LabelParts → FrozenTree
-missing_default_info l = branch (instance default_info (slots (Some (leaf (plain.Depset (first_depset (label_text l) []))) ∷ [])))
+missing_default_info l =
+    branch (instance default_info
+    (slots (Some (leaf (plain.Depset (first_depset (label_text l) []))) ∷ [])))
 
 -- a missing `DefaultInfo` is put first
 abbrev pub with_default_info : LabelParts → List FrozenTree → List FrozenTree
@@ -77,7 +82,8 @@ makes path a = list_any (λ f. bytes_eq path f.path) a.outputs
 -- the path of the first declared File that no action makes
 abbrev pub first_unmade : List Action → List FileRef → Option (List ℕ)
 first_unmade actions [] = None
-first_unmade actions (f ∷ fs) = if list_any (makes f.path) actions then first_unmade actions fs else Some f.path
+first_unmade actions (f ∷ fs) =
+    if list_any (makes f.path) actions then first_unmade actions fs else Some f.path
 
 -- ---- a target whose dependencies are fit
 
@@ -91,8 +97,8 @@ abbrev pub with_instances : LabelParts → Implemented → Option (List FrozenTr
 with_instances l i None = Failed fault.Returned
 with_instances l i (Some ts) = made_whole l ts i.actions (first_unmade i.actions i.files)
 
--- what becomes of a target whose implementation gave this: the first of `implementation`, `returned` and `no action`, or its
--- providers and actions
+-- what becomes of a target whose implementation gave this: the first of `implementation`,
+-- `returned` and `no action`, or its providers and actions
 abbrev pub finished : LabelParts → Result Implemented Fault → Outcome
 finished l (Err f) = Failed (fault.Implementation f.kind f.path f.line)
 finished l (Ok i) = with_instances l i (instances_in i.result)
@@ -114,14 +120,16 @@ with_outcomes [] os = []
 with_outcomes (l ∷ ls) [] = []
 with_outcomes (l ∷ ls) (o ∷ os) = (l, o) ∷ with_outcomes ls os
 
--- `implement` is what a call of the function of a target's rule comes to, with dependencies that have these outcomes.
+-- `implement` is what a call of the function of a target's rule comes to, with dependencies that
+-- have these outcomes.
 module _ (implement : LabelParts → Target → List Dependency → Result Implemented Fault) where
   -- the fault of a dependency that is refused, and else what the implementation comes to
   abbrev pub unless_refused : LabelParts → Target → List Dependency → Option TargetFault → Outcome
   unless_refused l t ds (Some f) = Failed f
   unless_refused l t ds None = finished l (implement l t ds)
 
-  -- the first of `dependency failed`, with all that failed, a dependency that is refused, and what the implementation comes to
+  -- the first of `dependency failed`, with all that failed, a dependency that is refused, and what
+  -- the implementation comes to
   abbrev pub analysed : LabelParts → Target → List Dependency → List LabelParts → Outcome
   analysed l t ds (f ∷ fs) = Failed (fault.DependencyFailed (f ∷ fs))
   analysed l t ds [] = unless_refused l t ds (first_refused ds t.rule.attributes t.values)
@@ -130,8 +138,8 @@ module _ (implement : LabelParts → Target → List Dependency → Result Imple
   abbrev pub target_outcome : LabelParts → Target → List Dependency → Outcome
   target_outcome l t ds = analysed l t ds (failed_labels ds)
 
-  -- The outcome of what a label names, from the outcomes of its dependencies in their order. That a cyclic target fails with
-  -- `cycle` is told by the graph.
+  -- The outcome of what a label names, from the outcomes of its dependencies in their order. That a
+  -- cyclic target fails with `cycle` is told by the graph.
   abbrev pub step : LabelParts → Named → List Outcome → Outcome
   step l nothing os = Failed fault.NoSuchTarget
   step l failed_package os = Failed fault.PackageFailed

@@ -20,6 +20,7 @@ abbrev pub text_key : Key → Option (List ℕ)
 text_key (index.Text t) = Some t
 text_key _ = None
 
+-- an entry of these two strings
 abbrev pub entry_of : List ℕ → List ℕ → TextEntry
 entry_of k t = record { key = k; value = t }
 
@@ -33,6 +34,7 @@ text_entry h e = text_shown e.0 (shape h e.1)
 
 -- ---- the frozen dict
 
+-- the key of an entry as one of the frozen dict, and its value as a frozen value
 abbrev pub entry_key : TextEntry → Key
 entry_key e = index.Text e.key
 

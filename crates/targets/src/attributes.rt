@@ -8,7 +8,8 @@ use std::alloc::AllocError;
 use values::{AttributeKind, FunctionRef, Key, Names, Provider};
 use workspace::Label;
 
-/// What a target has for an attribute: what it was given, or the attribute's default. No depset stands in it.
+/// What a target has for an attribute: what it was given, or the attribute's default. No depset
+/// stands in it.
 pub enum AttributeValue {
     /// A string, a whole number or a bool.
     Key(Key),
@@ -16,19 +17,24 @@ pub enum AttributeValue {
     Strings(Shared<TextList>),
     /// A dict of strings, as the frozen dict that each reader is lent.
     StringDict(Shared<TextDict>),
+    /// A label, or None.
     Label(Option<Shared<Label>>),
+    /// Labels, in order.
     Labels(Shared<Sequence<Shared<Label>>>),
 }
 
 /// Which source files an attribute takes.
 pub enum AllowFiles {
+    /// All.
     Any,
+    /// None.
     Nothing,
     /// Those whose paths end with one of these.
     Ending(Names),
 }
 
-/// The declaration of an attribute, as `attr.label_list(..)` makes it. Several rules, and several names of one rule, may have it.
+/// The declaration of an attribute, as `attr.label_list(..)` makes it. Several rules, and several
+/// names of one rule, may have it.
 #[derive(Drop)]
 pub struct Attribute {
     /// `string`, `int`, `bool`, `string_list`, `string_dict`, `label` or `label_list`.
@@ -39,7 +45,8 @@ pub struct Attribute {
     pub mandatory: bool,
     /// The strings or whole numbers that it takes; all, where there are none.
     pub values: Choices,
-    /// A target that it takes offers all providers of one of these lists; any target does where there are none.
+    /// A target that it takes offers all providers of one of these lists; any target does where
+    /// there are none.
     pub providers: Sequence<Sequence<Shared<Provider>>>,
     /// Which source files it takes, where it is one of labels.
     pub allow_files: AllowFiles,
@@ -54,8 +61,8 @@ pub struct NamedAttribute {
     pub attribute: Shared<Attribute>,
 }
 
-/// A rule: the function that implements it, and its attributes in the order of `attrs`; `name`, which every rule has, isn't
-/// among them.
+/// A rule: the function that implements it, and its attributes in the order of `attrs`; `name`,
+/// which every rule has, isn't among them.
 #[derive(Drop)]
 pub struct Rule {
     /// The function that is called with `ctx`.
@@ -66,6 +73,10 @@ pub struct Rule {
 
 impl AttributeValue {
     /// Another name of the same value: at most a count more, and nothing is copied.
+    ///
+    /// # Errors
+    ///
+    /// `AllocError` where a count of names is at its greatest.
     pub fn share(&self) -> Result<AttributeValue, AllocError>
         ensures { IfOk result (λ v. v ≡ self.now) }
     {

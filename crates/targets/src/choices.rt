@@ -14,8 +14,8 @@ use values::Key;
 /// So many values, at most, are gone through rather than looked up.
 const FEW: usize = 8;
 
-/// The strings or whole numbers that an attribute takes, as they are listed: to a contract a list. Where there are many, each is
-/// found by a look-up.
+/// The strings or whole numbers that an attribute takes, as they are listed: to a contract a list.
+/// Where there are many, each is found by a look-up.
 #[derive(Drop)]
 pub struct Choices {
     listed: Sequence<Key>,

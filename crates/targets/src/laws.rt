@@ -1,13 +1,16 @@
-//! What the definitions of targets mean. These functions do nothing; their contracts hold of all rules, calls and outcomes.
-ghost use Rattle.targets.specs.Laws.{CallsDeclare, AreTheLabels, AreDistinct, KeepOrder, TargetsHaveTheirLabels, TellsTheFirst, TellsNone, DoneIsWhole};
+//! What the definitions of targets mean. These functions do nothing; their contracts hold of all
+//! rules, calls and outcomes.
+ghost use Rattle.targets.specs.Laws.{CallsDeclare, AreTheLabels, AreDistinct, KeepOrder};
+ghost use Rattle.targets.specs.Laws.{TargetsHaveTheirLabels, TellsTheFirst, TellsNone, DoneIsWhole};
 
-/// A call of a rule that declares a target declares one that is new in its package, with a legal label, the rule, and a value for
-/// each of the rule's attributes.
+/// A call of a rule that declares a target declares one that is new in its package, with a legal
+/// label, the rule, and a value for each of the rule's attributes.
 pub fn calls_declare_new_targets()
     ensures { CallsDeclare }
 {}
 
-/// The dependencies of a target are the labels that it has for its attributes, each once, in their order.
+/// The dependencies of a target are the labels that it has for its attributes, each once, in their
+/// order.
 pub fn dependencies_are_labels_each_once()
     ensures labels { AreTheLabels }
     ensures once { AreDistinct }

@@ -1,11 +1,12 @@
 //! Rules, their attributes, the targets that `BUILD` files declare, and what becomes of a label.
 //!
-//! The definitions stand in `specs/`, one subject a file: `Attributes` says what an attribute is and what a target has for it,
-//! `TextLists` and `TextDicts` what a list and a dict of strings are, `Choosing` what a table of an attribute's values finds,
-//! `RuleCalls` what the call of a rule declares or refuses, `Resolving` what a label names and what it depends on, `Checks`
-//! which dependencies an attribute takes, `Sources` what a source file offers, and `Steps` the outcome of a label from the
-//! outcomes of its dependencies, over any meaning of implementations. [`laws`] says what follows from them. The types here are
-//! what these definitions speak of.
+//! The definitions stand in `specs/`, one subject a file: `Attributes` says what an attribute is
+//! and what a target has for it, `TextLists` and `TextDicts` what a list and a dict of strings are,
+//! `Choosing` what a table of an attribute's values finds, `RuleCalls` what the call of a rule
+//! declares or refuses, `Resolving` what a label names and what it depends on, `Checks` which
+//! dependencies an attribute takes, `Sources` what a source file offers, and `Steps` the outcome of
+//! a label from the outcomes of its dependencies, over any meaning of implementations. [`laws`]
+//! says what follows from them. The types here are what these definitions speak of.
 #![tactic(auto)]
 
 mod attributes;

@@ -40,6 +40,10 @@ impl Providers {
     }
 
     /// None yet, with memory for so many.
+    ///
+    /// # Errors
+    ///
+    /// `AllocError` where memory was refused.
     pub fn with_capacity(alloc: Global, count: usize) -> Result<Providers, AllocError>
         ensures { IfOk result (λ p. p ≡ []) }
     {
@@ -48,6 +52,10 @@ impl Providers {
     }
 
     /// Puts an instance last. After a refusal of memory they are as they were.
+    ///
+    /// # Errors
+    ///
+    /// `AllocError` where memory was refused.
     pub fn push(&mut self, instance: Frozen) -> Result<(), AllocError>
         ensures ok { OnOk result (self.new ≡ self.old ++ instance ∷ []) }
         ensures err { OnErr result (self.new ≡ self.old) }
@@ -96,6 +104,10 @@ impl Actions {
     /// Puts an action last. After a refusal of memory they are as they were.
     ///
     /// Most targets have one action, so room is taken for one at first.
+    ///
+    /// # Errors
+    ///
+    /// `AllocError` where memory was refused.
     pub fn push(&mut self, action: Action) -> Result<(), AllocError>
         ensures ok { OnOk result (self.new ≡ self.old ++ action ∷ []) }
         ensures err { OnErr result (self.new ≡ self.old) }
@@ -119,7 +131,9 @@ impl Actions {
 pub enum TargetFault {
     /// Some walk along dependencies leads to a cycle.
     Cycle,
+    /// The label names nothing.
     NoSuchTarget,
+    /// The label's package has a `BUILD` file that failed.
     PackageFailed,
     /// The dependencies that failed, in order.
     DependencyFailed(Sequence<Shared<Label>>),
@@ -135,10 +149,14 @@ pub enum TargetFault {
     NoAction(Text),
 }
 
-/// What becomes of a label: a source file; the providers and the actions of a target; or why there are none.
+/// What becomes of a label: a source file; the providers and the actions of a target; or why there
+/// are none.
 pub enum Outcome {
+    /// The source file that the label names.
     Source(SourceFile),
+    /// The providers and the actions of a target.
     Done(Providers, Actions),
+    /// Why there are none.
     Failed(TargetFault),
 }
 

@@ -12,13 +12,15 @@ use std::alloc::{AllocError, Global};
 use std::collections::BTreeMap;
 use std::marker::Model;
 
-/// The attributes of a rule in the order of `attrs`, each found by its name. To a contract they are a list.
+/// The attributes of a rule in the order of `attrs`, each found by its name. To a contract they are
+/// a list.
 #[derive(Drop)]
 pub struct RuleAttributes {
     items: Sequence<NamedAttribute>,
     /// What a target has for each where nothing is given, made once.
     defaults: Sequence<AttributeValue>,
-    /// The first place of each name. Names are found by order, so who chooses them can't make this slow.
+    /// The first place of each name. Names are found by order, so who chooses them can't make this
+    /// slow.
     places: BTreeMap<Text, usize>,
 }
 
@@ -37,6 +39,10 @@ impl Model for RuleAttributes {
 
 impl RuleAttributes {
     /// These attributes. Their names are put in order once, and their defaults made.
+    ///
+    /// # Errors
+    ///
+    /// `AllocError` where memory was refused.
     pub fn new(alloc: Global, items: Sequence<NamedAttribute>) -> Result<RuleAttributes, AllocError>
         ensures { IfOk result (λ a. a ≡ items) }
     {

@@ -32,6 +32,10 @@ impl<T> Sequence<T> {
     }
 
     /// Nothing yet, with memory for so many.
+    ///
+    /// # Errors
+    ///
+    /// `AllocError` where memory was refused.
     pub fn with_capacity(alloc: Global, count: usize) -> Result<Sequence<T>, AllocError>
         ensures { IfOk result (λ s. s ≡ []) }
     {
@@ -56,6 +60,10 @@ impl<T> Sequence<T> {
 
 impl<T: Drop> Sequence<T> {
     /// Puts one last. After a refusal of memory they are as they were.
+    ///
+    /// # Errors
+    ///
+    /// `AllocError` where memory was refused.
     pub fn push(&mut self, item: T) -> Result<(), AllocError>
         ensures ok { OnOk result (self.new ≡ self.old ++ item ∷ []) }
         ensures err { OnErr result (self.new ≡ self.old) }

@@ -9,8 +9,8 @@ use std::alloc::{AllocError, Global};
 use std::marker::Model;
 use values::{Branch, Frozen, Leaf, Provider};
 
-/// A source file, as a File, with the `DefaultInfo` that it offers: made once, and lent to each who reads it. To a contract it is
-/// its File.
+/// A source file, as a File, with the `DefaultInfo` that it offers: made once, and lent to each who
+/// reads it. To a contract it is its File.
 #[derive(Drop)]
 pub struct SourceFile {
     file: Shared<FileRef>,

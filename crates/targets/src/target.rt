@@ -4,8 +4,8 @@ use crate::{AttributeValue, Rule, Sequence};
 use plain::Shared;
 use workspace::Label;
 
-/// A target that the call of a rule declared: its label, its rule, and its value for each attribute of the rule, in their
-/// order.
+/// A target that the call of a rule declared: its label, its rule, and its value for each attribute
+/// of the rule, in their order.
 #[derive(Drop)]
 pub struct Target {
     /// Its label.

@@ -22,8 +22,8 @@ struct TextEntry {
     value: Text,
 }
 
-/// A dict whose keys and values are strings, as the frozen dict that whoever reads it is lent: to a contract its entries in
-/// order. No two have one key.
+/// A dict whose keys and values are strings, as the frozen dict that whoever reads it is lent: to a
+/// contract its entries in order. No two have one key.
 #[derive(Drop)]
 pub struct TextDict {
     tree: Frozen,
@@ -45,6 +45,10 @@ impl Model for TextDict {
 
 impl TextDict {
     /// No entries.
+    ///
+    /// # Errors
+    ///
+    /// `AllocError` where memory was refused.
     pub fn new(alloc: Global) -> Result<TextDict, AllocError>
         ensures { IfOk result (λ d. d ≡ []) }
     {
@@ -55,7 +59,12 @@ impl TextDict {
         })
     }
 
-    /// A dict of the heap, or a frozen one, whose keys and values are strings; None where one is no string.
+    /// A dict of the heap, or a frozen one, whose keys and values are strings; None where one is no
+    /// string.
+    ///
+    /// # Errors
+    ///
+    /// `AllocError` where memory was refused.
     pub fn read(
         alloc: Global,
         heap: &Heap,

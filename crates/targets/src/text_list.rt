@@ -5,14 +5,16 @@ ghost use Rattle.values.specs.Shape.{shape};
 ghost use Rattle.values.specs.Tree.{branch};
 ghost use Rattle.operations.specs.Reading.{string_in};
 ghost use Rattle.targets.specs.RuleCalls.{each_of};
-ghost use Rattle.targets.specs.TextLists.{text_tree, tree_text, text_seen, text_frozen, list_of_texts};
+ghost use Rattle.targets.specs.TextLists.{text_tree, tree_text, text_seen, text_frozen};
+ghost use Rattle.targets.specs.TextLists.{list_of_texts};
 
 use heap::Heap;
 use std::alloc::{AllocError, Global};
 use std::marker::Model;
 use values::{Branch, Frozen, Group, Key, Seen};
 
-/// A list of strings, as the frozen list that whoever reads it is lent: to a contract the strings in order.
+/// A list of strings, as the frozen list that whoever reads it is lent: to a contract the strings
+/// in order.
 #[derive(Drop)]
 pub struct TextList {
     tree: Frozen,
@@ -32,6 +34,10 @@ impl Model for TextList {
 
 impl TextList {
     /// No strings.
+    ///
+    /// # Errors
+    ///
+    /// `AllocError` where memory was refused.
     pub fn new(alloc: Global) -> Result<TextList, AllocError>
         ensures { IfOk result (λ l. l ≡ []) }
     {
@@ -39,6 +45,10 @@ impl TextList {
     }
 
     /// The strings that items are, of the heap or frozen; None where one is no string.
+    ///
+    /// # Errors
+    ///
+    /// `AllocError` where memory was refused.
     pub fn read(
         alloc: Global,
         heap: &Heap,

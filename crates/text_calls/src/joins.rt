@@ -19,7 +19,8 @@ use std::alloc::Global;
 use strings::StringRefusal;
 use values::{Broken, Group, Key, Kind, Seen, Value};
 
-/// `separator.join(sequence)`. All items are looked at before the size of the whole, and that before anything is built.
+/// `separator.join(sequence)`. All items are looked at before the size of the whole, and that
+/// before anything is built.
 ///
 /// # Errors
 ///

@@ -13,11 +13,13 @@ use state::{is_among, key_of, text_of};
 use strings::search::is_within;
 use values::{Item, Key, Kind, Seen, Table, Ticks};
 
-/// `x in y`: of a list or a tuple an item that equals it, of a dict a key, of a string a part of it.
+/// `x in y`: of a list or a tuple an item that equals it, of a dict a key, of a string a part of
+/// it.
 ///
 /// # Errors
 ///
-/// Those of `==`, where items are compared; else `type`, where `x` can't be in such a value. It takes no memory.
+/// Those of `==`, where items are compared; else `type`, where `x` can't be in such a value. It
+/// takes no memory.
 pub fn member(state: &mut State, x: Item<'_>, y: Item<'_>) -> Result<bool, Kind>
     ensures { DoesKind (member (item_value x.entry) (item_value y.entry)) state.old result
         state.new }

@@ -1,5 +1,6 @@
 //! The parts of a string, as a list of the language.
-ghost use Rattle.std.specs.Prelude.{◌≡◌, ◌++◌, ◌∷◌, [], Ok, Err, Some, None, MatchResult, IfOk, OnOk, map};
+ghost use Rattle.std.specs.Prelude.{◌≡◌, ◌++◌, ◌∷◌, [], Ok, Err, Some, None, MatchResult, IfOk};
+ghost use Rattle.std.specs.Prelude.{OnOk, map};
 ghost use Rattle.strings.specs.Splitting.{split_of};
 ghost use Rattle.ticks.specs.Ticking.{FaultOr};
 ghost use Rattle.values.specs.Seeing.{seen};

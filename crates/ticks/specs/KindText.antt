@@ -25,6 +25,7 @@ kind_text kind.Order = codes "order"
 kind_text kind.Place = codes "place"
 kind_text (kind.Fail s) = codes "fail"
 
+-- a fault by its kind, or want of memory, as a report names it
 abbrev pub broken_text : Broken → List ℕ
 broken_text (broken.Kind k) = kind_text k
 broken_text broken.NoMemory = codes "no memory"

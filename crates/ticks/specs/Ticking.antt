@@ -1,5 +1,6 @@
 -- Ticks, visits, and how a call's answer agrees with what a definition gives.
-use Rattle.std.specs.Prelude.{◌≡◌, ℕ, zero, suc, ◌+◌, Result, Ok, Err, MatchResult, if◌then◌else◌, nat_lt, ◌≤◌, ◌<◌, Bool, true, false}
+use Rattle.std.specs.Prelude.{◌≡◌, ℕ, zero, suc, ◌+◌, Result, Ok, Err, MatchResult, if◌then◌else◌}
+use Rattle.std.specs.Prelude.{nat_lt, ◌≤◌, ◌<◌, Bool, true, false}
 use Rattle.ticks.specs.declared.ticks.Kind.{Kind}
 use Rattle.ticks.specs.declared.ticks.Kind.TheVariants.{Steps, Deep}
 use Rattle.ticks.specs.declared.ticks.Broken.{Broken}
@@ -14,6 +15,7 @@ pub record Count : Type 0 where
 abbrev pub ticked : Count → Result Count Kind
 ticked c = if nat_lt c.used c.limit then Ok (record c { used = c.used + 1 }) else Err Steps
 
+-- what follows a tick, which a fault of the tick cuts off
 abbrev pub after_tick : {B : Type 0} → Result Count Kind → (Count → Result B Kind) → Result B Kind
 after_tick (Ok c) f = f c
 after_tick (Err k) f = Err k
@@ -23,7 +25,7 @@ abbrev pub entered : ℕ → Count → Result Count Kind
 entered zero c = after_tick (ticked c) (λ d. Err Deep)
 entered (suc n) c = ticked c
 
--- so many at once
+-- so many ticks more, at once
 abbrev pub spent : ℕ → Count → Count
 spent n c = record c { used = c.used + n }
 
@@ -36,10 +38,12 @@ Spends before n false now = (before.limit < before.used + n) × (now ≡ before)
 abbrev pub Ticking : Type 0 → Type 0
 Ticking A = Result (A × Count) Kind
 
+-- what follows a value, with the ticks used by then; a fault cuts it off
 abbrev pub then_on : {A B : Type 0} → Ticking A → (A → Count → Ticking B) → Ticking B
 then_on (Ok p) f = f p.0 p.1
 then_on (Err k) f = Err k
 
+-- an answer that took no tick, with the ticks as they are
 abbrev pub with_count : {A : Type 0} → Result A Kind → Count → Ticking A
 with_count (Ok x) c = Ok (x, c)
 with_count (Err k) c = Err k
@@ -49,8 +53,8 @@ abbrev pub FaultOr : {A : Type 0} → Result A Kind → Broken → Type 0
 FaultOr r (broken.Kind k) = r ≡ Err k
 FaultOr r broken.NoMemory = Unit {0}
 
--- A call that never answers want of memory (as its type says) answers what the definition gives, with the ticks
--- as they are then.
+-- A call that never answers want of memory (as its type says) answers what the definition gives,
+-- with the ticks as they are then.
 abbrev pub SaysKind : {A : Type 0} → Ticking A → Result A Kind → Count → Type 0
 SaysKind r result now = MatchResult result (λ x. r ≡ Ok (x, now)) (λ k. r ≡ Err k)
 
@@ -60,4 +64,5 @@ Says r result now = MatchResult result (λ x. r ≡ Ok (x, now)) (λ e. FaultOr 
 
 -- a call that changes a heap does what the definition gives, or leaves it as it was
 abbrev pub Changes : {A H : Type 0} → Result (A × H) Kind → Result A Broken → H → H → Type 0
-Changes r result old new = MatchResult result (λ x. r ≡ Ok (x, new)) (λ e. (new ≡ old) × FaultOr r e)
+Changes r result old new =
+    MatchResult result (λ x. r ≡ Ok (x, new)) (λ e. (new ≡ old) × FaultOr r e)

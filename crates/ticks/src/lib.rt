@@ -1,4 +1,5 @@
-//! The ticks of an evaluation, the kinds of its faults, and how a call's answer agrees with what a definition gives.
+//! The ticks of an evaluation, the kinds of its faults, and how a call's answer agrees with what a
+//! definition gives.
 #![tactic(auto)]
 
 mod ticks;

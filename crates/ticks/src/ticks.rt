@@ -51,7 +51,9 @@ pub enum Kind {
 /// A fault, or want of memory.
 #[derive(PartialEq, Eq, Drop)]
 pub enum Broken {
+    /// A fault of the evaluation.
     Kind(Kind),
+    /// Memory was refused.
     NoMemory,
 }
 
@@ -146,8 +148,8 @@ impl From<Kind> for Broken {
     }
 }
 
-/// The greatest depth of a value that is visited, and of one that is frozen: the whole value is at depth 1. (This project's own
-/// limit.)
+/// The greatest depth of a value that is visited, and of one that is frozen: the whole value is at
+/// depth 1. (This project's own limit.)
 pub const VISITED_LEVELS: u32 = 64;
 
 /// Ticks used, of a limit.
@@ -184,6 +186,10 @@ impl Ticks {
     }
 
     /// One tick more, or the fault `steps` where the limit is used up; then they stay as they were.
+    ///
+    /// # Errors
+    ///
+    /// `Steps` where the limit is used up.
     #[inline(always)]
     pub fn tick(&mut self) -> Result<(), Kind>
         ensures answer { MatchResult result (λ _. ticked self.old ≡ Ok self.new)
@@ -210,7 +216,12 @@ impl Ticks {
         }
     }
 
-    /// A visit of a value with this many levels left: a tick, and then the fault `deep` where none is left.
+    /// A visit of a value with this many levels left: a tick, and then the fault `deep` where none
+    /// is left.
+    ///
+    /// # Errors
+    ///
+    /// `Steps` where the limit is used up, and else `Deep` where no level is left.
     #[inline(always)]
     pub fn enter(&mut self, left: u32) -> Result<(), Kind>
         ensures { MatchResult result (λ _. (entered left self.old ≡ Ok self.new) × (0 < left))

@@ -6,6 +6,7 @@ use Rattle.leaves.specs.Leaves.{same_key}
 use Rattle.keys.specs.declared.key.Key.{Key}
 use Rattle.values.specs.declared.value.Value.{Value}
 
+-- whether a dict with these entries has the key (Starlark's specification, "Dictionaries")
 abbrev pub has_key : List (Key × Value) → Key → Bool
 has_key es k = is_some (lookup (same_key k) es)
 

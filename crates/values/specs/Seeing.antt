@@ -1,6 +1,7 @@
 -- What the views of a value show.
 use Rattle.std.specs.Prelude.{List, map, true, false, Option, Some, None}
-use Rattle.values.specs.Shape.{Shape, key, atom, items, entries, fields, nothing, value_of, slot_of, zip}
+use Rattle.values.specs.Shape.{Shape, key, atom, items, entries, fields, nothing, value_of, slot_of}
+use Rattle.values.specs.Shape.{zip}
 use Rattle.keys.specs.declared.key.Key.{Key}
 use Rattle.values.specs.declared.value.Value.{Value}
 use Rattle.values.specs.declared.value.Value.TheVariants as value
@@ -15,27 +16,34 @@ use Rattle.values.specs.declared.sees.Slots.TheVariants as slot
 use Rattle.values.specs.declared.sees.Seen.{Seen}
 use Rattle.values.specs.declared.sees.Seen.TheVariants as see
 
+-- the value that an item is, wherever it lies: of the program, in a frozen value, or a key of a
+-- dict
 abbrev pub item_value : Item → Value
 item_value (item.Value v) = v.now
 item_value (item.Tree t) = value_of t.now
 item_value (item.Key k) = value.Key k.now
 
+-- the value that there is, if any
 abbrev pub option_value : Option Item → Option Value
 option_value (Some i) = Some (item_value i)
 option_value None = None
 
+-- the items of a list or a tuple, whether it is frozen or not
 abbrev pub group_items : Group → List Value
 group_items (group.Values s) = s.now
 group_items (group.Trees s) = map value_of s.now
 
+-- the entries of a dict in their order, whether it is frozen or not
 abbrev pub table_entries : Table → List (Key × Value)
 table_entries (table.Values e) = e.now
 table_entries (table.Trees ks ts) = zip ks.now.keys ts.now
 
+-- the fields of an instance by place, whether it is frozen or not
 abbrev pub slot_values : Slots → List (Option Value)
 slot_values (slot.Values s) = s.now
 slot_values (slot.Trees s) = map slot_of s.now
 
+-- what a view of a value shows, in the words that equality, freezing and `str` are told in
 abbrev pub seen : Seen → Shape
 seen (see.Key k) = key k.now
 seen (see.Leaf l) = atom l.now

@@ -1,6 +1,7 @@
 -- The tree of a frozen value.
 use Rattle.std.specs.Prelude.{◌≡◌, length, Bool, true, false}
-use Rattle.values.specs.Tree.{Tree, Branch, key, leaf, branch, list, tuple, dict, instance, trees, pairs, slots}
+use Rattle.values.specs.Tree.{Tree, Branch, key, leaf, branch, list, tuple, dict, instance, trees}
+use Rattle.values.specs.Tree.{pairs, slots}
 use Rattle.leaves.specs.declared.leaf.Leaf.{Leaf}
 use Rattle.keys.specs.declared.key.Key.{Key}
 use Rattle.leaves.specs.declared.leaf.Provider.{Provider}
@@ -17,11 +18,13 @@ FrozenTree = Tree Leaf Key Provider
 abbrev pub FrozenBranch : Type 0
 FrozenBranch = Branch Leaf Key Provider
 
+-- the tree of a frozen value as the program holds it
 abbrev pub tree_of : Held → FrozenTree
 tree_of (held.Key k) = key k
 tree_of (held.Leaf l) = leaf l
 tree_of (held.Branch b) = branch b
 
+-- the tree of a frozen value with parts, as the program keeps it
 abbrev pub node_branch : Node → FrozenBranch
 node_branch (node.List v) = list (trees v.items)
 node_branch (node.Tuple v) = tuple (trees v.items)
@@ -35,10 +38,12 @@ IsPaired (node.Tuple v) = Unit {0}
 IsPaired (node.Dict ks v) = length ks.value.keys ≡ length v.items
 IsPaired (node.Instance p v) = Unit {0}
 
+-- whether it is a list: a change of it is refused as one of what is frozen
 abbrev pub is_list : FrozenBranch → Bool
 is_list (list ts) = true
 is_list _ = false
 
+-- whether it is a dict: a change of it is refused as one of what is frozen
 abbrev pub is_dict : FrozenBranch → Bool
 is_dict (dict ps) = true
 is_dict _ = false

@@ -9,5 +9,6 @@ abbrev pub all_of : {A B : Type 0} → (A → Count → Ticking B) → List A �
 all_of f [] c = Ok ([], c)
 all_of f (x ∷ xs) c = then_on (f x c) (λ y d. then_on (all_of f xs d) (λ ys e. Ok (y ∷ ys, e)))
 
+-- the keys of the entries of a dict, in order of insertion
 abbrev pub keys_of : List (Key × Value) → List Key
 keys_of es = map (λ e. e.0) es

@@ -4,7 +4,8 @@ ghost use Rattle.std.specs.Map.{lookup};
 ghost use Rattle.leaves.specs.Leaves.{same_key};
 ghost use Rattle.values.specs.Keyed.{has_key, AreDistinct};
 ghost use Rattle.values.specs.Visits.{keys_of};
-ghost use Rattle.std.specs.Prelude.{◌≡◌, ◌++◌, ◌∷◌, [], ◌<◌, IfOk, OnOk, OnErr, length, slice_get, slice_set, option_copied, MatchOption, ◌≤◌, Some};
+ghost use Rattle.std.specs.Prelude.{◌≡◌, ◌++◌, ◌∷◌, [], ◌<◌, IfOk, OnOk, OnErr, length, slice_get};
+ghost use Rattle.std.specs.Prelude.{slice_set, option_copied, MatchOption, ◌≤◌, Some};
 
 use crate::held::{HeldEntries, HeldItems};
 use crate::{Key, Provider, Value};
@@ -16,8 +17,8 @@ use std::marker::Model;
 /// How many parts a list, a tuple or a dict has at most. (This project's own limit.)
 pub const LARGEST: usize = 1_048_576;
 
-/// A cell: a list or a dict with the number of walks over it that go on, or a tuple or an instance, which
-/// never changes. An instance has its fields by the places of their names in the provider.
+/// A cell: a list or a dict with the number of walks over it that go on, or a tuple or an instance,
+/// which never changes. An instance has its fields by the places of their names in the provider.
 pub enum Cell {
     List(HeldItems, u64),
     Tuple(HeldItems),
@@ -54,6 +55,10 @@ impl Items {
     }
 
     /// No items, with memory for so many.
+    ///
+    /// # Errors
+    ///
+    /// `AllocError` where memory was refused.
     pub fn with_capacity(alloc: Global, items: usize) -> Result<Items, AllocError>
         ensures { IfOk result (λ i. i ≡ []) }
     {
@@ -78,6 +83,10 @@ impl Items {
     }
 
     /// Puts the items of another after these. After a refusal of memory these are as they were.
+    ///
+    /// # Errors
+    ///
+    /// `AllocError` where memory was refused.
     pub fn append(&mut self, more: Items) -> Result<(), AllocError>
         ensures ok { OnOk result (self.new ≡ self.old ++ more) }
         ensures err { OnErr result (self.new ≡ self.old) }
@@ -96,6 +105,10 @@ impl Items {
     }
 
     /// Puts an item last. After a refusal of memory they are as they were.
+    ///
+    /// # Errors
+    ///
+    /// `AllocError` where memory was refused.
     #[inline(always)]
     pub fn push(&mut self, value: Value) -> Result<(), AllocError>
         ensures ok { OnOk result (self.new ≡ self.old ++ value ∷ []) }
@@ -114,7 +127,8 @@ impl Clone for Items {
     }
 }
 
-/// The fields of an instance, by the places of their names in the provider: None for each that wasn't given.
+/// The fields of an instance, by the places of their names in the provider: None for each that
+/// wasn't given.
 #[derive(Drop)]
 pub struct Fields {
     fields: Vec<Option<Value>>,
@@ -134,6 +148,10 @@ impl Model for Fields {
 
 impl Fields {
     /// No fields, with memory for so many.
+    ///
+    /// # Errors
+    ///
+    /// `AllocError` where memory was refused.
     #[inline(always)]
     pub fn with_capacity(alloc: Global, fields: usize) -> Result<Fields, AllocError>
         ensures { IfOk result (λ f. f ≡ []) }
@@ -143,6 +161,10 @@ impl Fields {
     }
 
     /// Puts the value of the next field, or None. After a refusal of memory they are as they were.
+    ///
+    /// # Errors
+    ///
+    /// `AllocError` where memory was refused.
     #[inline(always)]
     pub fn push(&mut self, value: Option<Value>) -> Result<(), AllocError>
         ensures ok { OnOk result (self.new ≡ self.old ++ value ∷ []) }
@@ -188,6 +210,10 @@ impl Model for Entries {
 
 impl Entries {
     /// No entries, with memory for so many.
+    ///
+    /// # Errors
+    ///
+    /// `AllocError` where memory was refused.
     pub fn with_capacity(alloc: Global, entries: usize) -> Result<Entries, AllocError>
         ensures { IfOk result (λ e. e ≡ []) }
     {
@@ -195,7 +221,12 @@ impl Entries {
         Ok(Entries { map })
     }
 
-    /// Gives the key the value: a key that is there keeps its place. After a refusal of memory they are as they were.
+    /// Gives the key the value: a key that is there keeps its place. After a refusal of memory they
+    /// are as they were.
+    ///
+    /// # Errors
+    ///
+    /// `AllocError` where memory was refused.
     pub fn put(&mut self, key: Key, value: Value) -> Result<(), AllocError>
         ensures ok { OnOk result (self.new ≡ insert_entry same_key self.old key value) }
         ensures err { OnErr result (self.new ≡ self.old) }
@@ -242,6 +273,10 @@ impl Entries {
     }
 
     /// The keys alone, in order.
+    ///
+    /// # Errors
+    ///
+    /// `AllocError` where memory was refused, or where a count is at its greatest.
     pub fn keys(&self, alloc: Global) -> Result<IndexSet<Key>, AllocError>
         ensures { IfOk result (λ s. s.keys ≡ keys_of self.now) }
     {

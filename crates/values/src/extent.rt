@@ -1,20 +1,24 @@
-//! What a visit of a frozen value finds, noted where the value is made, so that a visit that fits is one comparison.
+//! What a visit of a frozen value finds, noted where the value is made, so that a visit that fits
+//! is one comparison.
 ghost use Rattle.std.specs.Prelude.{◌≡◌, ◌<◌, ◌≤◌, IfSome, Some, length, slice_get, true};
 ghost use Rattle.values.specs.Tree.{slots, trees};
-ghost use Rattle.values.specs.Extents.{IsExtent, Measure, above, beside, no_values, one, slots_measure, trees_measure, values_measure, with_slot};
+ghost use Rattle.values.specs.Extents.{IsExtent, Measure, above, beside, no_values, one};
+ghost use Rattle.values.specs.Extents.{slots_measure, trees_measure, values_measure, with_slot};
 ghost use Rattle.leaves.specs.Leaves.{can_freeze};
 
 use crate::{Frozen, Leaf, VISITED_LEVELS, tree_at};
 
-/// How many values a visit of a frozen value finds, and on how many levels. The value itself is one of them.
+/// How many values a visit of a frozen value finds, and on how many levels. The value itself is one
+/// of them.
 #[derive(Clone, Copy, Debug)]
 pub struct Extent {
     /// The value, its parts and theirs, and each key of a dict.
     pub values: u32,
     /// The value is on the first.
     pub levels: u16,
-    /// Whether it is known that each of them can be frozen, and how many they are. Where that is false `values` says nothing: a
-    /// leaf can't be frozen, or there are more values than the number can tell.
+    /// Whether it is known that each of them can be frozen, and how many they are. Where that is
+    /// false `values` says nothing: a leaf can't be frozen, or there are more values than the
+    /// number can tell.
     pub is_whole: bool,
 }
 
@@ -72,8 +76,9 @@ impl Extent {
         }
     }
 
-    /// Of a value above parts, None where it would have more than 64 levels: no such value is frozen, so all that goes down the
-    /// parts of one, its drop too, goes 64 deep. (A depset is a leaf, and has its own limit.)
+    /// Of a value above parts, None where it would have more than 64 levels: no such value is
+    /// frozen, so all that goes down the parts of one, its drop too, goes 64 deep. (A depset is a
+    /// leaf, and has its own limit.)
     pub(crate) fn above(self) -> Option<Extent>
         ensures { IfSome result (λ e. (e.levels ≤ 64)
             × ((m : Measure) → IsExtent self m → IsExtent e (above m))) }

@@ -1,9 +1,11 @@
 //! Frozen values: trees that never change.
 //!
-//! A key or a leaf is held as it is, and every other frozen value is one counted branch that has its parts by place,
-//! so a second name of it costs a count, also from another thread, and nothing below it is copied.
+//! A key or a leaf is held as it is, and every other frozen value is one counted branch that has
+//! its parts by place, so a second name of it costs a count, also from another thread, and nothing
+//! below it is copied.
 ghost use Rattle.std.specs.Prelude.{◌≡◌, ◌<◌, ◌≤◌, IfOk, Some, length, slice_get};
-ghost use Rattle.values.specs.Tree.{Tree, key, leaf, branch, list, tuple, dict, instance, trees, pairs, slots};
+ghost use Rattle.values.specs.Tree.{Tree, key, leaf, branch, list, tuple, dict, instance, trees};
+ghost use Rattle.values.specs.Tree.{pairs, slots};
 ghost use Rattle.values.specs.Extents.{IsExtent, branch_measure, measure, parts_measure};
 ghost use Rattle.values.specs.View.{tree_of, node_branch, is_list, is_dict, is_walkable, IsPaired};
 ghost use Rattle.values.specs.Shape.{tree_shape, branch_shape, value_of};
@@ -34,8 +36,8 @@ pub enum Held {
     Branch(Branch),
 }
 
-/// A frozen list, tuple, dict or instance, whose parts may be shared. It has at most 64 levels, as all that is frozen has:
-/// what would have more isn't made, which is answered as want of memory.
+/// A frozen list, tuple, dict or instance, whose parts may be shared. It has at most 64 levels, as
+/// all that is frozen has: what would have more isn't made, which is answered as want of memory.
 #[derive(Drop)]
 #[cycle(frozen)]
 pub struct Branch {
@@ -50,9 +52,9 @@ pub struct Parts {
     extent: Extent,
 }
 
-/// The parts of a branch. Of a dict the keys and the values stand by place, and of an instance the values, by the place
-/// of their names in the provider, with None for each field that wasn't given. The keys are wide, and few branches are dicts, so
-/// they lie apart.
+/// The parts of a branch. Of a dict the keys and the values stand by place, and of an instance the
+/// values, by the place of their names in the provider, with None for each field that wasn't given.
+/// The keys are wide, and few branches are dicts, so they lie apart.
 #[derive(Drop)]
 #[cycle(frozen)]
 pub enum Node {
@@ -138,6 +140,10 @@ impl Frozen {
     }
 
     /// Another name of the same frozen value: at most a count more, and no copy.
+    ///
+    /// # Errors
+    ///
+    /// `AllocError` where a count is at its greatest.
     pub fn share(&self) -> Result<Frozen, AllocError>
         ensures { IfOk result (λ f. f ≡ self.now) }
     {
@@ -157,6 +163,10 @@ impl Frozen {
     }
 
     /// A name of it as a value: at most a count more.
+    ///
+    /// # Errors
+    ///
+    /// `AllocError` where a count is at its greatest.
     pub fn to_value(&self) -> Result<Value, AllocError>
         ensures { IfOk result (λ v. v ≡ value_of self.now) }
     {
@@ -193,6 +203,10 @@ impl Frozen {
 
 impl Branch {
     /// A frozen list of these items.
+    ///
+    /// # Errors
+    ///
+    /// `AllocError` where memory was refused, or where it would have more than 64 levels.
     pub fn list(alloc: Global, items: Vec<Frozen>) -> Result<Branch, AllocError>
         ensures { IfOk result (λ b. b ≡ list (trees items.items)) }
     {
@@ -201,6 +215,10 @@ impl Branch {
     }
 
     /// A frozen tuple of these items.
+    ///
+    /// # Errors
+    ///
+    /// `AllocError` where memory was refused, or where it would have more than 64 levels.
     pub fn tuple(alloc: Global, items: Vec<Frozen>) -> Result<Branch, AllocError>
         ensures { IfOk result (λ b. b ≡ tuple (trees items.items)) }
     {
@@ -209,6 +227,10 @@ impl Branch {
     }
 
     /// A frozen dict of these keys, each with the value at its place.
+    ///
+    /// # Errors
+    ///
+    /// `AllocError` where memory was refused, or where it would have more than 64 levels.
     pub fn dict(
         alloc: Global,
         keys: IndexSet<Key>,
@@ -222,7 +244,12 @@ impl Branch {
         Branch::of(alloc, Node::Dict(keys, values), parts)
     }
 
-    /// A frozen instance of the provider: the values of its fields by place, None for each that wasn't given.
+    /// A frozen instance of the provider: the values of its fields by place, None for each that
+    /// wasn't given.
+    ///
+    /// # Errors
+    ///
+    /// `AllocError` where memory was refused, or where it would have more than 64 levels.
     pub fn instance(
         alloc: Global,
         provider: Shared<Provider>,
@@ -257,6 +284,10 @@ impl Branch {
     }
 
     /// Another name of the same frozen value: a count more, and no copy.
+    ///
+    /// # Errors
+    ///
+    /// `AllocError` where a count is at its greatest.
     pub fn share(&self) -> Result<Branch, AllocError>
         ensures { IfOk result (λ b. b ≡ self.now) }
     {

@@ -1,8 +1,9 @@
 //! Items and entries as cells hold them: what a walk goes over is shared with it, and not copied.
 //!
-//! Entries, which are wide, lie behind a count that names of one thread share. A cell owns its items until the first walk over
-//! them, since most are never walked; then they go behind such a count too. Both are changed where they lie while one name
-//! alone holds them, and else in a copy, so that what another name holds stays as it was.
+//! Entries, which are wide, lie behind a count that names of one thread share. A cell owns its
+//! items until the first walk over them, since most are never walked; then they go behind such a
+//! count too. Both are changed where they lie while one name alone holds them, and else in a copy,
+//! so that what another name holds stays as it was.
 ghost use Rattle.indexmap.specs.IndexMap.{insert_entry};
 ghost use Rattle.leaves.specs.Leaves.{same_key};
 ghost use Rattle.values.specs.Held.{kept_items};
@@ -59,8 +60,9 @@ impl HeldItems {
         }
     }
 
-    /// Another name of the same items, without a copy. The first one puts them behind a count, which no other thread sees;
-    /// each one after it is a count more. They themselves stay as they were, after a refusal of memory too.
+    /// Another name of the same items, without a copy. The first one puts them behind a count,
+    /// which no other thread sees; each one after it is a count more. They themselves stay as they
+    /// were, after a refusal of memory too.
     ///
     /// # Errors
     ///
@@ -101,6 +103,11 @@ impl HeldItems {
     }
 
     /// Puts an item last. After a refusal of memory they are as they were.
+    ///
+    /// # Errors
+    ///
+    /// `AllocError` where memory was refused; or, where another name holds them and they are
+    /// copied, a count is at its greatest.
     #[inline(always)]
     pub fn push(&mut self, value: Value) -> Result<(), AllocError>
         ensures ok { OnOk result (self.new ≡ self.old ++ value ∷ []) }
@@ -113,6 +120,11 @@ impl HeldItems {
     }
 
     /// Puts the items of another after these. After a refusal of memory these are as they were.
+    ///
+    /// # Errors
+    ///
+    /// `AllocError` where memory was refused; or, where another name holds them and they are
+    /// copied, a count is at its greatest.
     pub fn append(&mut self, more: Items) -> Result<(), AllocError>
         ensures ok { OnOk result (self.new ≡ self.old ++ more) }
         ensures err { OnErr result (self.new ≡ self.old) }
@@ -124,6 +136,11 @@ impl HeldItems {
     }
 
     /// Sets the item at a place. After a refusal of memory they are as they were.
+    ///
+    /// # Errors
+    ///
+    /// `AllocError` where another name holds them, and memory for a copy was refused or a count is
+    /// at its greatest.
     pub fn set(&mut self, place: usize, value: Value) -> Result<(), AllocError>
         requires { place < length self.old }
         ensures ok { OnOk result (self.new ≡ slice_set self.old place value) }
@@ -138,7 +155,8 @@ impl HeldItems {
 }
 
 impl KeptItems {
-    /// These behind a count, and another name of them. After a refusal they are as they were, or behind a count.
+    /// These behind a count, and another name of them. After a refusal they are as they were, or
+    /// behind a count.
     fn shared(self, alloc: Global) -> (KeptItems, Result<Rc<Items>, AllocError>)
         ensures same { kept_items result.0 ≡ kept_items self }
         ensures ok { IfOk result.1 (λ items. items.value ≡ kept_items self) }
@@ -176,6 +194,10 @@ impl Model for HeldEntries {
 
 impl HeldEntries {
     /// These entries.
+    ///
+    /// # Errors
+    ///
+    /// `AllocError` where memory was refused.
     pub fn new(alloc: Global, entries: Entries) -> Result<HeldEntries, AllocError>
         ensures { IfOk result (λ h. h ≡ entries) }
     {
@@ -184,6 +206,10 @@ impl HeldEntries {
     }
 
     /// Another name of the same entries: a count more, which no other thread sees, and no copy.
+    ///
+    /// # Errors
+    ///
+    /// `AllocError` where a count is at its greatest.
     pub fn share(&self) -> Result<HeldEntries, AllocError>
         ensures { IfOk result (λ h. h ≡ self.now) }
     {
@@ -199,7 +225,13 @@ impl HeldEntries {
         &self.entries
     }
 
-    /// Gives the key the value: a key that is there keeps its place. After a refusal of memory they are as they were.
+    /// Gives the key the value: a key that is there keeps its place. After a refusal of memory they
+    /// are as they were.
+    ///
+    /// # Errors
+    ///
+    /// `AllocError` where memory was refused; or, where another name holds them and they are
+    /// copied, a count is at its greatest.
     pub fn put(&mut self, key: Key, value: Value) -> Result<(), AllocError>
         ensures ok { OnOk result (self.new ≡ insert_entry same_key self.old key value) }
         ensures err { OnErr result (self.new ≡ self.old) }

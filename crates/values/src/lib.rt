@@ -1,9 +1,9 @@
 //! Values of the language, cells, and frozen values.
 //!
-//! A value is a key, a leaf, the number of a cell of a heap, or a frozen value (`value`). Cells are what names share
-//! (`cells`): lists, tuples, dicts and provider instances, with a count of the walks that go on.
-//! A frozen value is a tree whose parts are shared by a count each, also between threads (`frozen`).
-//! Equality, freezing and texts look at both through one view (`sees`).
+//! A value is a key, a leaf, the number of a cell of a heap, or a frozen value (`value`). Cells are
+//! what names share (`cells`): lists, tuples, dicts and provider instances, with a count of the
+//! walks that go on. A frozen value is a tree whose parts are shared by a count each, also between
+//! threads (`frozen`). Equality, freezing and texts look at both through one view (`sees`).
 //!
 //! To a contract all of these are plain data: `specs/` says what, and what each call gives.
 #![tactic(auto)]

@@ -6,14 +6,16 @@ ghost use Rattle.std.specs.Map.{lookup};
 ghost use Rattle.values.specs.Keyed.{AreDistinct};
 ghost use Rattle.leaves.specs.Leaves.{same_key};
 ghost use Rattle.values.specs.Shape.{cell_shape, value_of, slot_of, zip};
-ghost use Rattle.values.specs.Seeing.{item_value, option_value, group_items, table_entries, slot_values, seen};
+ghost use Rattle.values.specs.Seeing.{item_value, option_value, group_items, table_entries};
+ghost use Rattle.values.specs.Seeing.{slot_values, seen};
 ghost use Rattle.values.specs.Visits.{keys_of};
 
 use crate::{Cell, Entries, Frozen, Key, Leaf, Provider, Value};
 use indexmap::IndexSet;
 use std::alloc::AllocError;
 
-/// A value wherever it lies: in the heap or with its owner, in a frozen value, or as a key of a dict.
+/// A value wherever it lies: in the heap or with its owner, in a frozen value, or as a key of a
+/// dict.
 #[derive(Clone, Copy)]
 pub enum Item<'a> {
     Value(&'a Value),
@@ -57,6 +59,10 @@ pub enum Seen<'a> {
 
 impl<'a> Item<'a> {
     /// A value of one's own, for a cell that keeps it: at most a count more.
+    ///
+    /// # Errors
+    ///
+    /// `AllocError` where a count is at its greatest.
     #[inline(always)]
     pub fn to_value(self) -> Result<Value, AllocError>
         ensures { IfOk result (λ v. v ≡ item_value self.entry) }

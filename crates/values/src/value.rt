@@ -4,8 +4,8 @@ ghost use Rattle.std.specs.Prelude.{◌≡◌, IfOk};
 use crate::{Branch, Key, Leaf};
 use std::alloc::AllocError;
 
-/// A value: a key, a leaf, a cell of the heap by its number, or a frozen value with parts. A frozen key or leaf is the
-/// key or the leaf, so that each value has one form.
+/// A value: a key, a leaf, a cell of the heap by its number, or a frozen value with parts. A frozen
+/// key or leaf is the key or the leaf, so that each value has one form.
 pub enum Value {
     Key(Key),
     Leaf(Leaf),
@@ -15,6 +15,10 @@ pub enum Value {
 
 impl Value {
     /// Another name of the same value: at most one count more, and nothing below it is copied.
+    ///
+    /// # Errors
+    ///
+    /// `AllocError` where a count is at its greatest.
     #[inline(always)]
     pub fn share(&self) -> Result<Value, AllocError>
         ensures { IfOk result (λ v. v ≡ self.now) }

@@ -1,7 +1,8 @@
-//! Times what an analysis does most with values: a listing of many depsets over many elements, freezing small lists,
-//! comparing pairs, dicts with many string keys, what calls do with functions, strings and instances, and what turns of loops do.
-//! Without the word `time` it prints what was done alone, which never changes. With `time PART` it does that part alone, one of
-//! those of [`Part`].
+//! Times what an analysis does most with values: a listing of many depsets over many elements,
+//! freezing small lists, comparing pairs, dicts with many string keys, what calls do with
+//! functions, strings and instances, and what turns of loops do. Without the word `time` it prints
+//! what was done alone, which never changes. With `time PART` it does that part alone, one of those
+//! of [`Part`].
 #![tactic(auto)]
 
 mod providers;
@@ -457,8 +458,8 @@ fn time_instances<R: Print + Clock>(
     report(rt, "instances in heaps of ten", read, start)
 }
 
-/// Instances of two fields, made, read and frozen: in one heap, whose memory is touched for the first time, and in heaps of
-/// a few, which take the memory that those before gave back.
+/// Instances of two fields, made, read and frozen: in one heap, whose memory is touched for the
+/// first time, and in heaps of a few, which take the memory that those before gave back.
 fn all_instances<R: Print + Clock>(rt: &R, alloc: Global, timed: bool) -> io::Result<()> {
     let provider = provider(alloc, &["m", "n"])?;
     time_instances(rt, alloc, &provider, timed)

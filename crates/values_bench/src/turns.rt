@@ -1,8 +1,9 @@
 //! What turns of loops do to values, without a machine.
 //!
-//! Each row does as often what a turn of the loop of that name in `serve_check` does to values: operations on a state, with one
-//! tick a turn. Membership is a look into the dict, a field is looked for by its name, and a call is one of a plain function. There is
-//! no code, no frame and no stack, so what a turn takes longer there is the machine's own share.
+//! Each row does as often what a turn of the loop of that name in `serve_check` does to values:
+//! operations on a state, with one tick a turn. Membership is a look into the dict, a field is
+//! looked for by its name, and a call is one of a plain function. There is no code, no frame and no
+//! stack, so what a turn takes longer there is the machine's own share.
 
 use crate::providers::provider;
 use crate::rows::{begin, report};
@@ -236,7 +237,8 @@ fn successor(alloc: Global, state: &mut State, i: &Value) -> Result<Value, Broke
     plus(alloc, state, Item::Value(i), Item::Value(&one))
 }
 
-/// Does what a turn does to a value, and gives what it makes. It isn't inlined, so that nothing is worked out before the loop.
+/// Does what a turn does to a value, and gives what it makes. It isn't inlined, so that nothing is
+/// worked out before the loop.
 #[inline(never)]
 fn take_turn(
     alloc: Global,

@@ -1,10 +1,13 @@
 //! Equality of values.
-ghost use Rattle.std.specs.Prelude.{◌≡◌, ◌<◌, ◌&&◌, [], ◌∷◌, length, slice_get, Ok, Err, Some, MatchResult};
+ghost use Rattle.std.specs.Prelude.{◌≡◌, ◌<◌, ◌&&◌, [], ◌∷◌, length, slice_get, Ok, Err, Some};
+ghost use Rattle.std.specs.Prelude.{MatchResult};
 ghost use Rattle.std.specs.Str.{bytes_eq};
 ghost use Rattle.leaves.specs.Leaves.{same_key};
 ghost use Rattle.ticks.specs.Ticking.{SaysKind};
-ghost use Rattle.values.specs.Seeing.{seen, item_value, option_value, group_items, table_entries, slot_values};
-ghost use Rattle.visits.specs.Equal.{equal_at, compared, leaf_equal, same_object, pairs_equal, items_equal, entries_equal, slot_equal, same_given};
+ghost use Rattle.values.specs.Seeing.{seen, item_value, option_value, group_items, table_entries};
+ghost use Rattle.values.specs.Seeing.{slot_values};
+ghost use Rattle.visits.specs.Equal.{equal_at, compared, leaf_equal, same_object, pairs_equal};
+ghost use Rattle.visits.specs.Equal.{items_equal, entries_equal, slot_equal, same_given};
 
 use heap::Heap;
 use values::{
@@ -15,8 +18,9 @@ use values::{
 ///
 /// # Errors
 ///
-/// `steps` at the tick past the limit; `deep` at a pair at depth 65; `type` where two values of a type that
-/// isn't compared meet; each pair is tested in this order. It takes no memory. After a fault the ticks are open.
+/// `steps` at the tick past the limit; `deep` at a pair at depth 65; `type` where two values of a
+/// type that isn't compared meet; each pair is tested in this order. It takes no memory. After a
+/// fault the ticks are open.
 pub fn equal(a: Item<'_>, b: Item<'_>, heap: &Heap, ticks: &mut Ticks) -> Result<bool, Kind>
     ensures { SaysKind (equal_at VISITED_LEVELS heap.now (item_value a.entry) (item_value b.entry)
         ticks.old) result ticks.new }
@@ -148,7 +152,8 @@ fn groups(
     Ok(true)
 }
 
-/// Whether two tables are equal: by length, and then each entry of the left with the right's value of its key.
+/// Whether two tables are equal: by length, and then each entry of the left with the right's value
+/// of its key.
 #[cycle(equal)]
 fn tables(
     left: u32,
@@ -207,7 +212,8 @@ fn have_same_fields(xs: &Slots<'_>, ys: &Slots<'_>) -> bool
     true
 }
 
-/// Whether the fields of two instances are equal, of which the same were given: field by field until two differ.
+/// Whether the fields of two instances are equal, of which the same were given: field by field
+/// until two differ.
 #[cycle(equal)]
 fn slots(
     left: u32,

@@ -1,13 +1,14 @@
 //! Freezing: the tree of a value.
 //!
-//! Each cell becomes one counted node. What is frozen already is visited again, which costs its ticks, and
-//! is then shared by a count: nothing of it is copied.
+//! Each cell becomes one counted node. What is frozen already is visited again, which costs its
+//! ticks, and is then shared by a count: nothing of it is copied.
 ghost use Rattle.std.specs.Prelude.{◌≡◌, ◌<◌, Ok, Some, MatchResult, length, slice_get};
 ghost use Rattle.ticks.specs.Ticking.{Says, FaultOr, after_tick, with_count, entered};
 ghost use Rattle.values.specs.Visits.{all_of};
 ghost use Rattle.values.specs.Seeing.{item_value};
 ghost use Rattle.values.specs.Shape.{cell_shape};
-ghost use Rattle.values.specs.Tree.{key as key_tree, branch, list, tuple, dict, instance, trees, pairs, slots};
+ghost use Rattle.values.specs.Tree.{key as key_tree, branch, list, tuple, dict, instance, trees};
+ghost use Rattle.values.specs.Tree.{pairs, slots};
 ghost use Rattle.visits.specs.Freeze.{freeze_at, built, frozen_leaf, frozen_entry, frozen_slot};
 
 use crate::revisit::{freeze_branch, freeze_tree};
@@ -24,8 +25,8 @@ use values::{
 ///
 /// # Errors
 ///
-/// `steps` at the tick past the limit; `deep` at a value at depth 65; `type` at a target, `attr`, `ctx` or a
-/// part of it; each value is tested in this order. After a `Broken` the ticks are open.
+/// `steps` at the tick past the limit; `deep` at a value at depth 65; `type` at a target, `attr`,
+/// `ctx` or a part of it; each value is tested in this order. After a `Broken` the ticks are open.
 #[inline(always)]
 pub fn freeze(
     alloc: Global,

@@ -1,12 +1,15 @@
-//! Freezing what is frozen already: each value in it is visited again, and the whole is shared by a count. Where what was
-//! noted of a value fits in the levels and the ticks that are left, its visit is one comparison; else it is walked, which
-//! finds the first fault.
-ghost use Rattle.std.specs.Prelude.{◌≡◌, ◌<◌, Ok, Some, MatchResult, true, false, length, slice_get};
+//! Freezing what is frozen already: each value in it is visited again, and the whole is shared by a
+//! count. Where what was noted of a value fits in the levels and the ticks that are left, its visit
+//! is one comparison; else it is walked, which finds the first fault.
+ghost use Rattle.std.specs.Prelude.{◌≡◌, ◌<◌, Ok, Some, MatchResult, true, false, length};
+ghost use Rattle.std.specs.Prelude.{slice_get};
 ghost use Rattle.ticks.specs.Ticking.{Says, FaultOr, after_tick, entered};
 ghost use Rattle.values.specs.Tree.{branch, trees, pairs};
 ghost use Rattle.values.specs.View.{tree_of, node_branch};
 ghost use Rattle.leaves.specs.Leaves.{can_freeze};
-ghost use Rattle.visits.specs.Revisit.{AtOnce, Goes, visit_at, visited, branch_visited, all_visited, entry_visited, slot_visited, leaf_visited, values_in};
+ghost use Rattle.visits.specs.Revisit.{AtOnce, Goes, visit_at, visited, branch_visited};
+ghost use Rattle.visits.specs.Revisit.{all_visited, entry_visited, slot_visited, leaf_visited};
+ghost use Rattle.visits.specs.Revisit.{values_in};
 
 use indexmap::IndexSet;
 use values::{Branch, Broken, Extent, Frozen, Held, Key, Kind, Leaf, Node, Ticks, tree_at};
@@ -31,7 +34,8 @@ pub(crate) fn freeze_branch(left: u32, limb: &Branch, ticks: &mut Ticks) -> Resu
     Ok(Frozen::of_branch(shared))
 }
 
-/// The visit of a value of which this was noted at once, with this many levels left; and whether it could be.
+/// The visit of a value of which this was noted at once, with this many levels left; and whether it
+/// could be.
 fn visit_at_once(left: u32, noted: Extent, ticks: &mut Ticks) -> bool
     ensures { AtOnce result left noted ticks.old ticks.new }
 {

@@ -1,5 +1,5 @@
--- What a file is, by its path, and the package that it belongs to (docs/PROFILE.md, "Files"; that a module's package
--- is its folder is this project's own choice).
+-- What a file is, by its path, and the package that it belongs to (docs/PROFILE.md, "Files"; that a
+-- module's package is its folder is this project's own choice).
 use Rattle.std.specs.Prelude.{ℕ, Bool, nat_eq, List, codes}
 use Rattle.std.specs.List.{before_last, ends_with}
 use Rattle.std.specs.Str.{bytes_eq}

@@ -3,7 +3,8 @@
 ghost use Rattle.std.specs.Prelude.{◌≡◌, IfOk, true, None, Some, Err};
 ghost use Rattle.std.specs.Str.{bytes_eq};
 ghost use Rattle.std.specs.Ordering.{nat_cmp, on};
-ghost use Rattle.workspace.specs.Labels.{is_label, label_of, label_parts, label_path, label_text, given_package, relative_name, whole_parts, written_parts};
+ghost use Rattle.workspace.specs.Labels.{is_label, label_of, label_parts, label_path, label_text};
+ghost use Rattle.workspace.specs.Labels.{given_package, relative_name, whole_parts, written_parts};
 
 use crate::paths::{PATH_LIMIT, is_path, last_segment};
 use plain::Text;
@@ -14,8 +15,9 @@ use std::marker::Model;
 
 /// The label of a target or of a file: a package, which may be empty, and a name.
 ///
-/// To a contract it is these two. Labels are equal, hashed and ordered by the bytes of their texts, so
-/// `//a/b:x` comes before `//a:x`; that is why the text is what is kept, and where its package ends.
+/// To a contract it is these two. Labels are equal, hashed and ordered by the bytes of their texts,
+/// so `//a/b:x` comes before `//a:x`; that is why the text is what is kept, and where its package
+/// ends.
 #[derive(Drop)]
 pub struct Label {
     text: Text,
@@ -98,6 +100,10 @@ fn label_text(alloc: Global, package: &str, name: &str) -> Result<Text, AllocErr
 }
 
 /// The label of a package and a name that make one.
+///
+/// # Errors
+///
+/// `AllocError` where memory was refused.
 pub fn label_with(alloc: Global, package: &str, name: &str) -> Result<Label, AllocError>
     requires { is_label (record { «package» = «package».now; name = name.now }) ≡ true }
     ensures { IfOk result (λ l. l ≡ record { «package» = «package».now; name = name.now }) }
@@ -108,13 +114,16 @@ pub fn label_with(alloc: Global, package: &str, name: &str) -> Result<Label, All
 }
 
 impl Label {
-    /// The label that a text is: `//p:n`, `//:n`, `//p`, and where a package is given also `:n` and `n`.
+    /// The label that a text is: `//p:n`, `//:n`, `//p`, and where a package is given also `:n` and
+    /// `n`.
     ///
-    /// The name of `//p` is the last segment of `p`. A text that begins with `//` is never relative.
+    /// The name of `//p` is the last segment of `p`. A text that begins with `//` is never
+    /// relative.
     ///
     /// # Errors
     ///
-    /// `Illegal` where the text is no label, or none in this package, and `NoMemory` where memory was refused.
+    /// `Illegal` where the text is no label, or none in this package, and `NoMemory` where memory
+    /// was refused.
     pub fn read(alloc: Global, text: &str, package: Option<&str>) -> Result<Label, LabelRefused>
         ensures ok { IfOk result (λ l. label_of text.now (given_package «package».entry) ≡ Some l) }
         ensures illegal { result ≡ Err LabelRefused.Illegal
@@ -132,7 +141,8 @@ impl Label {
         }
     }
 
-    /// Says that package and name are those of a legal label, as they are of every label. It does nothing.
+    /// Says that package and name are those of a legal label, as they are of every label. It does
+    /// nothing.
     pub fn legal(&self)
         ensures { is_label self.now ≡ true }
     {
@@ -167,7 +177,8 @@ impl Label {
         &self.text
     }
 
-    /// The path of the file that it names: the package, a slash and the name, or in the root package the name alone.
+    /// The path of the file that it names: the package, a slash and the name, or in the root
+    /// package the name alone.
     ///
     /// # Errors
     ///

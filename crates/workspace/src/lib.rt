@@ -1,8 +1,9 @@
-//! The workspace that is analysed: its files, their paths and kinds, and the labels of targets and files.
+//! The workspace that is analysed: its files, their paths and kinds, and the labels of targets and
+//! files.
 //!
-//! A path names a file ([`is_path`]), and its last segment says what the file is ([`is_build_file`], [`is_module`]).
-//! A label names a target or a file by a package and a name ([`Label`]). A workspace is files with distinct legal
-//! paths ([`Workspace`]).
+//! A path names a file ([`is_path`]), and its last segment says what the file is
+//! ([`is_build_file`], [`is_module`]). A label names a target or a file by a package and a name
+//! ([`Label`]). A workspace is files with distinct legal paths ([`Workspace`]).
 #![tactic(auto)]
 
 mod file_kinds;

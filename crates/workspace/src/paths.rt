@@ -2,7 +2,8 @@
 
 ghost use Rattle.std.specs.Prelude.{◌≡◌};
 ghost use Rattle.std.specs.List.{list_all};
-ghost use Rattle.workspace.specs.Paths.{is_dots, is_segment_byte, is_segment, are_segments, is_path, last_segment};
+ghost use Rattle.workspace.specs.Paths.{is_dots, is_segment_byte, is_segment, are_segments};
+ghost use Rattle.workspace.specs.Paths.{is_path, last_segment};
 
 /// The most bytes of a path.
 pub const PATH_LIMIT: usize = 200;
@@ -38,7 +39,8 @@ fn are_parts_segments(text: &str) -> bool
     text.split('/').all(|segment| is_segment(segment))
 }
 
-/// Whether each part between slashes is a segment. A text that is one, as most names are, isn't cut.
+/// Whether each part between slashes is a segment. A text that is one, as most names are, isn't
+/// cut.
 #[tactic(auto, using(crate::proofs::PathLemmas::one_segment))]
 fn are_segments(text: &str) -> bool
     ensures { result ≡ are_segments text.now }
@@ -46,7 +48,8 @@ fn are_segments(text: &str) -> bool
     is_segment(text) || are_parts_segments(text)
 }
 
-/// Whether a text is a path: segments with `/` between them, of at most [`PATH_LIMIT`] bytes in all.
+/// Whether a text is a path: segments with `/` between them, of at most [`PATH_LIMIT`] bytes in
+/// all.
 ///
 /// A segment is one or more of `A-Z a-z 0-9 _ . -`, and neither `.` nor `..`.
 pub fn is_path(text: &str) -> bool

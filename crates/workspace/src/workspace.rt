@@ -1,6 +1,7 @@
 //! Workspaces: the files that are analysed.
 
-ghost use Rattle.std.specs.Prelude.{◌≡◌, ◌∷◌, ◌++◌, [], true, false, length, IfOk, OnOk, OnErr, Err};
+ghost use Rattle.std.specs.Prelude.{◌≡◌, ◌∷◌, ◌++◌, [], true, false, length, IfOk, OnOk, OnErr};
+ghost use Rattle.std.specs.Prelude.{Err};
 ghost use Rattle.std.specs.List.{IsDistinct};
 ghost use Rattle.std.specs.Str.{bytes_eq};
 ghost use Rattle.workspace.specs.Files.{file_pairs};
@@ -46,8 +47,8 @@ impl Model for Workspace {
 
 /// Files on the way to a workspace, taken one after another.
 ///
-/// Each is a legal one. Whether a path stands twice is found at the end, over all of them. To a contract it is the list
-/// of the pairs that were taken.
+/// Each is a legal one. Whether a path stands twice is found at the end, over all of them. To a
+/// contract it is the list of the pairs that were taken.
 #[derive(Drop)]
 pub struct WorkspaceBuilder {
     files: Vec<File>,
@@ -95,7 +96,8 @@ fn copied(alloc: Global, path: &str, text: &str) -> Result<File, AllocError>
 
 /// Whether no path stands twice.
 ///
-/// The paths are put in order: who chooses them can't make this slow, as with a hash whose seed is known.
+/// The paths are put in order: who chooses them can't make this slow, as with a hash whose seed is
+/// known.
 fn are_distinct(alloc: Global, files: &[File]) -> Result<bool, AllocError>
     ensures distinct { IfOk result
         (λ d. d ≡ true → IsDistinct bytes_eq (paths_of (file_pairs files.now))) }
@@ -126,8 +128,8 @@ impl WorkspaceBuilder {
     ///
     /// # Errors
     ///
-    /// `Illegal` where the path is illegal or the text too long, and `NoMemory` where memory was refused. Then no file
-    /// was taken.
+    /// `Illegal` where the path is illegal or the text too long, and `NoMemory` where memory was
+    /// refused. Then no file was taken.
     pub fn add(&mut self, alloc: Global, path: &str, text: &str) -> Result<(), WorkspaceRefused>
         ensures ok { OnOk result (self.new ≡ self.old ++ (path.now, text.now) ∷ []) }
         ensures legal { OnOk result (is_file (path.now, text.now) ≡ true) }
@@ -171,8 +173,8 @@ impl Workspace {
     ///
     /// # Errors
     ///
-    /// `Illegal` where a path is illegal or stands twice or a text is too long, and `NoMemory` where memory was
-    /// refused.
+    /// `Illegal` where a path is illegal or stands twice or a text is too long, and `NoMemory`
+    /// where memory was refused.
     pub fn new(alloc: Global, pairs: &[(&str, &str)]) -> Result<Workspace, WorkspaceRefused>
         ensures ok { IfOk result (λ w. w ≡ pairs_behind pairs.now) }
         ensures legal { IfOk result IsWorkspace }

@@ -1,5 +1,5 @@
--- What the files of a workspace come to by plain listings: modules, `BUILD` files, and those that fail (Bazel documentation, "Build
--- phases", the loading phase; docs/PROFILE.md, "Loading").
+-- What the files of a workspace come to by plain listings: modules, `BUILD` files, and those that
+-- fail (Bazel documentation, "Build phases", the loading phase; docs/PROFILE.md, "Loading").
 use Rattle.std.specs.Prelude.{ℕ, List, [], Some, Result, if◌then◌else◌}
 use Rattle.std.specs.List.{flat_map}
 use Rattle.lexer.specs.declared.fault.FaultKind.{FaultKind}
@@ -18,10 +18,14 @@ use Rattle.loader.specs.Files as usual
 use Rattle.loader.specs.Places.{of_module, of_build}
 use Rattle.workspace_laws.specs.Runs.{run_module, run_build}
 
--- the files of a workspace, in ascending order of their paths, and how many ticks each evaluation may use
+-- the files of a workspace, in ascending order of their paths, and how many ticks each evaluation
+-- may use
 module _ (files : List Pair) (limit : ℕ) where
+  -- the workspace as loading sees it, where modules are evaluated by plain listings
   abbrev pub loads : Sources ℕ Module FaultKind Kind
-  loads = record (usual.loads files limit) { run = run_module limit (linked_files files) (paths_of files) of_module }
+  loads =
+      record (usual.loads files limit)
+      { run = run_module limit (linked_files files) (paths_of files) of_module }
 
   -- the modules that have no fault
   abbrev pub known : Known
@@ -29,7 +33,9 @@ module _ (files : List Pair) (limit : ℕ) where
 
   -- what the BUILD file at a path declares, or why it fails
   abbrev pub build_at : Path → Result (List Target) (LoadFault FaultKind Kind)
-  build_at path = build_of loads (run_build limit (linked_files files) (paths_of files) (of_build (paths_of files))) path
+  build_at path =
+      build_of loads
+      (run_build limit (linked_files files) (paths_of files) (of_build (paths_of files))) path
 
   -- a file that fails, and why; of a source file there is nothing to tell
   abbrev pub fault_at : Path → List (FileFault FaultKind Kind)

@@ -1,6 +1,7 @@
--- The depsets that stand in what a module hands on, each with all below it: in its globals, in the values that its loads bind, which
--- its functions may read, and in the defaults of its functions. (Bazel's documentation of depsets has no ids; they, and what counts as
--- standing in a module, are this project's own.)
+-- The depsets that stand in what a module hands on, each with all below it: in its globals, in the
+-- values that its loads bind, which its functions may read, and in the defaults of its functions.
+-- (Bazel's documentation of depsets has no ids; they, and what counts as standing in a module, are
+-- this project's own.)
 use Rattle.std.specs.Prelude.{◌≡◌, List, [], ◌++◌, Option, Some, None}
 use Rattle.std.specs.List.{flat_map, list_any}
 use Rattle.depsets.specs.declared.depset.Id.{Id}
@@ -14,10 +15,12 @@ use Rattle.evaluation.specs.declared.handed.Module.{Module}
 use Rattle.evaluation.specs.Evaluated.{Known}
 use Rattle.workspace_laws.specs.Same.{same_set}
 
+-- in a global of a module, if that is bound
 abbrev pub in_global : Option FrozenTree → List Set
 in_global None = []
 in_global (Some t) = in_tree t
 
+-- in all that a module hands on
 abbrev pub in_module : Module → List Set
 in_module m = flat_map in_global m.globals ++ (in_fields m.loaded ++ flat_map in_values m.defaults)
 

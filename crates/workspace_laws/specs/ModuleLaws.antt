@@ -1,4 +1,5 @@
--- That all modules of a workspace are coherent together, and what follows of the depsets that stand in them.
+-- That all modules of a workspace are coherent together, and what follows of the depsets that stand
+-- in them.
 use Rattle.std.specs.Prelude.{ℕ, List}
 use Rattle.depsets.specs.Flat.{Among}
 use Rattle.coherence.specs.Coherent.{Depsets, AreCoherent, AreFresh}
@@ -13,16 +14,19 @@ use Rattle.loader.specs.Files.{loads, known}
 use Rattle.loader.specs.Loaded.{AreFilesOf}
 use Rattle.workspace_laws.specs.Found.{in_modules, AllKnown, seen}
 
--- the files of a workspace, in ascending order of their paths, and how many ticks each evaluation may use
+-- the files of a workspace, in ascending order of their paths, and how many ticks each evaluation
+-- may use
 module _ (files : List Pair) (limit : ℕ) where
   -- the depsets that stand in its modules
   abbrev pub of_all : List Set
   of_all = in_modules (known files limit) (paths_of files)
 
+  -- the collection of these, as coherence takes it
   abbrev pub in_any : Depsets Set
   in_any d = Among d of_all
 
-  -- All modules are coherent together, and each depset that stands in one is owned by a module, by its path.
+  -- All modules are coherent together, and each depset that stands in one is owned by a module, by
+  -- its path.
   abbrev pub ModulesAreCoherent : Type 0
   ModulesAreCoherent = AreTogether (loads files limit) seen
 
@@ -36,9 +40,11 @@ module _ (files : List Pair) (limit : ℕ) where
       (workspace : List Pair) → IsWorkspace workspace → AreFilesOf workspace files
       → (l : LabelParts) → AreFresh id_of owner_of (label_text l) in_any
 
-  -- These are all that stand in modules, and what modules give to an evaluation has no others.
+  -- these are all that stand in modules
   abbrev pub AllAreThere : Type 0
   AllAreThere = AllKnown (known files limit) of_all
 
+  -- and what modules give to an evaluation has no others: values of names, defaults of functions,
+  -- and what loads ask for
   abbrev pub NoneIsGiven : Type 0
   NoneIsGiven = LinkedKeeps of_all (world (paths_of files) (known files limit))

@@ -1,5 +1,5 @@
--- What an implementation has while it runs, where `ctx.files` lists depsets plainly (Bazel documentation, "ctx"). All else is as
--- `implementations` has it.
+-- What an implementation has while it runs, where `ctx.files` lists depsets plainly (Bazel
+-- documentation, "ctx"). All else is as `implementations` has it.
 use Rattle.std.specs.Prelude.{ℕ, List, [], Option, Some, None, Result, Err, slice_get}
 use Rattle.std.specs.List.{flat_map}
 use Rattle.depsets.specs.Listed.{flat}
@@ -29,6 +29,7 @@ abbrev pub listing : Option (Rose Own) → List Element
 listing (Some d) = flat d
 listing None = []
 
+-- the files of the target of a dependency, if there is one
 abbrev pub listed_files : Option Dependency → List Element
 listed_files (Some d) = listing (files_of d)
 listed_files None = []
@@ -39,22 +40,27 @@ module _ (ds : List Dependency) where
   abbrev pub files_listed : List LabelParts → List Element
   files_listed ls = flat_map (λ l. listed_files (slice_get ds (place_of ds l))) ls
 
+  -- what `ctx.files` gives for these labels; `name` where the attribute is none of labels
   abbrev pub files_or_name : Option (List LabelParts) → Result Value Kind
   files_or_name (Some ls) = unless_large (files_listed ls)
   files_or_name None = Err fault.Name
 
 -- a target, and its dependencies with their outcomes
 module _ (t : Target) (ds : List Dependency) where
+  -- a field of `ctx` and of what it has: those of `ctx.files` list plainly
   abbrev pub object_field : LabelParts → Object → List ℕ → Result Value Kind
   object_field l object.ContextFiles x = files_or_name ds (labels_for (value_for t x))
   object_field l o x = usual.object_field t ds l o x
 
+  -- a field of any object that an implementation has
   abbrev pub field : LabelParts → Leaf → List ℕ → Result Value Kind
   field l (plain.Object o) x = object_field l o x
   field l c x = usual.field t ds l c x
 
+-- the place of an implementation, as usual but for these fields
 abbrev pub plain_place : LabelParts → Target → List Dependency → Place Work
 plain_place l t ds = record (implementation_place l t ds) { field = λ o x w. field t ds l o x }
 
+-- and the call of an implementation there
 abbrev pub plain_target_world : OfTarget Work
 plain_target_world = record target_world { place = λ known. plain_place }

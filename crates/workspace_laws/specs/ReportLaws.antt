@@ -1,5 +1,6 @@
--- What a report has to do with the ids of depsets: where an id has one tree in all that is told, the text is that of the plain
--- listings. (Bazel's documentation of depsets has no ids; they are this project's own.)
+-- What a report has to do with the ids of depsets: where an id has one tree in all that is told,
+-- the text is that of the plain listings. (Bazel's documentation of depsets has no ids; they are
+-- this project's own.)
 use Rattle.std.specs.Prelude.{◌≡◌, List, All}
 use Rattle.std.specs.List.{flat_map}
 use Rattle.lexer.specs.declared.fault.FaultKind.{FaultKind}
@@ -16,17 +17,23 @@ use Rattle.reporting.specs.Answers.{Node, is_loud, report_text}
 abbrev pub in_nodes : List Node → List Set
 in_nodes nodes = flat_map (λ n. in_target n.outcome) nodes
 
--- The text by the listing that skips ids is that by the plain one, its conflicts and shared actions too; and so is whether it is loud.
-pub record IsToldPlainly (faults : List (FileFault FaultKind Kind)) (nodes : List Node) : Type 0 where
+-- The text by the listing that skips ids is that by the plain one, its conflicts and shared actions
+-- too; and so is whether it is loud.
+pub record IsToldPlainly (faults : List (FileFault FaultKind Kind))
+    (nodes : List Node) : Type 0 where
   pub text : report_text walked faults nodes ≡ report_text flat faults nodes
   pub loud : is_loud walked faults nodes ≡ is_loud flat faults nodes
 
--- They are wherever any two depsets with one id are the same, of all that stand in providers and in inputs of actions.
+-- They are wherever any two depsets with one id are the same, of all that stand in providers and in
+-- inputs of actions.
 abbrev pub TextsArePlain : Type 0
-TextsArePlain = (faults : List (FileFault FaultKind Kind)) (nodes : List Node) → IsOneTree (in_nodes nodes) → IsToldPlainly faults nodes
+TextsArePlain =
+    (faults : List (FileFault FaultKind Kind)) (nodes : List Node) → IsOneTree (in_nodes nodes)
+    → IsToldPlainly faults nodes
 
 -- And so it is of labels of a workspace, whichever they are, each with what becomes of it.
 abbrev pub WorkspacesAreToldPlainly : Type 0
 WorkspacesAreToldPlainly =
-    (w : Workspace) (faults : List (FileFault FaultKind Kind)) (nodes : List Node) → IsSound w → ImplementsWell w
+    (w : Workspace) (faults : List (FileFault FaultKind Kind)) (nodes : List Node) → IsSound w
+    → ImplementsWell w
     → All (λ n. n.outcome ≡ outcome_of w n.label) nodes → IsToldPlainly faults nodes

@@ -1,5 +1,5 @@
--- When two depsets are the same tree: the same id, order and elements, and the same children (this project's own notion; Bazel
--- compares depsets by identity).
+-- When two depsets are the same tree: the same id, order and elements, and the same children (this
+-- project's own notion; Bazel compares depsets by identity).
 use Rattle.std.specs.Prelude.{Bool, true, false, ◌&&◌}
 use Rattle.std.specs.Cmp.Lexicographic.{pointwise}
 use Rattle.depsets.specs.Elements.{same_element}
@@ -10,14 +10,17 @@ use Rattle.depsets.specs.declared.depset.Order.{Order}
 use Rattle.depsets.specs.declared.depset.Order.TheVariants.{Default, Postorder, Preorder}
 use Rattle.one_tree.specs.Found.{Set}
 
+-- whether two depsets have the same order
 abbrev pub same_order : Order → Order → Bool
 same_order Default Default = true
 same_order Postorder Postorder = true
 same_order Preorder Preorder = true
 same_order _ _ = false
 
+-- whether they have the same of their own: id, order, and direct elements, one after the other
 abbrev pub same_own : Own → Own → Bool
-same_own a b = same_id a.id b.id && (same_order a.order b.order && pointwise same_element a.direct b.direct)
+same_own a b =
+    same_id a.id b.id && (same_order a.order b.order && pointwise same_element a.direct b.direct)
 
 abbrev mutual
   pub same_set : Set → Set → Bool

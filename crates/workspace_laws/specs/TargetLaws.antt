@@ -8,8 +8,10 @@ use Rattle.implementations.specs.Implementations.{target_world}
 use Rattle.outcomes.specs.Workspaces.{Workspace, ImplementsWell}
 use Rattle.workspace_laws.specs.Found.{AllKnown}
 
--- In a workspace whose implementations are called with these files and these modules, and which has all depsets of the modules, each
--- call keeps coherence.
+-- In a workspace whose implementations are called with these files and these modules, and which has
+-- all depsets of the modules, each call keeps coherence.
 abbrev pub CallsKeepCoherence : Type 0
-CallsKeepCoherence = (w : Workspace) (limit : ℕ) (files : Files) (paths : List Path) (known : Known) →
-    w.implement ≡ run_implementation limit files paths target_world known → AllKnown known w.known → ImplementsWell w
+CallsKeepCoherence =
+    (w : Workspace) (limit : ℕ) (files : Files) (paths : List Path) (known : Known)
+    → w.implement ≡ run_implementation limit files paths target_world known
+    → AllKnown known w.known → ImplementsWell w

@@ -1,5 +1,5 @@
--- What becomes of the labels of a workspace: its packages, and its implementations (Bazel documentation, "Build phases", the
--- analysis phase; docs/PROFILE.md, "Targets").
+-- What becomes of the labels of a workspace: its packages, and its implementations (Bazel
+-- documentation, "Build phases", the analysis phase; docs/PROFILE.md, "Targets").
 use Rattle.std.specs.Prelude.{ℕ, List, Option, Some, None, Result}
 use Rattle.workspace.specs.Labels.{LabelParts}
 use Rattle.workspace.specs.Workspaces.{Pair, paths_of}
@@ -19,20 +19,27 @@ use Rattle.workspace_laws.specs.Files.{known, build_at}
 use Rattle.workspace_laws.specs.Places.{plain_target_world}
 use Rattle.workspace_laws.specs.Runs.{run_implementation}
 
--- the files of a workspace, in ascending order of their paths, and how many ticks each evaluation may use
+-- the files of a workspace, in ascending order of their paths, and how many ticks each evaluation
+-- may use
 module _ (files : List Pair) (limit : ℕ) where
   -- ---- by plain listings: what a report says
 
+  -- what a package has whose BUILD file is at this path, if it has one
   abbrev pub package_of_file : Option Path → Package
   package_of_file None = no_build_file
   package_of_file (Some path) = package_with (build_at files limit path)
 
+  -- what the package of a name has
   abbrev pub package_at : List ℕ → Package
   package_at p = package_of_file (build_file_of (paths_of files) p)
 
+  -- what the call of an implementation comes to
   abbrev pub implement : LabelParts → Target → List Dependency → Result Implemented Fault
-  implement = run_implementation limit (linked_files files) (paths_of files) plain_target_world (known files limit)
+  implement =
+      run_implementation limit (linked_files files) (paths_of files) plain_target_world
+      (known files limit)
 
+  -- the workspace that a report tells of
   abbrev pub plain_workspace : Workspace
   plain_workspace = record {
     paths = paths_of files;
@@ -44,6 +51,7 @@ module _ (files : List Pair) (limit : ℕ) where
 
   -- ---- as the code lists depsets, which passes over each part that it has seen
 
+  -- the workspace that the code goes through
   abbrev pub evaluated : Workspace
   evaluated = record {
     paths = paths_of files;
