@@ -79,6 +79,7 @@ where
         (asked : List LabelParts) → IsGraphOf (dependencies w) asked graph.now
         → IfOk result (AreOutcomesOf w graph.now.labels) }
     ensures few { result ≡ Err NoReport.TooMany → ⊥ }
+    ensures threads { result ≡ Err NoReport.NoThread → 1 < team.now.workers }
 {
     let labels = LabelAnalysis::new(alloc, targets)?;
     let analysis = NodeAnalysis {

@@ -1,5 +1,5 @@
 //! Why there is no report.
-ghost use Rattle.std.specs.Prelude.{◌≡◌, Err};
+ghost use Rattle.std.specs.Prelude.{◌≡◌, ◌≢◌, Err};
 
 use graph::GraphRefused;
 use pool::Refused;
@@ -28,7 +28,8 @@ impl From<AllocError> for NoReport {
 
 /// Why there is no report, where there is no graph.
 pub(crate) fn without_graph(refused: GraphRefused) -> NoReport
-    ensures { result ≡ NoReport.TooMany → refused ≡ GraphRefused.TooMany }
+    ensures many { result ≡ NoReport.TooMany → refused ≡ GraphRefused.TooMany }
+    ensures threads { result ≢ NoReport.NoThread }
 {
     match refused {
         GraphRefused::TooMany => NoReport::TooMany,
@@ -38,7 +39,8 @@ pub(crate) fn without_graph(refused: GraphRefused) -> NoReport
 
 /// Why there is no report, where a run was refused something.
 pub(crate) fn without_run(refused: Refused) -> NoReport
-    ensures { result ≡ NoReport.TooMany → ⊥ }
+    ensures few { result ≢ NoReport.TooMany }
+    ensures threads { result ≡ NoReport.NoThread → refused ≡ Refused.NoThread }
 {
     match refused {
         Refused::NoMemory => NoReport::NoMemory,

@@ -104,6 +104,7 @@ fn graph_of(alloc: Global, targets: &Targets, labels: &[Label]) -> Result<Graph,
     ensures many { let w = evaluated targets.now.files targets.now.limit in
         result ≡ Err NoReport.TooMany
         → TooManyReached (dependencies w) labels.now same_label NODE_LIMIT }
+    ensures threads { result ≡ Err NoReport.NoThread → ⊥ }
 {
     match Graph::of(alloc, targets, labels, NODE_LIMIT) {
         Ok(graph) => Ok(graph),
@@ -200,6 +201,7 @@ where
         → AreFilesOf workspace targets.files → IsGraphOf (dependencies w) asked graph
         → IfOk result (Reports workspace asked targets.limit) }
     ensures few { result ≡ Err NoReport.TooMany → ⊥ }
+    ensures threads { result ≡ Err NoReport.NoThread → 1 < team.now.workers }
 {
     let found = found::<R, S, F, G>(rt, alloc, &targets, &graph, team)?;
     let report = told_of(
@@ -223,7 +225,7 @@ where
 /// # Errors
 ///
 /// `TooMany` only where more than [`NODE_LIMIT`] labels are reached; `NoMemory` where memory was
-/// refused, and `NoThread` where a thread was refused.
+/// refused; `NoThread` where a thread was refused, never with one worker.
 pub fn report_on<R: Threads + Wait + Sync, G: Gate>(
     rt: &R,
     alloc: Global,
@@ -237,6 +239,7 @@ pub fn report_on<R: Threads + Wait + Sync, G: Gate>(
     ensures report { IfOk result (Reports workspace.now labels.now limit) }
     ensures many { result ≡ Err NoReport.TooMany
         → IsTooMany workspace.now labels.now limit NODE_LIMIT }
+    ensures threads { result ≡ Err NoReport.NoThread → 1 < workers }
 {
     let team = Team {
         workers,
@@ -276,6 +279,7 @@ where
     ensures report { IfOk result (Reports workspace.now labels.now limit) }
     ensures many { result ≡ Err NoReport.TooMany
         → IsTooMany workspace.now labels.now limit NODE_LIMIT }
+    ensures threads { result ≡ Err NoReport.NoThread → 1 < team.now.workers }
 {
     // The paths of a workspace are legal, so none of them is the text of a label.
     let _count = workspace.count();

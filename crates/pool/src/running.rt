@@ -1,5 +1,5 @@
 //! A run: the board of a graph, the first nodes on the shelf, the workers, and what they found.
-ghost use Rattle.std.specs.Prelude.{◌≡◌, ◌+◌, ◌<◌, ◌≤◌, length, max, take, IfOk, vec_len};
+ghost use Rattle.std.specs.Prelude.{◌≡◌, ◌+◌, ◌<◌, ◌≤◌, length, max, take, IfOk, Err, vec_len};
 ghost use Rattle.pool.specs.Gathered.{HasOutcomes};
 ghost use Rattle.pool.specs.Ends.{AreEnds, CanRun, IsGathering};
 
@@ -38,8 +38,8 @@ pub enum Refused {
 /// # Errors
 ///
 /// `NoMemory` where memory was refused, also to a worker; `NoThread` where a thread was refused, or
-/// the memory to start it, and no worker was refused memory. In either case all workers are joined,
-/// and nothing is kept.
+/// the memory to start it, and no worker was refused memory: never with one worker, which starts
+/// none. In either case all workers are joined, and nothing is kept.
 pub fn run<V, A, G, R>(
     rt: &R,
     alloc: Global,
@@ -59,6 +59,7 @@ where
     ensures closed { IfOk result (λ g. length g.closed.known ≡ graph.now.acyclic) }
     ensures outcomes { let a = analyse.now in IfOk result
         (HasOutcomes (A.cycle a) (A.step a) (A.fits a) graph.now.deps) }
+    ensures threads { result ≡ Err Refused.NoThread → 1 < workers }
 {
     let workers = useful_workers(workers, graph.acyclic());
     match StealShelf::ends(alloc, workers, graph.nodes()) {
@@ -96,6 +97,7 @@ where
     ensures closed { IfOk result (λ g. length g.closed.known ≡ graph.now.acyclic) }
     ensures outcomes { let a = analyse.now in IfOk result
         (HasOutcomes (A.cycle a) (A.step a) (A.fits a) graph.now.deps) }
+    ensures threads { result ≡ Err Refused.NoThread → 1 < vec_len ends }
 {
     keep_useful(graph, &mut ends);
     let Ok(()) = S::spread(&mut ends, graph.ready(), graph.nodes()) else {
@@ -154,8 +156,9 @@ where
     requires plan { board.now.plan ≡ take graph.now.acyclic graph.now.deps }
     requires nodes { A.nodes analyse.now ≡ length graph.now.deps }
     requires run { CanRun S.nodes (length graph.now.deps) board.now ends.items passes.items }
-    ensures { IfOk result
+    ensures all { IfOk result
         (λ v. IsGathering (A.step analyse.now) (A.fits analyse.now) board.now v.items) }
+    ensures threads { result ≡ Err Refused.NoThread → 1 < vec_len ends }
 {
     let idle = Idle::of(ends.len() as u64);
     let site = Site {

@@ -1,7 +1,7 @@
 //! Workers, one an end: one in the thread that calls, the others in threads of their own, once
 //! there may be nodes for them; and their passes back from them.
 ghost use Rattle.std.specs.Prelude.{◌≡◌, ◌+◌, ◌<◌, ◌≤◌, true, false, [], ◌∷◌, ◌++◌, length};
-ghost use Rattle.std.specs.Prelude.{MatchBool, MatchOption, IfOk, IfSome, vec_len, vec_capacity};
+ghost use Rattle.std.specs.Prelude.{MatchBool, MatchOption, IfOk, IfSome, Err, vec_len, vec_capacity};
 ghost use Rattle.std.specs.Bool.{OnTrue};
 ghost use Rattle.std.specs.List.{All};
 ghost use Rattle.board.specs.declared.journal.Journal.{Journal};
@@ -107,6 +107,7 @@ where
         ((vec_len result.0 ≡ vec_len passes) × (own.new ≡ own.old))
         (own.new.journal.set ≡ true) }
     ensures most { vec_len result.0 ≤ vec_len passes }
+    ensures refused { result.1 ≡ false → 0 < vec_len passes }
 {
     for pass in passes {
         let Some(end) = ends.pop() else {
@@ -231,8 +232,9 @@ where
     requires shelf { S.nodes end ≡ length site.now.graph.now.deps }
     requires pass { let a = site.now.analyse.now in
         IsQuiet (A.step a) (A.fits a) site.now.board.now pass }
-    ensures { let a = site.entry.now.analyse.now in IfOk result
+    ensures all { let a = site.entry.now.analyse.now in IfOk result
         (λ v. IsGathering (A.step a) (A.fits a) site.entry.now.board.now v.items) }
+    ensures threads { result ≡ Err Refused.NoThread → 0 < vec_len ends }
 {
     let others = passes.len();
     let Ok(handles) = Vec::with_capacity(site.alloc, others) else {
@@ -276,8 +278,9 @@ where
     R: Threads + Wait + Sync,
     requires { CanRun S.nodes (length site.now.graph.now.deps) site.now.board.now
         ends.items passes.items }
-    ensures { let a = site.entry.now.analyse.now in IfOk result
+    ensures all { let a = site.entry.now.analyse.now in IfOk result
         (λ v. IsGathering (A.step a) (A.fits a) site.entry.now.board.now v.items) }
+    ensures threads { result ≡ Err Refused.NoThread → 1 < vec_len ends }
 {
     let (Some(mut end), Some(own), Some(mut pass)) = (ends.pop(), passes.pop(), passes.pop()) else {
         unreachable!()
@@ -308,8 +311,9 @@ where
     R: Threads + Wait + Sync,
     requires { CanRun S.nodes (length site.now.graph.now.deps) site.now.board.now
         ends.items passes.items }
-    ensures { let a = site.entry.now.analyse.now in IfOk result
+    ensures all { let a = site.entry.now.analyse.now in IfOk result
         (λ v. IsGathering (A.step a) (A.fits a) site.entry.now.board.now v.items) }
+    ensures threads { result ≡ Err Refused.NoThread → 1 < vec_len ends }
 {
     thread::scope(
         thread::scope_env(),
@@ -317,8 +321,9 @@ where
         |scope| -> Result<Vec<Pass<V>>, Refused>
             requires { CanRun S.nodes (length site.now.graph.now.deps) site.now.board.now
                 ends.items passes.items }
-            ensures { let a = site.entry.now.analyse.now in IfOk result
+            ensures all { let a = site.entry.now.analyse.now in IfOk result
                 (λ v. IsGathering (A.step a) (A.fits a) site.entry.now.board.now v.items) }
+            ensures threads { result ≡ Err Refused.NoThread → 1 < vec_len ends }
         { in_scope(scope, site, ends, passes) },
     )
 }

@@ -14,6 +14,10 @@ use Rattle.workspace.specs.Workspaces.{Pair}
 abbrev pub AsksFor : List (List ℕ) → Asked → Type 0
 AsksFor words a = asked words ≡ Some a
 
+-- the words ask for more than one worker, so for threads beside the one that calls
+abbrev pub AsksForOthers : List (List ℕ) → Type 0
+AsksForOthers words = (a : Asked) × AsksFor words a × (1 < a.workers)
+
 -- words and input make a request, and this is the answer to it
 pub record IsAnswered (words : List (List ℕ)) (input : List ℕ) (answer : Answer) : Type 0 where
   pub asked : Asked

@@ -23,7 +23,7 @@ use workspace::{Label, Workspace};
 ///
 /// `Workers` exactly where the number of workers isn't one from 1 to 64. `TooMany` only where more
 /// than [`NODE_LIMIT`] labels are reached. `NoMemory` where memory was refused; `NoThread` where a
-/// thread was refused.
+/// thread was refused, never with one worker.
 pub fn analyse<R: Threads + Wait + Sync, G: Gate>(
     rt: &R,
     alloc: Global,
@@ -38,6 +38,7 @@ pub fn analyse<R: Threads + Wait + Sync, G: Gate>(
     ensures workers { result ≡ Err AnalyseStop.Workers ↔ ((workers < 1) ⊎ (64 < workers)) }
     ensures many { result ≡ Err AnalyseStop.TooMany
         → IsTooMany workspace.now labels.now limit NODE_LIMIT }
+    ensures threads { result ≡ Err AnalyseStop.NoThread → 1 < workers }
 {
     if workers < 1 || workers > 64 {
         return Err(AnalyseStop::Workers);

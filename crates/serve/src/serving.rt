@@ -1,11 +1,11 @@
 //! A whole request: from the words and the input to the report that is written.
 
-ghost use Rattle.std.specs.Prelude.{◌≡◌, ◌≢◌, ◌⊎◌, ◌≤◌, IfErr, IfOk, IfSome, OnOk, Err, None, map};
+ghost use Rattle.std.specs.Prelude.{◌≡◌, ◌≢◌, ◌⊎◌, ◌<◌, ◌≤◌, IfErr, IfOk, IfSome, OnOk, Err, None, map};
 ghost use Rattle.std.specs.Prelude.{true};
 ghost use Rattle.std.specs.Io.KnownBytes.{IsAtEnd};
 ghost use Rattle.devices.specs.Devices.{Failed};
 ghost use Rattle.request.specs.Asked.{Asked, asked, asked_by};
-ghost use Rattle.serve.specs.Requests.{AsksFor, AsksTooMany, BeginsAnswer, OfWholeInput};
+ghost use Rattle.serve.specs.Requests.{AsksFor, AsksForOthers, AsksTooMany, BeginsAnswer, OfWholeInput};
 ghost use Rattle.serve.specs.Requests.{RefusesInput, SpellsNothing, WritesAnswer};
 ghost use Rattle.serve.specs.RequestReports.{IsOfReport, ReportsInput, TooManyInput};
 
@@ -34,6 +34,7 @@ fn report_of<R: Threads + Wait + Sync, G: Gate>(
     ensures input_only { result ≡ Err ServeStop.Input → SpellsNothing input.items }
     ensures many_only { result ≡ Err ServeStop.TooMany
         → TooManyInput (asked_by request.now) input.items }
+    ensures threads_only { result ≡ Err ServeStop.NoThread → 1 < request.now.workers }
     ensures kinds { IfErr result IsOfReport }
 {
     let workspace = match read_workspace(alloc, input) {
@@ -74,8 +75,9 @@ fn report_of<R: Threads + Wait + Sync, G: Gate>(
 ///
 /// Found in this order: `Words` before a byte is read; `Read`; `Input`; `TooMany`; `Write`. The
 /// input is read to its end or to the first byte past [`INPUT_LIMIT`]. `NoMemory` and `NoThread`
-/// may stand in place of any of these that isn't found yet. After `Write` a beginning of the report
-/// was written, after any other refusal nothing.
+/// may stand in place of any of these that isn't found yet, `NoThread` only where the words ask for
+/// more than one worker. After `Write` a beginning of the report was written, after any other
+/// refusal nothing.
 pub fn serve<R, S, K, W, G>(
     rt: &R,
     alloc: Global,
@@ -112,6 +114,8 @@ where
     ensures many_only { result ≡ Err ServeStop.TooMany
         → OfWholeInput (S.remaining reader.old) (S.remaining reader.new)
         (AsksTooMany (map W.text words.now)) }
+    ensures threads_only { result ≡ Err ServeStop.NoThread
+        → AsksForOthers (map W.text words.now) }
     ensures write_only { result ≡ Err ServeStop.Write
         → Failed (K.failures writer.old) (K.failures writer.new) }
 

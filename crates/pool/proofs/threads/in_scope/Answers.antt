@@ -34,8 +34,8 @@ with_others-requires-clause-own g c κs within =
     let popped = c.in-Some-Some-Some in
     (All-pop (IsNew c.args.site.now.board.now) c.args.passes.items c.pop-2.new.self.items (Some popped.own) popped.ensures'.items c.requires.new).1
 
-pub returns-in-Some : goal.returns-in-Some
-returns-in-Some g c =
+pub returns-in-Some-clause-all : goal.returns-in-Some-clause-all
+returns-in-Some-clause-all g c =
     let V : Type 0 = g.row.V.Denot in
     let b = c.args.site.now.board.now in
     let step = g.A.Analyse.step c.args.site.now.analyse.now in

@@ -5,8 +5,8 @@ use Rattle.pool.specs.Ends.{IsFine, IsQuiet, IsGathering}
 use Rattle.pool.proofs.Gathers.{gathering, fine_is_quiet, on_true, when_true}
 use Rattle.pool.proofs.threads.with_others.Goals as goal
 
-pub returns : goal.returns
-returns g c =
+pub returns-clause-all : goal.returns-clause-all
+returns-clause-all g c =
     let V : Type 0 = g.row.V.Denot in
     let b = c.args.site.now.board.now in
     let step = g.A.Analyse.step c.args.site.now.analyse.now in
