@@ -113,7 +113,8 @@ fn without_entries<'a>(key: &Seen<'_>) -> Result<Option<Operand<'a>>, Broken>
 ///
 /// # Errors
 ///
-/// `large`, as of each new list, and `NoMemory` where memory was refused.
+/// `NoMemory` where memory was refused; `large`, as of each new list, only where the dict has more
+/// entries than evaluation ever gives one.
 pub fn keys(alloc: Global, state: &mut State, dict: Item<'_>) -> Result<Value, Broken>
     ensures { Does (keys (entries_in (shape state.old.heap (item_value dict.entry)))) state.old
         result state.new }
@@ -158,7 +159,8 @@ fn put_key(key: &Key, items: &mut Items) -> Result<(), AllocError>
 ///
 /// # Errors
 ///
-/// `large`, as of each new list, and `NoMemory` where memory was refused.
+/// `NoMemory` where memory was refused; `large`, as of each new list, only where the dict has more
+/// entries than evaluation ever gives one.
 pub fn values(alloc: Global, state: &mut State, dict: Item<'_>) -> Result<Value, Broken>
     ensures { Does (values (entries_in (shape state.old.heap (item_value dict.entry)))) state.old
         result state.new }

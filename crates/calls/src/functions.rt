@@ -123,7 +123,8 @@ fn depset_parameters() -> [Parameter<'static>; 3]
 /// # Errors
 ///
 /// `arity`; of `DefaultInfo` then `type`, where its `files` are no depset that is empty or of
-/// Files.
+/// Files, and `large`, where no serial is left for the default. `NoMemory` where memory was
+/// refused.
 pub fn call_provider(
     alloc: Global,
     state: &mut State,

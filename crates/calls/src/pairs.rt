@@ -20,7 +20,8 @@ use values::{Broken, Item, Items, Value};
 ///
 /// # Errors
 ///
-/// `large`, as of each new list, and `NoMemory` where memory was refused; then no tuple is made.
+/// `NoMemory` where memory was refused; `large`, as of each new list, only where the dict has more
+/// entries than evaluation ever gives one. Then no tuple is made.
 pub fn items(alloc: Global, state: &mut State, dict: Item<'_>) -> Result<Value, Broken>
     ensures { Does (pairs (entries_in (shape state.old.heap (item_value dict.entry)))) state.old
         result state.new }

@@ -11,7 +11,7 @@ use Rattle.loading.specs.Loads.{Path, Name}
 use Rattle.evaluation.specs.Evaluated.{Module, Known, global_named, name_value}
 
 -- The text of a load names a file by a label: it begins with `//` or `:` and has a `:` (Bazel
--- documentation, "BUILD files", "Loading an extension"; docs/PROFILE.md, "Loading").
+-- documentation, "BUILD files", "Load an extension"; docs/PROFILE.md, "Loading").
 abbrev pub is_load_text : List ℕ → Bool
 is_load_text t =
     (starts_with nat_eq t (codes "//") || starts_with nat_eq t (codes ":")) && list_any is_colon t

@@ -1,6 +1,7 @@
 -- The built-in functions that every file finds bound, but for those of one place. Each tests its
--- arguments first (`arity`), then their types, then what is named. (Starlark's specification,
--- "Built-in constants and functions"; which values each takes is this project's own.)
+-- arguments first (`arity`), then their types (`type`), and then what else may be wrong with them.
+-- (Starlark's specification, "Built-in constants and functions"; which values each takes is this
+-- project's own; docs/PROFILE.md, "Calls of the language".)
 use Rattle.std.specs.Prelude.{ℕ, ℤ, pos, List, [], ◌∷◌, length, map, Option, Some, None, Result, Ok}
 use Rattle.std.specs.Prelude.{Err, codes}
 use Rattle.numbers.specs.Ranges.{range_of}

@@ -12,7 +12,7 @@ use Rattle.ticks.specs.declared.ticks.Kind.{Kind}
 use Rattle.ticks.specs.declared.ticks.Kind.TheVariants.{Wrong}
 pub use Rattle.printing.specs.Repr.{string_in}
 
--- the whole number that a string, a number or a bool is, if it is one
+-- the whole number that a key is, if it is one
 abbrev pub key_number : Key → Option ℤ
 key_number (index.Number n) = Some n
 key_number _ = None

@@ -12,7 +12,7 @@ use Rattle.operations.specs.declared.state.State.{State}
 abbrev pub Doing : Type 0 → Type 0
 Doing A = Result (A × State) Kind
 
--- an operation, which a state is given to
+-- an operation: from the state before it to what it does there
 abbrev pub Op : Type 0 → Type 0
 Op A = State → Doing A
 

@@ -52,7 +52,7 @@ fn tell_counts<R: Eprint>(rt: &R, packed: &Packed) -> io::Result<()> {
     let files = packages.saturating_add(modules).saturating_add(sources);
     let left = packed.left.len();
     eprintln!(rt;
-        "bzlan_pack: {files} files: {packages} packages, {modules} modules, {sources} sources; {left} left out"
+        "bzlan_pack: packed: {files} (packages {packages}, modules {modules}, sources {sources}); left out: {left}"
     )
 }
 

@@ -150,8 +150,9 @@ impl Targets {
         }
     }
 
-    /// What a label names: a target that its package declares, else a source file of its path.
-    /// Memory is used only to look for the file.
+    /// What a label names, by the first that applies: nothing, where its package has no `BUILD`
+    /// file; a package that failed; a target that the package declares; a source file of the
+    /// label's path; else nothing. Memory is used only to look for the file.
     ///
     /// # Errors
     ///

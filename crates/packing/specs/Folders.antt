@@ -44,7 +44,7 @@ IsHiddenFolder (Some link) name = ⊥
 IsHiddenFolder (Some special) name = ⊥
 
 -- from a folder a walk reaches the regular file at a path: by names that stand in the folders on
--- the way, none of them left out
+-- the way, none of them passed over
 pub data Reaches (at : At) : List ℕ → List ℕ → Type 0 where
   here : (path bytes : List ℕ) → at path ≡ Some (file bytes) → Reaches at path path
   inside : (from name path : List ℕ) (names : List (List ℕ))
@@ -53,7 +53,7 @@ pub data Reaches (at : At) : List ℕ → List ℕ → Type 0 where
       → Reaches at (below from name) path → Reaches at from path
 
 -- a walk comes to a path: that of the folder itself, and of each name in a folder that it comes to,
--- if what the name stands for isn't left out
+-- if what the name stands for isn't passed over
 pub data Comes (at : At) : List ℕ → Type 0 where
   start : Comes at []
   onward : (from name : List ℕ) (names : List (List ℕ)) → Comes at from

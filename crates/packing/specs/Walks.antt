@@ -18,7 +18,7 @@ IsCovered at w path = Contains w.files.keys path
 abbrev pub CoversFrom : At → Walk → List ℕ → Type 0
 CoversFrom at w from = (path : List ℕ) → Reaches at from path → IsCovered at w path
 
--- so is each file that is reached by a name in a folder, if what it stands for isn't left out
+-- so is each file that is reached by a name in a folder, if what it stands for isn't passed over
 abbrev pub CoversName : At → Walk → List ℕ → List ℕ → Type 0
 CoversName at w from name =
     is_output from name ≡ false → (IsHiddenFolder (at (below from name)) name → ⊥)
@@ -30,7 +30,7 @@ pub record Grows (at : At) (old new : Walk) : Type 0 where
   pub files : All (λ p. IsFile (at p)) old.files.keys → All (λ p. IsFile (at p)) new.files.keys
   pub causes : All (HasCause at) old.left.items → All (HasCause at) new.left.items
 
--- the walk comes to what a name in a folder stands for, if that isn't left out
+-- the walk comes to what a name in a folder stands for, if that isn't passed over
 abbrev pub ComesBy : At → List ℕ → List ℕ → Type 0
 ComesBy at from name =
     is_output from name ≡ false → (IsHiddenFolder (at (below from name)) name → ⊥)

@@ -30,8 +30,8 @@ pub const LARGEST_TEXT: usize = 1_048_576;
 ///
 /// `steps` at the tick past the limit; `deep` at a value at depth 65; `type` at a value that is no
 /// None, bool, number, string, list, tuple, dict, label or File; each value is tested in this
-/// order. At the end `large` where there are more than `LARGEST_TEXT` bytes. After a `Broken` the
-/// ticks are open.
+/// order. At the end `large` where there are more than `LARGEST_TEXT` bytes. `NoMemory` where
+/// memory was refused. After a `Broken` the ticks are open.
 pub fn repr(alloc: Global, item: Item<'_>, heap: &Heap, ticks: &mut Ticks) -> Result<String, Broken>
     ensures { MatchResult result (λ s. repr_of heap.now (item_value item.entry) ticks.old
         ≡ Ok (string_bytes s, ticks.new)) (λ e. FaultOr

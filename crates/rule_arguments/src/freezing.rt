@@ -17,8 +17,8 @@ use visits::freeze;
 ///
 /// # Errors
 ///
-/// The fault of the first value that can't be frozen, where one can't; `NoMemory` where memory was
-/// refused.
+/// The first fault of freezing them, as `steps` where the ticks are used up; `NoMemory` where
+/// memory was refused.
 pub fn freeze_given(
     alloc: Global,
     attributes: &[NamedAttribute],

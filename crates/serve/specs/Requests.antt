@@ -63,8 +63,8 @@ pub record OfWholeInput (before after : Option (List ℕ)) (P : List ℕ → Typ
   pub end : IsAtEnd after
   pub holds : P input
 
--- what a source gave spells nothing, nor does anything that begins so: it was read to its end or
--- past the limit
+-- what a source gave spells nothing: it was read to its end, or past the limit of an input, and
+-- then nothing that begins so spells anything either
 pub record RefusesInput (before after : Option (List ℕ)) : Type 0 where
   pub input : List ℕ
   pub taken : Consumes before after input

@@ -117,8 +117,8 @@ TellsNone = (ds : List Dependency) (named : List NamedAttribute) (vs : List Attr
 -- ---- targets that are done
 
 -- Nothing that a target depends on failed or was refused; its implementation gave these actions,
--- which make each File that it declared; its providers are the instances that it returned, no two
--- of one provider, with `DefaultInfo` among them.
+-- which make each File that it declared; its providers are the instances that it returned, behind a
+-- `DefaultInfo` where none was among them, and no two are of one provider.
 pub record IsWhole (t : Target) (ds : List Dependency) (r : Result Implemented Fault)
     (l : LabelParts) (ts : List FrozenTree) (actions : List Action) : Type 0 where
   pub none_failed : failed_labels ds ≡ []

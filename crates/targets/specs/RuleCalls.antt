@@ -1,5 +1,6 @@
--- The call of a rule, which declares a target (Bazel documentation, "Rules", "Rule instantiation";
--- the order of the faults is this project's own; docs/PROFILE.md, "Calling a rule").
+-- The call of a rule, which declares a target (Bazel documentation, "Rules", "Target
+-- instantiation"; the order of the faults is this project's own; docs/PROFILE.md, "Calling a
+-- rule").
 use Rattle.std.specs.Prelude.{ℕ, Bool, true, false, not, ◌&&◌, ◌||◌, nat_eq, List, [], ◌∷◌, length}
 use Rattle.std.specs.Prelude.{Option, Some, None, option_map, option_and_then, Ok, Err, is_some}
 use Rattle.std.specs.Prelude.{if◌then◌else◌, codes, bytes_eq}
@@ -47,8 +48,8 @@ given_as g x = unless_none (given_for x g.names g.values)
 abbrev pub is_given : Given → List ℕ → Bool
 is_given g x = is_some (given_as g x)
 
--- ---- `arity`: a position; a name that is unknown or private, whatever stands for it; no `name`;
--- no mandatory attribute
+-- ---- `arity`: a position; a name that is unknown or private, whatever stands for it; `name` or a
+-- mandatory attribute that isn't given
 
 -- what a call may name: `name`, and each attribute that isn't private
 abbrev pub may_name : List NamedAttribute → List ℕ → Bool

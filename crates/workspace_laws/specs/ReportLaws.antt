@@ -24,8 +24,8 @@ pub record IsToldPlainly (faults : List (FileFault FaultKind Kind))
   pub text : report_text walked faults nodes ≡ report_text flat faults nodes
   pub loud : is_loud walked faults nodes ≡ is_loud flat faults nodes
 
--- They are wherever any two depsets with one id are the same, of all that stand in providers and in
--- inputs of actions.
+-- A report is told so wherever any two depsets with one id are the same, of all that stand in
+-- providers and in inputs of actions.
 abbrev pub TextsArePlain : Type 0
 TextsArePlain =
     (faults : List (FileFault FaultKind Kind)) (nodes : List Node) → IsOneTree (in_nodes nodes)
