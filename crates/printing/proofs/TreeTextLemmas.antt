@@ -1,7 +1,7 @@
 -- The parts of a frozen value by place: their texts and their weights. And of a coherent value, that its text is
 -- that of the plain meaning.
 use Rattle.std.specs.Prelude.{codes}
-use Rattle.std.proofs.Common.{◌≡◌, ℕ, zero, suc, ◌+◌, ◌≤◌, ◌<◌, List, [], ◌∷◌, ◌++◌, length, drop, slice_get, Option, Some, None, refl, ap, ◌∙◌, arith, drop_of_length-le, min}
+use Rattle.std.proofs.Common.{◌≡◌, ◌⊎◌, inl, inr, ℕ, zero, suc, ◌+◌, ◌≤◌, List, [], ◌∷◌, ◌++◌, length, drop, slice_get, Option, Some, None, refl, ap, ◌∙◌, arith, drop_of_length-le}
 use Rattle.depsets.proofs.Turns.{drop_at}
 use Rattle.depsets.proofs.Walked.{walked-flat}
 use Rattle.depsets.specs.Rose.{Rose, label}
@@ -16,26 +16,12 @@ use Rattle.leaves.specs.declared.leaf.Leaf.{Leaf}
 use Rattle.leaves.specs.declared.leaf.Leaf.TheVariants as plain
 use Rattle.keys.specs.declared.key.Key.{Key}
 use Rattle.leaves.specs.declared.leaf.Provider.{Provider}
-use Rattle.values.proofs.SeeLemmas.{pairs-short}
 use Rattle.leaf_texts.proofs.TextLemmas.{parts-next, parts-end}
 
 pub weight_at : (ts : List FrozenTree) (i : ℕ) (t : FrozenTree) → slice_get ts i ≡ Some t → weight t ≤ weights (trees ts)
 weight_at [] i t p = absurd (cc)
 weight_at (u ∷ us) zero t p = let q : u ≡ t = cc in let e = ap weight q in omega arith
 weight_at (u ∷ us) (suc i) t p = let e = weight_at us i t p in omega arith
-
-pub pair_weight_at : (ks : List Key) (ts : List FrozenTree) (i : ℕ) (t : FrozenTree) → i < length ks → slice_get ts i ≡ Some t → weight t ≤ pair_weights (pairs ks ts)
-pair_weight_at [] ts i t l p = absurd (omega arith)
-pair_weight_at (k ∷ ks) [] i t l p = absurd (cc)
-pair_weight_at (k ∷ ks) (u ∷ us) zero t l p = let q : u ≡ t = cc in let e = ap weight q in omega arith
-pair_weight_at (k ∷ ks) (u ∷ us) (suc i) t l p = let e = pair_weight_at ks us i t (omega arith) p in omega arith
-
-pub slot_weight_at : (os : List (Option FrozenTree)) (i : ℕ) (t : FrozenTree) → slice_get os i ≡ Some (Some t) → weight t ≤ slot_weights (slots os)
-slot_weight_at [] i t p = absurd (cc)
-slot_weight_at (None ∷ os) zero t p = absurd (cc)
-slot_weight_at (Some u ∷ os) zero t p = let q : u ≡ t = cc in let e = ap weight q in omega arith
-slot_weight_at (None ∷ os) (suc i) t p = let e = slot_weight_at os i t p in omega arith
-slot_weight_at (Some u ∷ os) (suc i) t p = let e = slot_weight_at os i t p in omega arith
 
 pub how_many-trees : (ts : List FrozenTree) → how_many (trees ts) ≡ length ts
 how_many-trees [] = refl
@@ -51,41 +37,33 @@ module _ (listing : Rose Own → List Element) (n : ℕ) (out : List ℕ) where
   pub trees-end : (ts : List FrozenTree) → length ts ≤ n → out ++ joined_from n (texts_by listing (trees (drop n ts))) ≡ out
   trees-end ts l = parts-end n out (texts_by listing (trees (drop n ts))) (ap (λ l. texts_by listing (trees l)) (drop_of_length-le ts l))
 
-  pub pairs-next : (head : Key → List ℕ) (ks : List Key) (ts : List FrozenTree) (k : Key) (t : FrozenTree) (then : List ℕ) → slice_get ks n ≡ Some k → slice_get ts n ≡ Some t
+  pub pairs-next : (head : Key → List ℕ) (ks ls : List Key) (ts us : List FrozenTree) (k : Key) (t : FrozenTree) (then : List ℕ) → ks ≡ k ∷ ls → ts ≡ t ∷ us
       → then ≡ out ++ (separator n ++ (head k ++ text_by listing t))
-      → then ++ joined_from (n + 1) (pair_texts_by listing head (pairs (drop (n + 1) ks) (drop (n + 1) ts))) ≡ out ++ joined_from n (pair_texts_by listing head (pairs (drop n ks) (drop n ts)))
-  pairs-next head ks ts k t then p q e =
-      parts-next n out (head k ++ text_by listing t) (pair_texts_by listing head (pairs (drop n ks) (drop n ts))) (pair_texts_by listing head (pairs (drop (n + 1) ks) (drop (n + 1) ts))) then
-      (λ j. pair_texts_by listing head (pairs (drop_at ks n k p j) (drop_at ts n t q j))) e
+      → then ++ joined_from (n + 1) (pair_texts_by listing head (pairs ls us)) ≡ out ++ joined_from n (pair_texts_by listing head (pairs ks ts))
+  pairs-next head ks ls ts us k t then p q e =
+      parts-next n out (head k ++ text_by listing t) (pair_texts_by listing head (pairs ks ts)) (pair_texts_by listing head (pairs ls us)) then
+      (λ j. pair_texts_by listing head (pairs (p j) (q j))) e
 
-pub pairs-end : (listing : Rose Own → List Element) (n : ℕ) (out : List ℕ) (head : Key → List ℕ) (ks : List Key) (ts : List FrozenTree) → min (length ks) (length ts) ≤ n
-    → out ++ joined_from n (pair_texts_by listing head (pairs (drop n ks) (drop n ts))) ≡ out
-pairs-end listing n out head ks ts l =
-    parts-end n out (pair_texts_by listing head (pairs (drop n ks) (drop n ts))) (ap (pair_texts_by listing head) (pairs-short ks ts n l))
+none_paired : (listing : Rose Own → List Element) (head : Key → List ℕ) (ks : List Key) → pair_texts_by listing head (pairs ks []) ≡ []
+none_paired listing head [] = refl
+none_paired listing head (k ∷ ks) = refl
 
-module _ (listing : Rose Own → List Element) (w : ℕ) (out : List ℕ) (names : List (List ℕ)) (os : List (Option FrozenTree)) (i : ℕ) (name : List ℕ) (p : slice_get names i ≡ Some name) where
-  -- a field that was given is written
-  pub fields-next : (t : FrozenTree) (then : List ℕ) → slice_get os i ≡ Some (Some t) → then ≡ out ++ (separator w ++ (field_head name ++ text_by listing t))
-      → then ++ joined_from (w + 1) (field_texts_by listing (drop (i + 1) names) (slots (drop (i + 1) os))) ≡ out ++ joined_from w (field_texts_by listing (drop i names) (slots (drop i os)))
-  fields-next t then q e =
-      parts-next w out (field_head name ++ text_by listing t) (field_texts_by listing (drop i names) (slots (drop i os)))
-      (field_texts_by listing (drop (i + 1) names) (slots (drop (i + 1) os))) then
-      (λ j. field_texts_by listing (drop_at names i name p j) (slots (drop_at os i (Some t) q j))) e
-
-  -- and one that wasn't is not
-  pub fields-skip : slice_get os i ≡ Some None → field_texts_by listing (drop i names) (slots (drop i os)) ≡ field_texts_by listing (drop (i + 1) names) (slots (drop (i + 1) os))
-  fields-skip q = λ j. field_texts_by listing (drop_at names i name p j) (slots (drop_at os i None q j))
+-- no key is left, or no value
+pub pairs-end : (listing : Rose Own → List Element) (n : ℕ) (out : List ℕ) (head : Key → List ℕ) (ks : List Key) (ts : List FrozenTree) → (ks ≡ []) ⊎ (ts ≡ [])
+    → out ++ joined_from n (pair_texts_by listing head (pairs ks ts)) ≡ out
+pairs-end listing n out head ks ts (inl e) =
+    parts-end n out (pair_texts_by listing head (pairs ks ts)) (ap (λ l. pair_texts_by listing head (pairs l ts)) e)
+pairs-end listing n out head ks ts (inr e) =
+    parts-end n out (pair_texts_by listing head (pairs ks ts)) (ap (λ l. pair_texts_by listing head (pairs ks l)) e ∙ none_paired listing head ks)
 
 none_given : (listing : Rose Own → List Element) (names : List (List ℕ)) → field_texts_by listing names end ≡ []
 none_given listing [] = refl
 none_given listing (n ∷ ns) = refl
 
-pub fields-short : (listing : Rose Own → List Element) (names : List (List ℕ)) (os : List (Option FrozenTree)) (i : ℕ) → min (length names) (length os) ≤ i
-    → field_texts_by listing (drop i names) (slots (drop i os)) ≡ []
-fields-short listing [] os i l = ap (λ ns. field_texts_by listing ns (slots (drop i os))) (drop_of_length-le [] {i = i} (omega arith))
-fields-short listing (n ∷ ns) [] i l = ap (λ xs. field_texts_by listing (drop i (n ∷ ns)) (slots xs)) (drop_of_length-le [] {i = i} (omega arith)) ∙ none_given listing (drop i (n ∷ ns))
-fields-short listing (n ∷ ns) (o ∷ os) zero l = absurd (omega arith)
-fields-short listing (n ∷ ns) (o ∷ os) (suc i) l = fields-short listing ns os i (omega arith)
+-- no name is left, or no field
+pub fields-end : (listing : Rose Own → List Element) (names : List (List ℕ)) (os : List (Option FrozenTree)) → (names ≡ []) ⊎ (os ≡ []) → field_texts_by listing names (slots os) ≡ []
+fields-end listing names os (inl e) = ap (λ l. field_texts_by listing l (slots os)) e
+fields-end listing names os (inr e) = ap (λ l. field_texts_by listing names (slots l)) e ∙ none_given listing names
 
 leaf-coherent : (l : Leaf) → IsCoherentLeaf l → leaf_text walked l ≡ leaf_text flat l
 leaf-coherent plain.None h = refl

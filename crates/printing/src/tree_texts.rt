@@ -1,6 +1,5 @@
 //! The text of a frozen value, for a report: without ticks, and without a limit of size.
-ghost use Rattle.std.specs.Prelude.{◌≡◌, ◌<◌, ◌++◌, Some, length, slice_get, string_bytes, IfOk};
-ghost use Rattle.std.specs.Prelude.{OnOk};
+ghost use Rattle.std.specs.Prelude.{◌≡◌, ◌++◌, string_bytes, IfOk, OnOk};
 ghost use Rattle.depsets.specs.Listed.{walked};
 ghost use Rattle.values.specs.Tree.{trees, pairs, slots};
 ghost use Rattle.values.specs.View.{tree_of, node_branch};
@@ -12,7 +11,7 @@ use indexmap::IndexSet;
 use leaf_texts::{end_of_tuple, put_field_head, put_key, put_leaf, put_provider, put_separator};
 use plain::Text;
 use std::alloc::{AllocError, Global};
-use values::{Frozen, Held, Key, Node, key_at, tree_at};
+use values::{Frozen, Held, Key, Node};
 
 /// The text of a frozen value, as a report prints it. A depset is printed by its whole listing.
 ///
@@ -39,22 +38,6 @@ fn put_head(out: &mut String, key: &Key) -> Result<(), AllocError>
     put_key(out, key)?;
     out.push_str(": ")?;
     Ok(())
-}
-
-/// The field at a place.
-fn slot_at(slots: &[Option<Frozen>], place: usize) -> &Option<Frozen>
-    requires { place < length slots.now }
-    ensures { slice_get slots.now place ≡ Some result.now }
-{
-    &slots[place]
-}
-
-/// The name at a place.
-fn name_at(names: &[Text], place: usize) -> &Text
-    requires { place < length names.now }
-    ensures { slice_get names.now place ≡ Some result.now }
-{
-    &names[place]
 }
 
 /// Appends a frozen value.
@@ -113,9 +96,9 @@ fn put_trees(alloc: Global, out: &mut String, items: &[Frozen]) -> Result<(), Al
     ensures { OnOk result (string_bytes out.new
         ≡ string_bytes out.old ++ joined (texts_by walked (trees items.now))) }
 {
-    for i in 0..items.len() {
-        put_separator(out, i)?;
-        put_tree(alloc, out, tree_at(items, i))?;
+    for (place, tree) in items.iter().enumerate() {
+        put_separator(out, place)?;
+        put_tree(alloc, out, tree)?;
     }
     Ok(())
 }
@@ -132,10 +115,10 @@ fn put_pairs(
         ≡ string_bytes out.old ++ joined (pair_texts_by walked entry_head
         (pairs keys.now.keys values.now))) }
 {
-    for i in 0..keys.len().min(values.len()) {
-        put_separator(out, i)?;
-        put_head(out, key_at(keys, i))?;
-        put_tree(alloc, out, tree_at(values, i))?;
+    for (place, (key, tree)) in keys.as_slice().iter().zip(values).enumerate() {
+        put_separator(out, place)?;
+        put_head(out, key)?;
+        put_tree(alloc, out, tree)?;
     }
     Ok(())
 }
@@ -152,9 +135,8 @@ fn put_fields(
         ≡ string_bytes out.old ++ joined (field_texts_by walked names.now (slots fields.now))) }
 {
     let mut written = 0usize;
-    for i in 0..names.len().min(fields.len()) {
-        let name = name_at(names, i);
-        if let Some(tree) = slot_at(fields, i) {
+    for (name, field) in names.iter().zip(fields) {
+        if let Some(tree) = field {
             put_separator(out, written)?;
             put_field_head(out, name)?;
             put_tree(alloc, out, tree)?;

@@ -1,13 +1,16 @@
 use Rattle.std.specs.Prelude.{codes}
-use Rattle.std.proofs.Common.{◌≡◌, ◌+◌, ◌++◌, Some, drop, string_bytes, arith, refl, sym, ap, ◌∙◌, append_assoc}
+use Rattle.std.proofs.Common.{◌≡◌, ◌+◌, ◌++◌, Some, None, drop, length, string_bytes, arith, refl, sym, ap, ◌∙◌, append_assoc}
+use Rattle.std.specs.Iterator.Adapters.{zip_first, zip_second, enumerate_source, enumerate_count}
+use Rattle.std.specs.Slice.Iter.{iter_rest}
+use Rattle.std.proofs.lemmas.Option.{slice_get_read}
+use Rattle.std.proofs.lemmas.Slice.Zip.{either_empty_from_Zip}
 use Rattle.depsets.specs.Listed.{walked}
 use Rattle.values.specs.Tree.{trees, pairs, slots, weight, branch_weight, weights, pair_weights, slot_weights}
 use Rattle.values.specs.View.{tree_of, node_branch}
 use Rattle.leaf_texts.specs.Texts.{separator, joined, joined_from, tuple_end, entry_head, field_head}
-use Rattle.printing.specs.TreeTexts.{how_many, text_by, branch_text_by, texts_by, field_texts_by}
-use Rattle.printing.proofs.TreeTextLemmas.{weight_at, pair_weight_at, slot_weight_at, fields-next, fields-skip, fields-short, how_many-trees, trees-next, trees-end, pairs-next, pairs-end}
+use Rattle.printing.specs.TreeTexts.{how_many, text_by, branch_text_by, texts_by, pair_texts_by, field_texts_by}
+use Rattle.printing.proofs.TreeTextLemmas.{weight_at, fields-end, how_many-trees, trees-next, trees-end, pairs-next, pairs-end}
 use Rattle.leaf_texts.proofs.TextLemmas.{parts-end}
-use Rattle.printing.proofs.tree_texts.+text.Goals.{put_fields-in-Some+in_ok-put_separator+in_ok-put_field_head+in_ok-put_tree, put_fields-in_default}
 use Rattle.printing.proofs.tree_texts.+text.Goals as goal
 
 -- each part weighs less than the whole
@@ -44,14 +47,19 @@ put_node-put_fields-requires t c =
 
 pub put_trees-put_tree-requires : goal.put_trees-put_tree-requires
 put_trees-put_tree-requires t c =
-    let h = weight_at c.args.items.now c.loop-i.i c.tree_at.result.now c.tree_at.ensures in
+    let xs = c.args.items.now in
+    let there = slice_get_read xs (length xs) c.loop-place.place c.index-items-place.result refl c.loop-place-test.true c.index-items-place.is in
+    let h = weight_at xs c.loop-place.place c.index-items-place.result there in
     (omega (arith, c.decreases, h), tt)
 
 pub put_pairs-put_tree-requires : goal.put_pairs-put_tree-requires
 put_pairs-put_tree-requires t c =
-    let h = pair_weight_at c.args.keys.now.keys c.args.values.now c.loop-i.i c.tree_at.result.now
-    (omega (arith, c.loop-i-test.true, c.min-i-end.ensures, c.len.ensures.len)) c.tree_at.ensures in
-    (omega (arith, c.decreases, h), tt)
+    let step = c.in-Some.ensures.steps in
+    let next = enumerate_source c.next.new.self in
+    let now = enumerate_source c.loop-place.place-iterator in
+    let h : pair_weights (pairs (iter_rest (zip_first now)) (iter_rest (zip_second now))) ≡ weight c.in-Some.tree.now + pair_weights (pairs (iter_rest (zip_first next)) (iter_rest (zip_second next))) =
+    λ j. pair_weights (pairs (step.0.0 j) (step.0.1 j)) in
+    (omega (arith, c.decreases, c.loop-place.invariant.light, h), tt)
 
 -- a tuple, with the comma of a single item
 pub put_node-returns-in_ok-push_str-in-Tuple-2 : goal.put_node-returns-in_ok-push_str-in-Tuple-2
@@ -68,76 +76,63 @@ put_node-returns-in_ok-push_str-in-Tuple-2 t c =
     ∙ ap (λ o. o ++ last) (append_assoc out (codes "(") inner) ∙ append_assoc out (codes "(" ++ inner) last
     ∙ ap (λ n. out ++ branch_text_by walked (node_branch n)) (sym c.in-Tuple.is)
 
-pub put_trees-loop-i-init : goal.put_trees-loop-i-init
-put_trees-loop-i-init t c = refl
+pub put_trees-loop-place-init : goal.put_trees-loop-place-init
+put_trees-loop-place-init t c = refl
 
-pub put_trees-loop-i-preserved : goal.put_trees-loop-i-preserved
-put_trees-loop-i-preserved t c =
-    let out = string_bytes c.loop-i.out in
-    let one = text_by walked c.tree_at.result.now in
-    let written = c.in_ok-put_tree.ensures ∙ ap (λ o. o ++ one) c.in_ok-put_separator.ensures ∙ append_assoc out (separator c.loop-i.i) one in
-    trees-next walked c.loop-i.i out c.args.items.now c.tree_at.result.now (string_bytes c.put_tree.new.out) c.tree_at.ensures written
-    ∙ c.loop-i.invariant
+pub put_trees-loop-place-preserved : goal.put_trees-loop-place-preserved
+put_trees-loop-place-preserved t c =
+    let xs = c.args.items.now in
+    let i = c.loop-place.place in
+    let tree = c.index-items-place.result in
+    let there = slice_get_read xs (length xs) i tree refl c.loop-place-test.true c.index-items-place.is in
+    let out = string_bytes c.loop-place.out in
+    let one = text_by walked tree in
+    let written = c.in_ok-put_tree.ensures ∙ ap (λ o. o ++ one) c.in_ok-put_separator.ensures ∙ append_assoc out (separator i) one in
+    trees-next walked i out xs tree (string_bytes c.put_tree.new.out) there written
+    ∙ c.loop-place.invariant
 
 pub put_trees-returns : goal.put_trees-returns
 put_trees-returns t c =
-    sym (trees-end walked c.loop-i.i (string_bytes c.loop-i.out) c.args.items.now c.loop-i-test.false) ∙ c.loop-i.invariant
+    sym (trees-end walked c.loop-place.place (string_bytes c.loop-place.out) c.args.items.now (omega (arith, c.loop-place-test.false))) ∙ c.loop-place.invariant
 
-pub put_pairs-loop-i-init : goal.put_pairs-loop-i-init
-put_pairs-loop-i-init t c = refl
-
-pub put_pairs-loop-i-preserved : goal.put_pairs-loop-i-preserved
-put_pairs-loop-i-preserved t c =
-    let out = string_bytes c.loop-i.out in
-    let before = separator c.loop-i.i in
-    let head = entry_head c.key_at.result.now in
-    let one = text_by walked c.tree_at.result.now in
+pub put_pairs-loop-place-preserved : goal.put_pairs-loop-place-preserved
+put_pairs-loop-place-preserved t c =
+    let step = c.in-Some.ensures.steps in
+    let n = enumerate_count c.loop-place.place-iterator in
+    let now = enumerate_source c.loop-place.place-iterator in
+    let next = enumerate_source c.next.new.self in
+    let ks = iter_rest (zip_first now) in let ls = iter_rest (zip_first next) in
+    let ts = iter_rest (zip_second now) in let us = iter_rest (zip_second next) in
+    let key = c.in-Some.key.now in
+    let tree = c.in-Some.tree.now in
+    let out = string_bytes c.loop-place.out in
+    let before = separator c.in-Some.place in
+    let head = entry_head key in
+    let one = text_by walked tree in
     let written = c.in_ok-put_tree.ensures ∙ ap (λ o. o ++ one) (c.in_ok-put_head.ensures ∙ ap (λ o. o ++ head) c.in_ok-put_separator.ensures)
-    ∙ append_assoc (out ++ before) head one ∙ append_assoc out before (head ++ one) in
-    pairs-next walked c.loop-i.i out entry_head c.args.keys.now.keys c.args.values.now c.key_at.result.now c.tree_at.result.now
-    (string_bytes c.put_tree.new.out) c.key_at.ensures c.tree_at.ensures written
-    ∙ c.loop-i.invariant
+    ∙ append_assoc (out ++ before) head one ∙ append_assoc out before (head ++ one)
+    ∙ ap (λ m. out ++ (separator m ++ (head ++ one))) step.1 in
+    let h : pair_weights (pairs ks ts) ≡ weight tree + pair_weights (pairs ls us) = λ j. pair_weights (pairs (step.0.0 j) (step.0.1 j)) in
+    record {
+      light = omega (arith, c.loop-place.invariant.light, h);
+      text =
+          ap (λ m. string_bytes c.put_tree.new.out ++ joined_from m (pair_texts_by walked entry_head (pairs ls us))) step.2
+          ∙ pairs-next walked n out entry_head ks ls ts us key tree (string_bytes c.put_tree.new.out) step.0.0 step.0.1 written
+          ∙ c.loop-place.invariant.text;
+    }
 
 pub put_pairs-returns : goal.put_pairs-returns
 put_pairs-returns t c =
-    sym (pairs-end walked c.loop-i.i (string_bytes c.loop-i.out) entry_head c.args.keys.now.keys c.args.values.now
-    (omega (arith, c.loop-i-test.false, c.min-i-end.ensures, c.len.ensures.len)))
-    ∙ c.loop-i.invariant
-
-pub put_fields-put_tree-requires : goal.put_fields-put_tree-requires
-put_fields-put_tree-requires t c =
-    let h = slot_weight_at c.args.fields.now c.loop-i.i c.in-Some.tree (c.slot_at.ensures ∙ ap Some c.in-Some.is) in
-    (omega (arith, c.decreases, h), tt)
-
-pub put_fields-loop-i-preserved : goal.put_fields-loop-i-preserved
-put_fields-loop-i-preserved t c =
-    let names = c.args.names.now in
-    let os = c.args.fields.now in
-    let i = c.loop-i.i in
-    let n = c.loop-i.written in
-    let out = string_bytes c.loop-i.out in
-    let name = c.name_at-name.result.now in
-    let rest = field_texts_by walked (drop (i + 1) names) (slots (drop (i + 1) os)) in
-    elim c.match-slot_at.branch [
-      | put_fields-in-Some+in_ok-put_separator+in_ok-put_field_head+in_ok-put_tree w ↦ (
-        omega (arith, c.loop-i.invariant.0, w.written-is),
-        (λ j. string_bytes (w.out-is j) ++ joined_from (w.written-is j) rest)
-            ∙ fields-next walked n out names os i name c.name_at-name.ensures w.in-Some.tree (string_bytes w.put_tree.new.out)
-            (c.slot_at.ensures ∙ ap Some w.in-Some.is)
-            (w.in_ok-put_tree.ensures ∙ ap (λ o. o ++ text_by walked w.in-Some.tree) (w.in_ok-put_field_head.ensures ∙ ap (λ o. o ++ field_head name) w.in_ok-put_separator.ensures)
-            ∙ append_assoc (out ++ separator n) (field_head name) (text_by walked w.in-Some.tree) ∙ append_assoc out (separator n) (field_head name ++ text_by walked w.in-Some.tree))
-            ∙ c.loop-i.invariant.1,
-      )
-      | put_fields-in_default w ↦ (
-        omega (arith, c.loop-i.invariant.0, w.written-is),
-        (λ j. string_bytes (w.out-is j) ++ joined_from (w.written-is j) rest)
-            ∙ ap (λ ts. out ++ joined_from n ts) (sym (fields-skip walked n out names os i name c.name_at-name.ensures (c.slot_at.ensures ∙ ap Some w.in_default.is)))
-            ∙ c.loop-i.invariant.1,
-      )
-    ]
+    let rest = enumerate_source c.loop-place.place-iterator in
+    let spent = either_empty_from_Zip rest (enumerate_source c.next.new.self) None refl c.in-None.ensures.steps.0 in
+    sym (pairs-end walked (enumerate_count c.loop-place.place-iterator) (string_bytes c.loop-place.out) entry_head (iter_rest (zip_first rest)) (iter_rest (zip_second rest)) spent)
+    ∙ c.loop-place.invariant.text
 
 pub put_fields-returns : goal.put_fields-returns
 put_fields-returns t c =
-    sym (parts-end c.loop-i.written (string_bytes c.loop-i.out) (field_texts_by walked (drop c.loop-i.i c.args.names.now) (slots (drop c.loop-i.i c.args.fields.now)))
-    (fields-short walked c.args.names.now c.args.fields.now c.loop-i.i (omega (arith, c.loop-i-test.false, c.min-i-end.ensures))))
-    ∙ c.loop-i.invariant.1
+    let rest = c.loop-name.name-iterator in
+    let names = iter_rest (zip_first rest) in
+    let os = iter_rest (zip_second rest) in
+    let spent = either_empty_from_Zip rest c.next.new.self None refl c.in-None.ensures.steps in
+    sym (parts-end c.loop-name.written (string_bytes c.loop-name.out) (field_texts_by walked names (slots os)) (fields-end walked names os spent))
+    ∙ c.loop-name.invariant.text
