@@ -28,7 +28,7 @@ module _ {X : Type 0} where
   one_more : (xs : List X) (i : ℕ) (x : X) → i < length xs → x ≡ get_or xs i x → take (i + 1) xs ≡ take i xs ++ x ∷ []
   one_more xs i x low p = take_more xs i x low ∙ ap (λ y. take i xs ++ y ∷ []) (sym p)
 
-  one_less : (xs : List X) (i : ℕ) (x : X) → i < length xs → x ≡ get_or xs i x → x ∷ drop (i + 1) xs ≡ drop i xs
+  pub one_less : (xs : List X) (i : ℕ) (x : X) → i < length xs → x ≡ get_or xs i x → x ∷ drop (i + 1) xs ≡ drop i xs
   one_less xs i x low p = ap (λ y. y ∷ drop (i + 1) xs) p ∙ sym (drop_more xs i x low)
 
   pub take-next : (xs : List X) (i : ℕ) (x y : X) (old new : List X) → i < length xs → x ≡ get_or xs i x → old ≡ take i xs → new ≡ old ++ y ∷ [] → y ≡ x → new ≡ take (i + 1) xs

@@ -41,8 +41,8 @@ fn fill(
     ensures { OnOk result
         (buckets.new.items ≡ put_all leaders.now buckets.old.items 0 owned.now) }
 {
-    for i in 0..owned.len() {
-        put(buckets, leader_at(leaders, i), &owned[i], i)?;
+    for (place, one) in owned.iter().enumerate() {
+        put(buckets, leader_at(leaders, place), one, place)?;
     }
     Ok(())
 }

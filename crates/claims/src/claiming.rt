@@ -1,7 +1,6 @@
 //! What actions declare: as it comes, and then in order, by path, then by label, then by place in
 //! the list.
-ghost use Rattle.std.specs.Prelude.{◌≡◌, ◌+◌, ◌++◌, ◌∷◌, ◌<◌, [], Some, IfOk, OnOk, length};
-ghost use Rattle.std.specs.Prelude.{slice_get};
+ghost use Rattle.std.specs.Prelude.{◌≡◌, ◌++◌, ◌∷◌, [], IfOk, OnOk};
 ghost use Rattle.claims.specs.Claims.{claim_on, claims_of, claims_from, in_order};
 
 use crate::owned::Owned;
@@ -24,8 +23,8 @@ pub(crate) fn all_claims(alloc: Global, owned: &[Owned<'_>]) -> Result<Vec<Claim
     ensures { IfOk result (λ v. v.items ≡ claims_from 0 owned.now) }
 {
     let mut claims = Vec::new(alloc);
-    for i in 0..owned.len() {
-        claim_all(&mut claims, i, item_at(owned, i))?;
+    for (place, one) in owned.iter().enumerate() {
+        claim_all(&mut claims, place, one)?;
     }
     Ok(claims)
 }
@@ -57,8 +56,8 @@ fn claim_outputs(
         ++ claims_of place (record { label = label.now; action = action.now })) }
 {
     let files = action.outputs.as_slice();
-    for i in 0..files.len() {
-        add_claim(claims, place, label, item_at(files, i))?;
+    for file in files {
+        add_claim(claims, place, label, file)?;
     }
     Ok(())
 }
@@ -77,12 +76,4 @@ fn add_claim(
     let label = label.share()?;
     claims.push(Claim { path, label, place })?;
     Ok(())
-}
-
-/// The item at a place.
-fn item_at<T>(items: &[T], place: usize) -> &T
-    requires { place < length items.now }
-    ensures { slice_get items.now place ≡ Some result.now }
-{
-    &items[place]
 }

@@ -35,8 +35,8 @@ pub(crate) fn leader_at(leaders: &[usize], place: usize) -> usize
 pub(crate) fn all_lead(leaders: &[usize]) -> bool
     ensures { result ≡ all_lead 0 leaders.now }
 {
-    for i in 0..leaders.len() {
-        if leaders[i] != i {
+    for (place, leader) in leaders.iter().enumerate() {
+        if *leader != place {
             return false;
         }
     }

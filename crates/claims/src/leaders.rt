@@ -102,8 +102,8 @@ pub(crate) fn leaders(
         places: IndexMap::new(alloc),
     };
     let mut leaders = Vec::new(alloc);
-    for i in 0..owned.len() {
-        let leader = firsts.leader(alloc, &owned[i], i, is_marked(marks, i))?;
+    for (place, one) in owned.iter().enumerate() {
+        let leader = firsts.leader(alloc, one, place, is_marked(marks, place))?;
         leaders.push(leader)?;
     }
     Ok(leaders)

@@ -86,9 +86,9 @@ pub(crate) fn tellings(
     ensures { IfOk result (λ v. v.items ≡ tellings_from leaders.now sets.now 0 owned.now) }
 {
     let mut tellings = Vec::new(alloc);
-    for i in 0..owned.len() {
-        let set = set_at(sets, leader_at(leaders, i));
-        tellings.push(telling_by(alloc, owned[i].label(), set)?)?;
+    for (place, one) in owned.iter().enumerate() {
+        let set = set_at(sets, leader_at(leaders, place));
+        tellings.push(telling_by(alloc, one.label(), set)?)?;
     }
     Ok(tellings)
 }

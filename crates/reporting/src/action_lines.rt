@@ -152,8 +152,8 @@ pub(crate) fn put_actions(
     ensures { OnOk result (string_bytes out.new
         ≡ string_bytes out.old ++ action_lines walked tellings.now actions.now) }
 {
-    for i in 0..actions.len() {
-        put_at_place(alloc, out, &actions[i], tellings, i)?;
+    for (i, action) in actions.iter().enumerate() {
+        put_at_place(alloc, out, action, tellings, i)?;
     }
     Ok(())
 }

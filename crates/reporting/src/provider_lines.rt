@@ -1,6 +1,5 @@
 //! The lines of providers.
-ghost use Rattle.std.specs.Prelude.{◌≡◌, ◌<◌, ◌++◌, Some, codes, length, slice_get, string_bytes};
-ghost use Rattle.std.specs.Prelude.{OnOk};
+ghost use Rattle.std.specs.Prelude.{◌≡◌, ◌++◌, codes, string_bytes, OnOk};
 ghost use Rattle.std.specs.List.{flat_map};
 ghost use Rattle.depsets.specs.Listed.{walked};
 ghost use Rattle.values.specs.Tree.{slots};
@@ -41,24 +40,7 @@ fn put_field(
     }
 }
 
-/// The field at a place.
-fn slot_at(slots: &[Option<Frozen>], place: usize) -> &Option<Frozen>
-    requires { place < length slots.now }
-    ensures { slice_get slots.now place ≡ Some result.now }
-{
-    &slots[place]
-}
-
-/// The name at a place.
-fn name_at(names: &[Text], place: usize) -> &Text
-    requires { place < length names.now }
-    ensures { slice_get names.now place ≡ Some result.now }
-{
-    &names[place]
-}
-
 /// Appends the fields that were given, each after its name.
-#[tactic(auto, using(crate::proofs::Fields::field_next))]
 fn put_fields(
     alloc: Global,
     out: &mut String,
@@ -68,8 +50,8 @@ fn put_fields(
     ensures { OnOk result (string_bytes out.new
         ≡ string_bytes out.old ++ fields_text walked names.now (slots fields.now)) }
 {
-    for i in 0..names.len().min(fields.len()) {
-        put_field(alloc, out, name_at(names, i), slot_at(fields, i))?;
+    for (name, field) in names.iter().zip(fields) {
+        put_field(alloc, out, name, field)?;
     }
     Ok(())
 }

@@ -25,8 +25,8 @@ fn put_texts(out: &mut String, texts: &[Text]) -> Result<(), AllocError>
     ensures { OnOk result (string_bytes out.new
         ≡ string_bytes out.old ++ joined (map quoted texts.now)) }
 {
-    for i in 0..texts.len() {
-        put_string_at(out, i, texts[i].as_str())?;
+    for (i, text) in texts.iter().enumerate() {
+        put_string_at(out, i, text.as_str())?;
     }
     Ok(())
 }
@@ -36,8 +36,8 @@ fn put_paths(out: &mut String, files: &[Shared<FileRef>]) -> Result<(), AllocErr
     ensures { OnOk result (string_bytes out.new
         ≡ string_bytes out.old ++ joined (map quoted (map path_of files.now))) }
 {
-    for i in 0..files.len() {
-        put_string_at(out, i, files[i].get().path.as_str())?;
+    for (i, file) in files.iter().enumerate() {
+        put_string_at(out, i, file.get().path.as_str())?;
     }
     Ok(())
 }

@@ -2,7 +2,7 @@ use Rattle.std.proofs.Common.{◌∙◌}
 use Rattle.claims.proofs.ClaimLemmas.{actions-next}
 use Rattle.claims.proofs.claiming.all_claims.Goals as goal
 
-pub loop-i-preserved : goal.loop-i-preserved
-loop-i-preserved c =
-    actions-next c.args.owned.now c.loop-i.i c.item_at.result.now c.loop-i.claims.items c.claim_all.new.claims.items c.item_at.ensures c.in_ok-claim_all.ensures
-    ∙ c.loop-i.invariant
+pub loop-place-preserved : goal.loop-place-preserved
+loop-place-preserved c =
+    actions-next c.args.owned.now c.loop-place.place c.index-owned-place.result c.loop-place.claims.items c.claim_all.new.claims.items c.loop-place-test.true c.index-owned-place.is c.in_ok-claim_all.ensures
+    ∙ c.loop-place.invariant
