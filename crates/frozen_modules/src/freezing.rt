@@ -1,6 +1,5 @@
 //! Freezing what a module leaves.
-ghost use Rattle.std.specs.Prelude.{◌≡◌, ◌++◌, ◌∷◌, [], ◌<◌, Ok, Some, OnOk, MatchResult, length};
-ghost use Rattle.std.specs.Prelude.{slice_get};
+ghost use Rattle.std.specs.Prelude.{◌≡◌, ◌++◌, ◌∷◌, [], Ok, OnOk, MatchResult};
 ghost use Rattle.ticks.specs.Ticking.{Says, FaultOr};
 ghost use Rattle.values.specs.Visits.{all_of};
 ghost use Rattle.visits.specs.Freeze.{freeze_at, frozen_slot};
@@ -31,14 +30,6 @@ fn freeze_slot(
     }
 }
 
-/// The global at a place.
-fn slot_at(slots: &[Option<Value>], place: usize) -> &Option<Value>
-    requires { place < length slots.now }
-    ensures { slice_get slots.now place ≡ Some result.now }
-{
-    &slots[place]
-}
-
 /// Puts what a global has last.
 fn keep_slot(kept: &mut Vec<Option<Frozen>>, tree: Option<Frozen>) -> Result<(), AllocError>
     ensures { OnOk result (kept.new.items ≡ kept.old.items ++ tree ∷ []) }
@@ -63,21 +54,13 @@ pub(crate) fn freeze_globals(
         (all_of (frozen_slot (freeze_at VISITED_LEVELS heap.now)) globals.now ticks.old) e) }
 {
     let mut kept = Vec::with_capacity(alloc, globals.len())?;
-    for i in 0..globals.len() {
-        match freeze_slot(alloc, slot_at(globals, i), heap, ticks) {
+    for slot in globals {
+        match freeze_slot(alloc, slot, heap, ticks) {
             Ok(tree) => keep_slot(&mut kept, tree)?,
             Err(broken) => return Err(broken),
         }
     }
     Ok(kept)
-}
-
-/// The value at a place.
-fn value_at(values: &[Value], place: usize) -> &Value
-    requires { place < length values.now }
-    ensures { slice_get values.now place ≡ Some result.now }
-{
-    &values[place]
 }
 
 /// The frozen value of a default.
@@ -103,8 +86,8 @@ pub(crate) fn freeze_items(
         ticks.new }
 {
     let mut kept = Sequence::with_capacity(alloc, values.len())?;
-    for i in 0..values.len() {
-        match freeze_value(alloc, value_at(values, i), heap, ticks) {
+    for value in values {
+        match freeze_value(alloc, value, heap, ticks) {
             Ok(tree) => kept.push(tree)?,
             Err(broken) => return Err(broken),
         }
