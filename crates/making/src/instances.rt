@@ -17,7 +17,7 @@ ghost use Rattle.operations.specs.Instances.{constructed, unless_placed, with_fi
 ghost use Rattle.operations.specs.Instances.{with_new_files, info_with, files_in, only_files};
 
 use crate::depset_calls::new_depset;
-use crate::places::{FEW, FirstPlaces, name_at, place_named};
+use crate::places::{FEW, FirstPlaces, place_named};
 use operands::Operand;
 use operations::{Arguments, State};
 use plain::{Shared, Text};
@@ -133,8 +133,8 @@ fn given_fields(
 {
     let places = FirstPlaces::new(alloc, names)?;
     let mut slots = Fields::with_capacity(alloc, fields.len())?;
-    for place in 0..fields.len() {
-        put_field(name_at(fields, place), &places, values, &mut slots)?;
+    for field in fields {
+        put_field(field, &places, values, &mut slots)?;
     }
     Ok(slots)
 }

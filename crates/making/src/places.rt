@@ -101,8 +101,8 @@ fn put<'a>(
 pub(crate) fn place_named(name: &str, names: &[Text]) -> Option<usize>
     ensures { result ≡ place_named name.now names.now }
 {
-    for place in 0..names.len() {
-        if name == name_at(names, place).as_str() {
+    for (place, other) in names.iter().enumerate() {
+        if name == other.as_str() {
             return Some(place);
         }
     }
@@ -110,7 +110,7 @@ pub(crate) fn place_named(name: &str, names: &[Text]) -> Option<usize>
 }
 
 /// The name at a place.
-pub(crate) fn name_at(names: &[Text], place: usize) -> &Text
+fn name_at(names: &[Text], place: usize) -> &Text
     requires { place < length names.now }
     ensures { slice_get names.now place ≡ Some result.now }
 {
