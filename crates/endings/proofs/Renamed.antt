@@ -5,7 +5,6 @@ use Rattle.values.specs.Tree.{Trees, Pairs, Slots, dict, instance, trees, pairs,
 use Rattle.values.specs.View.{FrozenTree, FrozenBranch}
 use Rattle.leaves.specs.declared.leaf.Provider.{Provider}
 use Rattle.keys.specs.declared.key.Key.{Key}
-use Rattle.printing.proofs.TreeTextLemmas.{slot_weight_at}
 use Rattle.evaluation.specs.Evaluated.{first_of}
 use Rattle.evaluation.specs.Naming.{Naming, named, slot_named, provider_named, trees_named, pairs_named, slots_named}
 
@@ -73,6 +72,13 @@ weights_cut (k ∷ ks) [] zero h = refl
 weights_cut (k ∷ ks) [] (suc n) h = absurd (omega (arith, h))
 weights_cut (k ∷ ks) (t ∷ ts) zero h = absurd (omega (arith, h))
 weights_cut (k ∷ ks) (t ∷ ts) (suc n) h = let e : n ≡ min (length ks) (length ts) = omega (arith, h) in ap (λ w. weight t + w) (weights_cut ks ts n e)
+
+slot_weight_at : (os : List (Option FrozenTree)) (i : ℕ) (t : FrozenTree) → slice_get os i ≡ Some (Some t) → weight t ≤ slot_weights (slots os)
+slot_weight_at [] i t p = absurd (cc)
+slot_weight_at (None ∷ os) zero t p = absurd (cc)
+slot_weight_at (Some u ∷ os) zero t p = let q : u ≡ t = cc in let e = ap weight q in omega arith
+slot_weight_at (None ∷ os) (suc i) t p = let e = slot_weight_at os i t p in omega arith
+slot_weight_at (Some u ∷ os) (suc i) t p = let e = slot_weight_at os i t p in omega arith
 
 pub slot_at : (os : List (Option FrozenTree)) (i : ℕ) (o : Option FrozenTree) → slice_get os i ≡ Some o → slot_weights (slots (o ∷ [])) ≤ slot_weights (slots os)
 slot_at os i None h = omega arith
