@@ -21,7 +21,7 @@ same_truth _ _ = false
 -- Two elements are the same where their types and contents are: a File's content is its path and
 -- its owner, a label's its text. So `True` and `1` are two elements, and so are a string and a
 -- label.
--- (Starlark's specification, "Comparison": values of different types are unequal.)
+-- (Starlark's specification, "Comparisons": values of different types are unequal.)
 abbrev pub same_element : Element → Element → Bool
 same_element (Text a) (Text b) = bytes_eq a b
 same_element (Number a) (Number b) = int_eq a b

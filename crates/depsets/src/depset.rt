@@ -27,12 +27,13 @@ pub const LEVELS: u32 = 1000;
 
 /// What tells depsets apart: who made it, and its number among those of that maker.
 ///
-/// The owner is the path of the file or the label of the target whose evaluation made the depset.
+/// The owner is the path of the file or the label of the target whose evaluation made the depset,
+/// or the label of the source file whose depset it is.
 #[derive(PartialEq, Eq, Hash, Drop)]
 pub struct Id {
-    /// The path of a file, or the label of a target.
+    /// The path of a file, or the label of a target or of a source file.
     pub owner: Text,
-    /// Its number among the depsets of that owner.
+    /// Its number among the depsets of that owner, from 1; 0 where no call made it.
     pub serial: u64,
 }
 

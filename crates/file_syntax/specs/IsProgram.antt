@@ -149,9 +149,8 @@ abbrev mutual
   AreSteps p g n no_steps = Unit {0}
   AreSteps p g n (step k st ss) = IsStatement p g n st × AreSteps p g n ss × (1 ≤ k)
 
--- the numbers of the names that a statement of the top level binds, in the order of the text: those
--- of a `load`, which stand for what another module gives, and those of an assignment or a `def`,
--- which are the file's own
+-- the numbers of the names that a `load` binds, in the order of the text, which stand for what
+-- another module gives; any other statement has none of these
 abbrev pub loaded_numbers : Statement → List ℕ
 loaded_numbers (load m is) = map (λ (i : Loaded). i.binds) is
 loaded_numbers st = []

@@ -90,8 +90,8 @@ defaults_last [] = true
 defaults_last (p ∷ ps) = elim (has_default p)
     [ true ↦ list_all has_default ps | false ↦ defaults_last ps ]
 
--- the head of a function: its parameters are distinct, those with defaults come last, and none is
--- predeclared
+-- the head of a function: its parameters are distinct, those with defaults come last, none is
+-- predeclared, and no default breaks a rule
 abbrev pub params_scoped : Scope → List Param → Bool
 params_scoped s ps =
     distinct (map param_name ps)

@@ -14,7 +14,8 @@ use Rattle.grammar.specs.Places.{still_early, opens}
 use Rattle.grammar.specs.Blocks.{Block, no_lines, plain_line, head_line, Laid}
 
 -- an open block, as the next line of it finds it: its column, where it stands, whether the line
--- before in it was an `if` or `elif`, and whether only `load`s and strings alone came before in it
+-- before in it was an `if` or `elif`, and whether only `load`s and strings alone came before in the
+-- file
 pub record Around : Type 0 where
   pub column : ℕ
   pub place : Place
@@ -50,21 +51,21 @@ if_fits o (Some f) = elim (fits o f) [ true ↦ Some f | false ↦ None ]
 abbrev pub form_there : Around → List Token → Option Form
 form_there o ts = if_fits o (form_reads ts)
 
--- the column of the block behind a head, which is that of the next line. Another line in its place
--- is refused, and where none comes the head; the layout has seen that a deeper line comes
+-- the column of the block behind a head, which is that of the next line. A next line that is no
+-- deeper is refused, and where none comes the head is; the layout has seen that a deeper line comes
 abbrev pub block_column : Laid → List Laid → Result ℕ ℕ
 block_column head [] = Err head.line
 block_column head (l ∷ ls) =
     elim (nat_lt head.column l.column) [ true ↦ Ok l.column | false ↦ Err l.line ]
 
--- what is left of the open blocks, innermost first, once a line before it is put there; there is
--- always one, else the answer would be a fault of that line. This is for where a block has ended
--- before the line
+-- what a line and those behind it add to the open blocks, innermost first, from what those behind
+-- it add: where the innermost block has ended before the line, nothing more to that one
 abbrev pub ended : Result (List Block) ℕ → Result (List Block) ℕ
 ended (Err n) = Err n
 ended (Ok bs) = Ok (no_lines ∷ bs)
 
--- the same where the line is of the innermost block, and opens none
+-- the same where the line is of the innermost block, and opens none. There is always such a block;
+-- else the answer would be a fault of the line
 abbrev pub with_line : ℕ → Form → Result (List Block) ℕ → Result (List Block) ℕ
 with_line n f (Ok (b ∷ bs)) = Ok (plain_line n f b ∷ bs)
 with_line n f (Ok []) = Err n

@@ -151,7 +151,7 @@ none_named [] = true
 none_named (k ∷ ks) = false
 
 -- one argument more. A positional one behind one with a name is not in order (Starlark
--- specification, "Call expressions")
+-- specification, "Function and method calls")
 abbrev pub with_argument : Arguments → Argument → Arguments
 with_argument s (positional a) = record {
   trees = s.trees ++ a.tree ∷ [];

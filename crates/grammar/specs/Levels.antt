@@ -78,7 +78,7 @@ allowed arguments (plain a) = true
 allowed arguments (keyword x a) = true
 allowed _ _ = false
 
--- an argument with its name (Starlark specification, "Call expressions")
+-- an argument with its name (Starlark specification, "Function and method calls")
 abbrev pub is_keyword : Member → Bool
 is_keyword (keyword x a) = true
 is_keyword _ = false
@@ -89,7 +89,8 @@ all_keywords no_members = true
 all_keywords (last_member m) = is_keyword m
 all_keywords (next_member m ms) = elim (is_keyword m) [ true ↦ all_keywords ms | false ↦ false ]
 
--- positional arguments stand before those with names (Starlark specification, "Call expressions")
+-- positional arguments stand before those with names (Starlark specification, "Function and method
+-- calls")
 abbrev pub in_order : Members → Bool
 in_order no_members = true
 in_order (last_member m) = true

@@ -30,7 +30,8 @@ mutual
     call : Expr → Members → Expr
 
   -- an item or a positional argument; an argument with its name; an entry of a dict
-  -- (Starlark specification, "List expressions", "Call expressions", "Dictionary expressions")
+  -- (Starlark specification, "List expressions", "Function and method calls", "Dictionary
+  -- expressions")
   pub data Member : Type 0 where
     plain : Expr → Member
     keyword : List ℕ → Expr → Member

@@ -40,8 +40,8 @@ abbrev pub same_function : FunctionRef → FunctionRef → Bool
 same_function f g = same_made f.id g.id
 
 -- what a built-in function is called
--- (Bazel documentation, ".bzl files" and "All BUILD and .bzl files": the global functions of this
--- project's language.)
+-- (Bazel documentation, ".bzl files" and "All Bazel files": the global functions of this project's
+-- language.)
 abbrev pub built_in_text : BuiltIn → List ℕ
 built_in_text built_in.Depset = codes "depset"
 built_in_text built_in.Fail = codes "fail"

@@ -36,11 +36,11 @@ pub enum Leaf {
     Object(Object),
 }
 
-/// What a module made, by numbers: the module's among those that are loaded, and its own among
-/// those of its kind that the module makes.
+/// What a module made, by numbers: that of the module's file among those that are linked, and its
+/// own among those of its kind that the module makes.
 #[derive(Clone, Copy, PartialEq, Eq, Debug)]
 pub struct MadeId {
-    /// The module's number among those that are loaded.
+    /// The number of the module's file among those that are linked.
     pub module: u32,
     /// Its own number among those of its kind that the module makes.
     pub number: u32,

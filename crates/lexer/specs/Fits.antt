@@ -98,8 +98,8 @@ abbrev pub piece_meaning : Piece → ℕ
 piece_meaning (plain b) = b
 piece_meaning (escape b) = escape_meaning b
 
--- what may stand between two quotes of this kind: no such quote, end of line or other backslash
--- stands alone
+-- what may stand between two quotes of this kind: an escape, or a byte that is no such quote, no
+-- end of a line and no backslash
 abbrev pub IsPiece : ℕ → Piece → Type 0
 IsPiece quote (plain b) = (b ≢ quote) × (b ≢ newline) × (b ≢ backslash)
 IsPiece quote (escape b) = is_escape b ≡ true

@@ -12,7 +12,8 @@ use std::alloc::{AllocError, Global};
 /// ascending order of their heights.
 #[derive(Drop)]
 pub struct Plan {
-    /// Who loads whom, and the component of each module: modules of one load each other.
+    /// Who loads whom, and the component of each module: the modules of one lead to each other
+    /// along loads.
     pub components: Components,
     /// How high each module stands, by number; 0 where it loads none or is on a cycle.
     pub heights: Vec<usize>,

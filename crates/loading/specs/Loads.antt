@@ -1,5 +1,5 @@
 -- The `load` statements of a file, and why one of them fails (Bazel documentation, "BUILD files",
--- "Loading an extension"; the kinds of faults and their order are this project's own,
+-- "Load an extension"; the kinds of faults and their order are this project's own,
 -- docs/PROFILE.md, "Loading").
 use Rattle.std.specs.Prelude.{ℕ, Bool, false, not, List, [], ◌∷◌, map, Option, Some, None, Result}
 use Rattle.std.specs.Prelude.{Ok, Err, if◌then◌else◌, nat_eq}

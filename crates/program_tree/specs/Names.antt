@@ -33,9 +33,7 @@ pub use Rattle.program_tree.specs.declared.names.Predeclared.TheVariants.{
 abbrev pub Name : Type 0
 Name = List ℕ
 
--- the names that each file finds bound (Starlark specification, "Built-in constants and functions";
--- Bazel's documentation of the globals of `BUILD` and `.bzl` files). That there are no others is
--- this project's own choice
+-- of the names that each file finds bound, those of constants: `None`, `True` and `False`
 abbrev pub predeclared_value : Name → Option Predeclared
 predeclared_value x =
     if bytes_eq x (codes "None") then Some none_value else
@@ -43,7 +41,7 @@ predeclared_value x =
     if bytes_eq x (codes "False") then Some false_value else
     None
 
--- those of them that are functions of the language
+-- those of functions of the language
 abbrev pub predeclared_function : Name → Option Predeclared
 predeclared_function x =
     if bytes_eq x (codes "len") then Some len_function else
@@ -68,7 +66,9 @@ abbrev pub or_else : {A : Type 0} → Option A → Option A → Option A
 or_else None b = b
 or_else (Some a) b = Some a
 
--- what a name stands for in a file that doesn't bind it, if anything
+-- what a name stands for in a file that doesn't bind it, if anything (Starlark specification,
+-- "Built-in constants and functions"; Bazel's documentation of the globals of `BUILD` and `.bzl`
+-- files). That no other name is bound in each file is this project's own choice
 abbrev pub predeclared : Name → Option Predeclared
 predeclared x =
     or_else (predeclared_value x) (or_else (predeclared_function x) (predeclared_for_rules x))
@@ -159,7 +159,8 @@ slot_of x (l ∷ ls) =
     or_else (option_map (λ n. width ls + n) (position (bytes_eq x) l)) (slot_of x ls)
 
 -- a name stands for the innermost binding that there is (Starlark specification, "Name binding and
--- variables"): a slot of the function, a name of the top level, or what each file finds bound
+-- variables"): a slot of a comprehension or of the function, a name of the top level, or what each
+-- file finds bound
 abbrev pub stands_for : Scope → Name → Option Binding
 stands_for s x =
     or_else (option_map slot (slot_of x s.levels))

@@ -70,7 +70,7 @@ pub(crate) struct Outline {
 }
 
 /// An open block, as its next line finds it: whether the line before in it was an `if` or `elif`,
-/// and whether only loads and strings alone came before in it.
+/// and whether only loads and strings alone came before in the file.
 #[derive(Clone, Copy)]
 struct Open {
     column: usize,

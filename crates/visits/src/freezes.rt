@@ -26,7 +26,8 @@ use values::{
 /// # Errors
 ///
 /// `steps` at the tick past the limit; `deep` at a value at depth 65; `type` at a target, `attr`,
-/// `ctx` or a part of it; each value is tested in this order. After a `Broken` the ticks are open.
+/// `ctx` or a part of it; each value is tested in this order. `NoMemory` where memory was refused.
+/// After a `Broken` the ticks are open.
 #[inline(always)]
 pub fn freeze(
     alloc: Global,
