@@ -12,7 +12,7 @@ pub enum NoReport {
     TooMany,
     /// Memory was refused.
     NoMemory,
-    /// A thread was refused.
+    /// A thread was refused, or the memory to start it.
     NoThread,
 }
 

@@ -225,7 +225,7 @@ where
 /// # Errors
 ///
 /// `TooMany` only where more than [`NODE_LIMIT`] labels are reached; `NoMemory` where memory was
-/// refused; `NoThread` where a thread was refused, never with one worker.
+/// refused; `NoThread` where a thread was refused, or the memory to start it, never with one worker.
 pub fn report_on<R: Threads + Wait + Sync, G: Gate>(
     rt: &R,
     alloc: Global,

@@ -113,8 +113,8 @@ fn without_entries<'a>(key: &Seen<'_>) -> Result<Option<Operand<'a>>, Broken>
 ///
 /// # Errors
 ///
-/// `NoMemory` where memory was refused; `large`, as of each new list, only where the dict has more
-/// entries than evaluation ever gives one.
+/// `NoMemory` where memory was refused; `large`, as of each new list, where the dict has more
+/// entries than a list may have items, which no dict of an evaluation has.
 pub fn keys(alloc: Global, state: &mut State, dict: Item<'_>) -> Result<Value, Broken>
     ensures { Does (keys (entries_in (shape state.old.heap (item_value dict.entry)))) state.old
         result state.new }
@@ -159,8 +159,8 @@ fn put_key(key: &Key, items: &mut Items) -> Result<(), AllocError>
 ///
 /// # Errors
 ///
-/// `NoMemory` where memory was refused; `large`, as of each new list, only where the dict has more
-/// entries than evaluation ever gives one.
+/// `NoMemory` where memory was refused; `large`, as of each new list, where the dict has more
+/// entries than a list may have items, which no dict of an evaluation has.
 pub fn values(alloc: Global, state: &mut State, dict: Item<'_>) -> Result<Value, Broken>
     ensures { Does (values (entries_in (shape state.old.heap (item_value dict.entry)))) state.old
         result state.new }

@@ -20,8 +20,9 @@ use values::{Broken, Item, Items, Value};
 ///
 /// # Errors
 ///
-/// `NoMemory` where memory was refused; `large`, as of each new list, only where the dict has more
-/// entries than evaluation ever gives one. Then no tuple is made.
+/// `NoMemory` where memory was refused; `large`, as of each new list, where the dict has more
+/// entries than a list may have items, which no dict of an evaluation has. In either case no tuple
+/// is left.
 pub fn items(alloc: Global, state: &mut State, dict: Item<'_>) -> Result<Value, Broken>
     ensures { Does (pairs (entries_in (shape state.old.heap (item_value dict.entry)))) state.old
         result state.new }

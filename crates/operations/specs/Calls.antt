@@ -45,7 +45,7 @@ abbrev pub instance_call : Provider → Given → Op Value
 instance_call p g s = made_by p.id p g s
 
 -- a method of one argument that only a string has, and one without arguments that only a depset
--- has: of any other value it is `type`
+-- has: called on any other value it is `type`
 abbrev pub of_text : (List ℕ → Value → Op Value) → Option (List ℕ) → List Value → Op Value
 of_text f (Some t) vs s = with_one (f t) vs s
 of_text f None vs s = Err kind.Wrong

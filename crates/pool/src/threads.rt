@@ -297,7 +297,7 @@ where
 /// # Errors
 ///
 /// `NoMemory` where a worker was refused memory or there was none for the passes; `NoThread` where
-/// a thread was refused, or the memory to start it, and none of this was.
+/// a thread was refused, or the memory to start it, and none of this was: never with one end.
 pub fn in_threads<'x, V, A, S, G, R>(
     site: &'x Site<'x, V, A, G, R>,
     ends: Vec<S>,

@@ -1,5 +1,5 @@
--- The parts of a frozen value by place: their texts and their weights. And of a coherent value, that its text is
--- that of the plain meaning.
+-- The parts of a frozen value, one after the other: their texts, and the weight of an item. And of a coherent
+-- value, that its text is that of the plain meaning.
 use Rattle.std.specs.Prelude.{codes}
 use Rattle.std.proofs.Common.{◌≡◌, ◌⊎◌, inl, inr, ℕ, zero, suc, ◌+◌, ◌≤◌, List, [], ◌∷◌, ◌++◌, length, drop, slice_get, Option, Some, None, refl, ap, ◌∙◌, arith, drop_of_length-le}
 use Rattle.depsets.proofs.Turns.{drop_at}

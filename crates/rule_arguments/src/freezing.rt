@@ -17,7 +17,7 @@ use visits::freeze;
 ///
 /// # Errors
 ///
-/// The first fault of freezing them, as `steps` where the ticks are used up; `NoMemory` where
+/// The first fault of freezing them, such as `steps` where the ticks are used up; `NoMemory` where
 /// memory was refused.
 pub fn freeze_given(
     alloc: Global,

@@ -14,7 +14,7 @@ use Rattle.workspace.specs.Workspaces.{Pair}
 abbrev pub AsksFor : List (List ℕ) → Asked → Type 0
 AsksFor words a = asked words ≡ Some a
 
--- the words ask for more than one worker, so for threads beside the one that calls
+-- the words ask for more than one worker
 abbrev pub AsksForOthers : List (List ℕ) → Type 0
 AsksForOthers words = (a : Asked) × AsksFor words a × (1 < a.workers)
 
@@ -63,8 +63,8 @@ pub record OfWholeInput (before after : Option (List ℕ)) (P : List ℕ → Typ
   pub end : IsAtEnd after
   pub holds : P input
 
--- what a source gave spells nothing: it was read to its end, or past the limit of an input, and
--- then nothing that begins so spells anything either
+-- what a source gave spells nothing: it was read to its end, or past the limit of an input, in
+-- which case nothing that begins so spells anything either
 pub record RefusesInput (before after : Option (List ℕ)) : Type 0 where
   pub input : List ℕ
   pub taken : Consumes before after input

@@ -17,7 +17,7 @@ pub enum AnalyseStop {
     /// Memory was refused.
     #[error("no memory")]
     NoMemory,
-    /// A thread was refused.
+    /// A thread was refused, or the memory to start it.
     #[error("no thread")]
     NoThread,
 }
@@ -37,7 +37,7 @@ pub enum ServeStop {
     /// Memory was refused.
     #[error("no memory")]
     NoMemory,
-    /// A thread was refused.
+    /// A thread was refused, or the memory to start it.
     #[error("no thread")]
     NoThread,
     /// The reader failed.
