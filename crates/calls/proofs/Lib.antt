@@ -1,4 +1,3 @@
 pub mod Binds
-pub mod Turns
 pub mod Tuples
 pub mod NumberTexts

@@ -137,10 +137,7 @@ pub(crate) fn key_items(alloc: Global, entries: Table<'_>) -> Result<Items, Allo
     ensures { IfOk result (λ items. items ≡ map Value.Key (keys_of (table_entries entries.entry))) }
 {
     let mut items = Items::with_capacity(alloc, entries.len())?;
-    for place in 0..entries.len() {
-        let Some((key, _)) = entries.at(place) else {
-            return Ok(items);
-        };
+    for (key, _) in entries {
         put_key(key, &mut items)?;
     }
     Ok(items)
@@ -183,10 +180,7 @@ fn value_items(alloc: Global, entries: Table<'_>) -> Result<Items, AllocError>
     ensures { IfOk result (λ items. items ≡ map (λ e. e.1) (table_entries entries.entry)) }
 {
     let mut items = Items::with_capacity(alloc, entries.len())?;
-    for place in 0..entries.len() {
-        let Some((_, value)) = entries.at(place) else {
-            return Ok(items);
-        };
+    for (_, value) in entries {
         put_value(value, &mut items)?;
     }
     Ok(items)

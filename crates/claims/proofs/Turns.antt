@@ -1,20 +1,16 @@
 -- One turn of each loop.
-use Rattle.std.proofs.Common.{◌≡◌, ◌∙◌, ◌<◌, ◌≤◌, ◌+◌, ℕ, Bool, true, List, [], ◌∷◌, ◌++◌, append_assoc, length, map, take, drop, get_or, slice_get, slice_index_or, None, Option, Some, flat_map, ap, sym, refl, subst, drop_of_length-le}
+use Rattle.std.proofs.Common.{◌≡◌, ◌∙◌, ◌<◌, ◌≤◌, ◌+◌, ℕ, Bool, true, List, [], ◌∷◌, ◌++◌, append_assoc, length, map, take, drop, get_or, slice_index_or, None, Option, flat_map, ap, sym, refl, subst, drop_of_length-le}
 use Rattle.std.specs.List.{AllZip}
 use Rattle.std.proofs.lemmas.List.{drop_more, map_more, take_more}
 use Rattle.std.proofs.lemmas.Grind.{flat_map-append}
 use Rattle.std.proofs.lemmas.List.{append-nil}
-use Rattle.std.proofs.lemmas.Option.{slice_get_within, get_or_from_slice_get}
 use Rattle.std.proofs.lemmas.Slice.Zip.{all_zipped_more}
 use Rattle.depsets.specs.Listed.{walked}
-use Rattle.depsets.specs.declared.element.Element.{Element}
-use Rattle.depsets.specs.declared.element.Element.TheVariants.{Text, Number, Truth, Label, File}
-use Rattle.depsets.specs.declared.element.FileRef.{FileRef}
 use Rattle.claims.specs.Buckets.{member_at, put_all, put_at}
 use Rattle.claims.specs.Commons.{common_of, gathered}
 use Rattle.claims.specs.Leaders.{Firsts, leaders_from, next_firsts, next_leader}
 use Rattle.claims.specs.Owned.{Owned}
-use Rattle.claims.specs.Same.{compared, element_paths}
+use Rattle.claims.specs.Same.{compared}
 use Rattle.claims.specs.Sets.{IsSetOf, AddsSetOf, AreSetsOf, kept}
 use Rattle.claims.specs.Tellings.{telling_by, tellings_from}
 use Rattle.claims.specs.declared.claiming.Claim.{Claim}
@@ -45,18 +41,6 @@ module _ {X Y : Type 0} where
   flat-next f xs i x old new low p had put =
       put ∙ ap (λ l. l ++ f x) had ∙ ap (λ l. flat_map f (take i xs) ++ l) (sym (append-nil (f x))) ∙ sym (flat_map-append f (take i xs) (x ∷ []))
       ∙ ap (flat_map f) (sym (one_more xs i x low p))
-
--- an element that is no File has no path
-pub no_paths : (e : Element) → ((f : FileRef) → e ≡ File f → ⊥) → element_paths e ≡ []
-no_paths (File f) h = absurd (h f refl)
-no_paths (Text s) h = refl
-no_paths (Number n) h = refl
-no_paths (Truth b) h = refl
-no_paths (Label s) h = refl
-
-pub paths_more : (es : List Element) (i : ℕ) (e : Element) (old new : List (List ℕ)) → slice_get es i ≡ Some e → old ≡ flat_map element_paths (take i es)
-    → new ≡ old ++ element_paths e → new ≡ flat_map element_paths (take (i + 1) es)
-paths_more es i e old new at = flat-next element_paths es i e old new (slice_get_within es i e at) (sym (get_or_from_slice_get es i e e at))
 
 pub zipped_more : {A B : Type 0} (R : A → B → Type 0) (xs : List A) (ys : List B) (i : ℕ) (x : A) (y : B) → i < length xs → x ≡ get_or xs i x
     → AllZip R (take i xs) ys → R x y → AllZip R (take (i + 1) xs) (ys ++ y ∷ [])

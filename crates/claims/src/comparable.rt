@@ -67,8 +67,8 @@ fn element_paths(alloc: Global, elements: &Elements<'_>) -> Result<Vec<Text>, Al
     ensures { IfOk result (λ v. v.items ≡ flat_map element_paths elements.now) }
 {
     let mut paths = Vec::new(alloc);
-    for i in 0..elements.len() {
-        if let Element::File(file) = elements.at(i) {
+    for element in elements {
+        if let Element::File(file) = element {
             paths.push(file.get().path.text().share()?)?;
         }
     }

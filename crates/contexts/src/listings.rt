@@ -129,8 +129,8 @@ fn put_listing(alloc: Global, depset: &Depset, trees: &mut Vec<Frozen>) -> Resul
 fn put_elements(elements: &Elements<'_>, trees: &mut Vec<Frozen>) -> Result<(), AllocError>
     ensures { OnOk result (trees.new.items ≡ trees.old.items ++ map element_tree elements.now) }
 {
-    for place in 0..elements.len() {
-        put_element(elements.at(place), trees)?;
+    for element in elements {
+        put_element(element, trees)?;
     }
     Ok(())
 }

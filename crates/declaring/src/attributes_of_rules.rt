@@ -83,10 +83,7 @@ fn named_attributes<A: Attributes>(
         known.now.state.now known.now.declared.now) (table_entries entries.entry)) }
 {
     let mut named = Sequence::new(alloc);
-    for place in 0..entries.len() {
-        let Some((key, value)) = entries.at(place) else {
-            return Ok(Some(named));
-        };
+    for (key, value) in entries {
         match attribute_entry(known, key, value)? {
             Some(attribute) => named.push(attribute)?,
             None => return Ok(None),

@@ -79,10 +79,7 @@ fn documented_names(
         (λ o. o ≡ each_of (documented_name heap.now) (table_entries entries.entry)) }
 {
     let mut names = Names::new(alloc);
-    for place in 0..entries.len() {
-        let Some((key, value)) = entries.at(place) else {
-            return Ok(Some(names));
-        };
+    for (key, value) in entries {
         match documented_name(heap, key, value)? {
             Some(name) => names.push(name)?,
             None => return Ok(None),

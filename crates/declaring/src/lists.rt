@@ -29,8 +29,8 @@ pub(crate) fn strings(
         (group_items items.entry)) }
 {
     let mut texts = Names::new(alloc);
-    for place in 0..items.len() {
-        match string_in(&heap.see_item(items.item(place)))? {
+    for item in items {
+        match string_in(&heap.see_item(item))? {
             Some(text) => texts.push(text)?,
             None => return Ok(None),
         }
@@ -58,8 +58,8 @@ pub(crate) fn names(
         (group_items items.entry)) }
 {
     let mut names = Names::new(alloc);
-    for place in 0..items.len() {
-        match name_in(&heap.see_item(items.item(place)))? {
+    for item in items {
+        match name_in(&heap.see_item(item))? {
             Some(name) => names.push(name)?,
             None => return Ok(None),
         }
@@ -87,8 +87,8 @@ pub(crate) fn whole_labels(
         (group_items items.entry)) }
 {
     let mut labels = Sequence::new(alloc);
-    for place in 0..items.len() {
-        match whole_label_in(alloc, &heap.see_item(items.item(place)))? {
+    for item in items {
+        match whole_label_in(alloc, &heap.see_item(item))? {
             Some(label) => labels.push(label)?,
             None => return Ok(None),
         }
@@ -128,8 +128,8 @@ pub(crate) fn keys(
         (group_items items.entry)) }
 {
     let mut keys = Sequence::new(alloc);
-    for place in 0..items.len() {
-        match key_of_kind(kind, &heap.see_item(items.item(place)))? {
+    for item in items {
+        match key_of_kind(kind, &heap.see_item(item))? {
             Some(key) => keys.push(key)?,
             None => return Ok(None),
         }
@@ -157,8 +157,8 @@ pub(crate) fn providers(
     ensures { IfOk result (λ o. o ≡ all_providers heap.now (group_items items.entry)) }
 {
     let mut providers = Sequence::new(alloc);
-    for place in 0..items.len() {
-        match provider_in(&heap.see_item(items.item(place)))? {
+    for item in items {
+        match provider_in(&heap.see_item(item))? {
             Some(provider) => providers.push(provider)?,
             None => return Ok(None),
         }
@@ -187,8 +187,8 @@ pub(crate) fn lists_of_providers(
         (group_items items.entry)) }
 {
     let mut lists = Sequence::new(alloc);
-    for place in 0..items.len() {
-        match providers_in(alloc, heap, &heap.see_item(items.item(place)))? {
+    for item in items {
+        match providers_in(alloc, heap, &heap.see_item(item))? {
             Some(providers) => lists.push(providers)?,
             None => return Ok(None),
         }

@@ -14,10 +14,12 @@ mod depset;
 mod digest;
 mod distinct;
 mod element;
+mod iter;
 mod listing;
 
 pub use depset::{Depset, DepsetError, Id, LEVELS, Order};
 pub use digest::DigestedElement;
 pub use distinct::Elements;
 pub use element::{Element, ElementType, FileRef};
+pub use iter::ElementsIter;
 pub use listing::{ITEMS, ListError, Listing};

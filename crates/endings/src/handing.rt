@@ -1,6 +1,5 @@
 //! What a module hands on, under the names that were given.
-ghost use Rattle.std.specs.Prelude.{◌≡◌, ◌<◌, ◌++◌, ◌∷◌, [], IfOk, OnOk, Some, length, map};
-ghost use Rattle.std.specs.Prelude.{slice_get};
+ghost use Rattle.std.specs.Prelude.{◌≡◌, ◌++◌, ◌∷◌, [], IfOk, OnOk, map};
 ghost use Rattle.values.specs.Shape.{value_of};
 ghost use Rattle.evaluation.specs.Naming.{named, slot_named};
 
@@ -10,7 +9,7 @@ use evaluation::Globals;
 use operations::Defaults;
 use std::alloc::{AllocError, Global};
 use targets::Sequence;
-use values::{Frozen, Items, Value, tree_at};
+use values::{Frozen, Items, Value};
 
 /// The globals.
 pub(crate) fn named_globals(
@@ -54,18 +53,10 @@ fn named_items(alloc: Global, naming: &Naming, trees: &[Frozen]) -> Result<Items
     ensures { IfOk result (λ v. v ≡ map (λ t. value_of (named naming.now t)) trees.now) }
 {
     let mut items = Items::with_capacity(alloc, trees.len())?;
-    for i in 0..trees.len() {
-        put_named(alloc, naming, &mut items, tree_at(trees, i))?;
+    for tree in trees {
+        put_named(alloc, naming, &mut items, tree)?;
     }
     Ok(items)
-}
-
-/// The defaults at a place.
-fn defaults_at(defaults: &[Sequence<Frozen>], place: usize) -> &Sequence<Frozen>
-    requires { place < length defaults.now }
-    ensures { slice_get defaults.now place ≡ Some result.now }
-{
-    &defaults[place]
 }
 
 /// The defaults of all functions, by number.
@@ -78,8 +69,8 @@ pub(crate) fn named_defaults(
         (λ d. d ≡ map (map (λ t. value_of (named naming.now t))) defaults.now) }
 {
     let mut all = Defaults::new(alloc);
-    for i in 0..defaults.len() {
-        let items = named_items(alloc, naming, defaults_at(defaults, i).as_slice())?;
+    for trees in defaults {
+        let items = named_items(alloc, naming, trees.as_slice())?;
         all.push(items)?;
     }
     Ok(all)

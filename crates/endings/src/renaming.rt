@@ -2,8 +2,7 @@
 //!
 //! What holds nothing that got a name stays the same node, of which another name is kept. A value
 //! is at most as deep as what can be frozen.
-ghost use Rattle.std.specs.Prelude.{◌≡◌, ◌<◌, IfOk, Some, false, length, map, option_map};
-ghost use Rattle.std.specs.Prelude.{slice_get, unwrap_or};
+ghost use Rattle.std.specs.Prelude.{◌≡◌, IfOk, false, map, option_map, unwrap_or};
 ghost use Rattle.values.specs.Tree.{branch};
 ghost use Rattle.values.specs.View.{node_branch};
 ghost use Rattle.evaluation.specs.Evaluated.{first_of};
@@ -15,15 +14,7 @@ use crate::parts::{
 };
 use indexmap::IndexSet;
 use std::alloc::{AllocError, Global};
-use values::{Branch, Frozen, Held, Key, Node, tree_at};
-
-/// The field at a place.
-fn slot_at(slots: &[Option<Frozen>], place: usize) -> &Option<Frozen>
-    requires { place < length slots.now }
-    ensures { slice_get slots.now place ≡ Some result.now }
-{
-    &slots[place]
-}
+use values::{Branch, Frozen, Held, Key, Node};
 
 /// A branch as a frozen value, if it is new.
 fn new_tree(limb: Option<Branch>) -> Option<Frozen>
@@ -92,8 +83,7 @@ fn rename_all(alloc: Global, naming: &Naming, trees: &[Frozen]) -> Result<Parts<
 {
     let mut items = Vec::with_capacity(alloc, trees.len())?;
     let mut changed = false;
-    for i in 0..trees.len() {
-        let tree = tree_at(trees, i);
+    for tree in trees {
         let new = rename(alloc, naming, tree)?;
         changed = or_new(changed, &new);
         put(&mut items, tree, new)?;
@@ -114,8 +104,7 @@ pub(crate) fn rename_fields(
 {
     let mut items = Vec::with_capacity(alloc, fields.len())?;
     let mut changed = false;
-    for i in 0..fields.len() {
-        let slot = slot_at(fields, i);
+    for slot in fields {
         let new = rename_slot(alloc, naming, slot)?;
         changed = or_new(changed, &new);
         put_slot(&mut items, slot, new)?;

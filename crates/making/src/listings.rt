@@ -45,8 +45,8 @@ fn element_values(alloc: Global, elements: &Elements<'_>) -> Result<Items, Alloc
     ensures { IfOk result (λ items. items ≡ map element_value elements.now) }
 {
     let mut items = Items::with_capacity(alloc, elements.len())?;
-    for place in 0..elements.len() {
-        put_element(elements.at(place), &mut items)?;
+    for element in elements {
+        put_element(element, &mut items)?;
     }
     Ok(items)
 }

@@ -15,8 +15,8 @@ pub(crate) fn elements(alloc: Global, items: Group<'_>, heap: &Heap) -> Result<V
         ≡ Ok v.items) (λ e. FaultOr (all_in element_in heap.now (group_items items.entry)) e) }
 {
     let mut elements = Vec::with_capacity(alloc, items.len())?;
-    for place in 0..items.len() {
-        if let Err(broken) = put_element(&heap.see_item(items.item(place)), &mut elements) {
+    for item in items {
+        if let Err(broken) = put_element(&heap.see_item(item), &mut elements) {
             return Err(broken);
         }
     }
@@ -60,8 +60,8 @@ pub(crate) fn children(alloc: Global, items: Group<'_>, heap: &Heap) -> Result<V
         ≡ Ok v.items) (λ e. FaultOr (all_in depset_in heap.now (group_items items.entry)) e) }
 {
     let mut depsets = Vec::with_capacity(alloc, items.len())?;
-    for place in 0..items.len() {
-        if let Err(broken) = put_depset(&heap.see_item(items.item(place)), &mut depsets) {
+    for item in items {
+        if let Err(broken) = put_depset(&heap.see_item(item), &mut depsets) {
             return Err(broken);
         }
     }

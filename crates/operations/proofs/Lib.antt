@@ -3,5 +3,4 @@ pub mod CallRows
 pub mod OperatorRows
 pub mod BuiltInRows
 pub mod NameRows
-pub mod Turns
 pub mod StringRows

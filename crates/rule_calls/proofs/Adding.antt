@@ -1,7 +1,6 @@
 -- Each of a list read as what is asked.
-use Rattle.std.proofs.Common.{◌≡◌, ℕ, ◌+◌, List, [], ◌∷◌, ◌++◌, drop, slice_get, Option, Some, None, Result, Ok, Err, refl, sym, ap, ◌∙◌, append_assoc, append-nil}
+use Rattle.std.proofs.Common.{◌≡◌, List, [], ◌∷◌, ◌++◌, Option, Some, None, Result, Ok, Err, refl, sym, ap, ◌∙◌, append_assoc, append-nil}
 use Rattle.std.specs.Prelude.{option_map, option_and_then}
-use Rattle.depsets.proofs.Turns.{drop_at}
 use Rattle.ticks.specs.Ticking.{FaultOr}
 use Rattle.ticks.specs.declared.ticks.Kind.{Kind}
 use Rattle.ticks.specs.declared.ticks.Kind.TheVariants.{Wrong}
@@ -58,13 +57,13 @@ module _ {A B : Type 0} (f : A → Option B) where
         none (Some zs) e = absurd (cc)
 
   -- one turn of a loop that reads them
-  module _ (xs : List A) (i : ℕ) (x : A) (p : slice_get xs i ≡ Some x) (ys : List B) where
-    added-next : added f ys (drop i xs) ≡ then_give (put_read ys (f x)) (λ zs. added f zs (drop (i + 1) xs))
-    added-next = ap (added f ys) (drop_at xs i x p)
+  module _ {xs rest : List A} {x : A} (p : xs ≡ x ∷ rest) (ys : List B) where
+    added-next : added f ys xs ≡ then_give (put_read ys (f x)) (λ zs. added f zs rest)
+    added-next = ap (added f ys) p
 
-    pub added-then : (zs : List B) → put_read ys (f x) ≡ Ok zs → added f ys (drop i xs) ≡ added f zs (drop (i + 1) xs)
-    added-then zs e = added-next ∙ ap (λ r. then_give r (λ zs. added f zs (drop (i + 1) xs))) e
+    pub added-then : (zs : List B) → put_read ys (f x) ≡ Ok zs → added f ys xs ≡ added f zs rest
+    added-then zs e = added-next ∙ ap (λ r. then_give r (λ zs. added f zs rest)) e
 
-    pub added-fault : (e : Broken) → FaultOr (put_read ys (f x)) e → FaultOr (added f ys (drop i xs)) e
-    added-fault (broken.Kind k) q = added-next ∙ ap (λ r. then_give r (λ zs. added f zs (drop (i + 1) xs))) q
+    pub added-fault : (e : Broken) → FaultOr (put_read ys (f x)) e → FaultOr (added f ys xs) e
+    added-fault (broken.Kind k) q = added-next ∙ ap (λ r. then_give r (λ zs. added f zs rest)) q
     added-fault broken.NoMemory q = tt

@@ -27,8 +27,8 @@ pub(crate) fn labels(
         (group_items items.entry)) result }
 {
     let mut labels = Sequence::with_capacity(alloc, items.len())?;
-    for place in 0..items.len() {
-        let value = heap.see_item(items.item(place));
+    for item in items {
+        let value = heap.see_item(item);
         if let Err(broken) = put_label(alloc, heap, package, &value, &mut labels) {
             return Err(broken);
         }

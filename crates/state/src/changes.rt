@@ -79,9 +79,8 @@ pub fn copied(alloc: Global, group: Group<'_>) -> Result<Items, AllocError>
 pub(crate) fn copy_into(group: Group<'_>, items: &mut Items) -> Result<(), AllocError>
     ensures { OnOk result (items.new ≡ items.old ++ group_items group.entry) }
 {
-    for place in 0..group.len() {
-        let item = group.item(place).to_value()?;
-        items.push(item)?;
+    for item in group {
+        items.push(item.to_value()?)?;
     }
     Ok(())
 }

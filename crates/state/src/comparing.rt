@@ -33,8 +33,8 @@ pub fn is_among(heap: &Heap, ticks: &mut Ticks, x: Item<'_>, items: Group<'_>) -
     ensures { SaysKind (among (equal_at VISITED_LEVELS heap.now) (item_value x.entry)
         (group_items items.entry) ticks.old) result ticks.new }
 {
-    for place in 0..items.len() {
-        match equal(items.item(place), x, heap, ticks) {
+    for item in items {
+        match equal(item, x, heap, ticks) {
             Ok(true) => return Ok(true),
             Ok(false) => {}
             Err(kind) => return Err(kind),

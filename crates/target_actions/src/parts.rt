@@ -33,8 +33,8 @@ pub(crate) fn files(alloc: Global, heap: &Heap, items: Group<'_>) -> Result<File
         (λ e. FaultOr (all_in file_in heap.now (group_items items.entry)) e) }
 {
     let mut files = Files::with_capacity(alloc, items.len())?;
-    for place in 0..items.len() {
-        if let Err(broken) = put_file(&heap.see_item(items.item(place)), &mut files) {
+    for item in items {
+        if let Err(broken) = put_file(&heap.see_item(item), &mut files) {
             return Err(broken);
         }
     }
@@ -63,8 +63,8 @@ pub(crate) fn put_strings(heap: &Heap, items: Group<'_>, words: &mut Words) -> R
         (λ _. with_strings heap.now (group_items items.entry) words.old ≡ Ok words.new)
         (λ e. FaultOr (with_strings heap.now (group_items items.entry) words.old) e) }
 {
-    for place in 0..items.len() {
-        if let Err(broken) = put_string(&heap.see_item(items.item(place)), words) {
+    for item in items {
+        if let Err(broken) = put_string(&heap.see_item(item), words) {
             return Err(broken);
         }
     }

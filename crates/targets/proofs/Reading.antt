@@ -1,7 +1,6 @@
 -- Each of a list read as what is asked, one after the other.
-use Rattle.std.proofs.Common.{◌≡◌, ℕ, ◌+◌, List, [], ◌∷◌, ◌++◌, drop, slice_get, Option, Some, None, refl, sym, ap, ◌∙◌, append_assoc}
+use Rattle.std.proofs.Common.{◌≡◌, List, [], ◌∷◌, ◌++◌, Option, Some, None, refl, sym, ap, ◌∙◌, append_assoc}
 use Rattle.std.specs.Prelude.{option_map, option_and_then}
-use Rattle.depsets.proofs.Turns.{drop_at}
 use Rattle.targets.specs.RuleCalls.{each_of}
 
 -- those that are there, and then those that are read
@@ -18,15 +17,15 @@ one_more ys y None = refl
 one_more ys y (Some zs) = ap Some (append_assoc ys (y ∷ []) zs)
 
 -- one turn of a loop that reads them
-module _ {A B : Type 0} (f : A → Option B) (xs : List A) (i : ℕ) (x : A) (p : slice_get xs i ≡ Some x) (ys : List B) where
+module _ {A B : Type 0} (f : A → Option B) {xs rest : List A} {x : A} (p : xs ≡ x ∷ rest) (ys : List B) where
   abbrev then_rest : Option B → Option (List B)
-  then_rest o = behind ys (option_and_then (λ y. option_map (λ zs. y ∷ zs) (each_of f (drop (i + 1) xs))) o)
+  then_rest o = behind ys (option_and_then (λ y. option_map (λ zs. y ∷ zs) (each_of f rest)) o)
 
-  next : behind ys (each_of f (drop i xs)) ≡ then_rest (f x)
-  next = ap (λ l. behind ys (each_of f l)) (drop_at xs i x p)
+  next : behind ys (each_of f xs) ≡ then_rest (f x)
+  next = ap (λ l. behind ys (each_of f l)) p
 
-  pub read : (y : B) → f x ≡ Some y → behind (ys ++ y ∷ []) (each_of f (drop (i + 1) xs)) ≡ behind ys (each_of f (drop i xs))
-  read y e = one_more ys y (each_of f (drop (i + 1) xs)) ∙ sym (next ∙ ap then_rest e)
+  pub read : (y : B) → f x ≡ Some y → behind (ys ++ y ∷ []) (each_of f rest) ≡ behind ys (each_of f xs)
+  read y e = one_more ys y (each_of f rest) ∙ sym (next ∙ ap then_rest e)
 
-  pub unread : f x ≡ None → behind ys (each_of f (drop i xs)) ≡ None
+  pub unread : f x ≡ None → behind ys (each_of f xs) ≡ None
   unread e = next ∙ ap then_rest e

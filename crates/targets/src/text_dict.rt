@@ -116,12 +116,8 @@ fn values_in(
         (each_of (value_frozen heap.now) (table_entries table.entry) ≡ None)
         (λ ts. each_of (value_frozen heap.now) (table_entries table.entry) ≡ Some ts.items)) }
 {
-    let count = table.len();
-    let mut values = Vec::with_capacity(alloc, count)?;
-    for place in 0..count {
-        let Some((key, item)) = table.at(place) else {
-            return Ok(Some(values));
-        };
+    let mut values = Vec::with_capacity(alloc, table.len())?;
+    for (key, item) in table {
         match value_shown(key, &heap.see_item(item))? {
             Some(value) => values.push(value)?,
             None => return Ok(None),

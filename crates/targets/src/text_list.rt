@@ -89,8 +89,8 @@ fn trees_in(alloc: Global, heap: &Heap, items: Group<'_>) -> Result<Option<Vec<F
         (λ ts. each_of (text_frozen heap.now) (group_items items.entry) ≡ Some ts.items)) }
 {
     let mut trees = Vec::with_capacity(alloc, items.len())?;
-    for place in 0..items.len() {
-        match text_seen(&heap.see_item(items.item(place)))? {
+    for item in items {
+        match text_seen(&heap.see_item(item))? {
             Some(tree) => trees.push(tree)?,
             None => return Ok(None),
         }

@@ -75,8 +75,8 @@ fn texts<'a>(alloc: Global, heap: &'a Heap, items: Group<'a>) -> Result<Vec<&'a 
         (λ e. FaultOr (all_in string_in heap.now (group_items items.entry)) e) }
 {
     let mut texts = Vec::with_capacity(alloc, items.len())?;
-    for place in 0..items.len() {
-        if let Err(broken) = put_text(&heap.see_item(items.item(place)), &mut texts) {
+    for item in items {
+        if let Err(broken) = put_text(&heap.see_item(item), &mut texts) {
             return Err(broken);
         }
     }

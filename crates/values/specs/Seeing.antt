@@ -1,4 +1,5 @@
 -- What the views of a value show.
+use Rattle.std.specs.Borrow.{Bor}
 use Rattle.std.specs.Prelude.{List, map, true, false, Option, Some, None}
 use Rattle.values.specs.Shape.{Shape, key, atom, items, entries, fields, nothing, value_of, slot_of}
 use Rattle.values.specs.Shape.{zip}
@@ -37,6 +38,10 @@ group_items (group.Trees s) = map value_of s.now
 abbrev pub table_entries : Table → List (Key × Value)
 table_entries (table.Values e) = e.now
 table_entries (table.Trees ks ts) = zip ks.now.keys ts.now
+
+-- an entry of a dict: its key, and the value that it is
+abbrev pub entry_value : Bor Key × Item → Key × Value
+entry_value e = (e.0.now, item_value e.1)
 
 -- the fields of an instance by place, whether it is frozen or not
 abbrev pub slot_values : Slots → List (Option Value)

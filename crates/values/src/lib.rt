@@ -12,6 +12,7 @@ mod cells;
 mod extent;
 mod frozen;
 mod held;
+mod iter;
 mod sees;
 mod value;
 
@@ -22,6 +23,7 @@ pub use depsets::{
 pub use extent::Extent;
 pub use frozen::{Branch, Frozen, Held, Node, tree_at};
 pub use held::{HeldEntries, HeldItems, Walked};
+pub use iter::{GroupIter, TableIter};
 pub use keys::Key;
 pub use leaves::{
     AttributeKind, AttributeRef, BuiltIn, ExportName, Exported, FunctionRef, Leaf, MadeId, Names,

@@ -2,7 +2,7 @@
 //!
 //! Each cell becomes one counted node. What is frozen already is visited again, which costs its
 //! ticks, and is then shared by a count: nothing of it is copied.
-ghost use Rattle.std.specs.Prelude.{◌≡◌, ◌<◌, Ok, Some, MatchResult, length, slice_get};
+ghost use Rattle.std.specs.Prelude.{◌≡◌, Ok, Some, MatchResult, length};
 ghost use Rattle.ticks.specs.Ticking.{Says, FaultOr, after_tick, with_count, entered};
 ghost use Rattle.values.specs.Visits.{all_of};
 ghost use Rattle.values.specs.Seeing.{item_value};
@@ -76,24 +76,6 @@ fn freeze_leaf(left: u32, leaf: &Leaf, ticks: &mut Ticks) -> Result<Frozen, Brok
 {
     ticks.enter(left)?;
     leaf_tree(leaf)
-}
-
-/// The value at a place.
-#[inline(always)]
-fn value_at(values: &[Value], place: usize) -> &Value
-    requires { place < length values.now }
-    ensures { slice_get values.now place ≡ Some result.now }
-{
-    &values[place]
-}
-
-/// The field at a place.
-#[inline(always)]
-fn slot_at(slots: &[Option<Value>], place: usize) -> &Option<Value>
-    requires { place < length slots.now }
-    ensures { slice_get slots.now place ≡ Some result.now }
-{
-    &slots[place]
 }
 
 /// A frozen list of these items.
@@ -230,8 +212,8 @@ fn freeze_all(
         (all_of (freeze_at left heap.now) values.now ticks.old) e) }
 {
     let mut kept = Vec::with_capacity(alloc, values.len())?;
-    for i in 0..values.len() {
-        match freeze_within(alloc, left, value_at(values, i), heap, ticks) {
+    for value in values {
+        match freeze_within(alloc, left, value, heap, ticks) {
             Ok(tree) => push_last(&mut kept, tree)?,
             Err(broken) => return Err(broken),
         }
@@ -296,8 +278,8 @@ fn freeze_slots(
         (all_of (frozen_slot (freeze_at left heap.now)) fields.now ticks.old) e) }
 {
     let mut kept = Vec::with_capacity(alloc, fields.len())?;
-    for i in 0..fields.len() {
-        match freeze_slot(alloc, left, slot_at(fields, i), heap, ticks) {
+    for field in fields {
+        match freeze_slot(alloc, left, field, heap, ticks) {
             Ok(tree) => push_last(&mut kept, tree)?,
             Err(broken) => return Err(broken),
         }

@@ -1,8 +1,7 @@
 //! Freezing what is frozen already: each value in it is visited again, and the whole is shared by a
 //! count. Where what was noted of a value fits in the levels and the ticks that are left, its visit
 //! is one comparison; else it is walked, which finds the first fault.
-ghost use Rattle.std.specs.Prelude.{◌≡◌, ◌<◌, Ok, Some, MatchResult, true, false, length};
-ghost use Rattle.std.specs.Prelude.{slice_get};
+ghost use Rattle.std.specs.Prelude.{◌≡◌, Ok, MatchResult, true, false};
 ghost use Rattle.ticks.specs.Ticking.{Says, FaultOr, after_tick, entered};
 ghost use Rattle.values.specs.Tree.{branch, trees, pairs};
 ghost use Rattle.values.specs.View.{tree_of, node_branch};
@@ -124,8 +123,8 @@ fn visit_node(left: u32, node: &Node, ticks: &mut Ticks) -> Result<(), Kind>
 fn visit_trees(left: u32, trees: &[Frozen], ticks: &mut Ticks) -> Result<(), Kind>
     ensures { Goes (all_visited (visit_at left) trees.now ticks.old) result ticks.new }
 {
-    for i in 0..trees.len() {
-        if let Err(kind) = visit_tree(left, tree_at(trees, i), ticks) {
+    for tree in trees {
+        if let Err(kind) = visit_tree(left, tree, ticks) {
             return Err(kind);
         }
     }
@@ -161,22 +160,14 @@ fn visit_entry(left: u32, tree: &Frozen, ticks: &mut Ticks) -> Result<(), Kind>
     visit_tree(left, tree, ticks)
 }
 
-/// The field at a place.
-fn slot_at(slots: &[Option<Frozen>], place: usize) -> &Option<Frozen>
-    requires { place < length slots.now }
-    ensures { slice_get slots.now place ≡ Some result.now }
-{
-    &slots[place]
-}
-
 /// The visits of the fields that were given, in order.
 #[cycle(visit)]
 fn visit_slots(left: u32, slots: &[Option<Frozen>], ticks: &mut Ticks) -> Result<(), Kind>
     ensures { Goes (all_visited (slot_visited (visit_at left)) slots.now ticks.old) result
         ticks.new }
 {
-    for i in 0..slots.len() {
-        if let Err(kind) = visit_slot(left, slot_at(slots, i), ticks) {
+    for slot in slots {
+        if let Err(kind) = visit_slot(left, slot, ticks) {
             return Err(kind);
         }
     }

@@ -1,21 +1,20 @@
-use Rattle.std.proofs.Common.{◌≡◌, ◌+◌, None, Some, drop, sym, ap, ◌∙◌}
-use Rattle.values.specs.Seeing.{table_entries, item_value}
+use Rattle.std.proofs.Common.{◌≡◌, None, Some, sym, ap, ◌∙◌}
+use Rattle.values.specs.Seeing.{item_value}
 use Rattle.targets.specs.RuleCalls.{each_of}
 use Rattle.declaring.specs.RuleMaking.{attribute_entry}
 use Rattle.targets.proofs.Reading.{behind, read, unread}
 use Rattle.declaring.proofs.attributes_of_rules.named_attributes.Goals as goal
 
-pub returns-in-None : goal.returns-in-None
-returns-in-None g c =
+pub returns-in-None-2 : goal.returns-in-None-2
+returns-in-None-2 g c =
     let f = attribute_entry (g.A.Attributes.declared c.args.known.now.linked.now) c.args.known.now.state.now c.args.known.now.declared.now in
-    let e : f (c.in-Some.key.now, item_value c.in-Some.value) ≡ None = sym c.in_ok-attribute.ensures ∙ c.in-None.is in
-    sym (unread f (table_entries c.args.entries) c.loop-place.place (c.in-Some.key.now, item_value c.in-Some.value) c.in-Some.ensures c.loop-place.named e)
-    ∙ c.loop-place.invariant
+    let e : f (c.in-Some.key.now, item_value c.in-Some.value) ≡ None = sym c.in_ok-attribute.ensures ∙ c.in-None-2.is in
+    sym (unread f c.in-Some.ensures.steps c.loop-key.named e)
+    ∙ c.loop-key.invariant
 
-pub loop-place-preserved : goal.loop-place-preserved
-loop-place-preserved g c =
+pub loop-key-preserved : goal.loop-key-preserved
+loop-key-preserved g c =
     let f = attribute_entry (g.A.Attributes.declared c.args.known.now.linked.now) c.args.known.now.state.now c.args.known.now.declared.now in
-    let xs = table_entries c.args.entries in let i = c.loop-place.place in
     let e : f (c.in-Some.key.now, item_value c.in-Some.value) ≡ Some c.in-Some-2.attribute = sym c.in_ok-attribute.ensures ∙ c.in-Some-2.is in
-    ap (λ ys. behind ys (each_of f (drop (i + 1) xs))) c.in_ok-push-in-Some-2.ensures.ok
-    ∙ read f xs i (c.in-Some.key.now, item_value c.in-Some.value) c.in-Some.ensures c.loop-place.named c.in-Some-2.attribute e ∙ c.loop-place.invariant
+    ap (λ ys. behind ys (each_of f c.next.new.self)) c.in_ok-push-in-Some-2.ensures.ok
+    ∙ read f c.in-Some.ensures.steps c.loop-key.named c.in-Some-2.attribute e ∙ c.loop-key.invariant

@@ -1,4 +1,4 @@
-use Rattle.std.proofs.Common.{◌≡◌, drop}
+use Rattle.std.proofs.Common.{◌≡◌}
 use Rattle.values.specs.Seeing.{group_items}
 use Rattle.values.specs.Shape.{shape}
 use Rattle.targets.specs.RuleCalls.{each_of}
@@ -6,6 +6,6 @@ use Rattle.declaring.specs.NewNames.{name_in}
 use Rattle.targets.proofs.Reading.{behind}
 use Rattle.declaring.proofs.lists.names.Given as goal
 
-abbrev pub invariant-loop-place : goal.invariant-loop-place
-invariant-loop-place l =
-    behind l.names (each_of (λ v. name_in (shape l.heap v)) (drop l.place (group_items l.items))) ≡ each_of (λ v. name_in (shape l.heap v)) (group_items l.items)
+abbrev pub invariant-loop-item : goal.invariant-loop-item
+invariant-loop-item l =
+    behind l.names (each_of (λ v. name_in (shape l.heap v)) l.item-iterator) ≡ each_of (λ v. name_in (shape l.heap v)) (group_items l.fn.items)

@@ -1,22 +1,21 @@
-use Rattle.std.proofs.Common.{◌≡◌, ◌+◌, None, Some, drop, sym, ap, ◌∙◌}
+use Rattle.std.proofs.Common.{◌≡◌, None, Some, sym, ap, ◌∙◌}
 use Rattle.values.specs.Shape.{Shape, shape}
-use Rattle.values.specs.Seeing.{group_items, item_value}
+use Rattle.values.specs.Seeing.{item_value}
 use Rattle.values.specs.declared.value.Value.{Value}
 use Rattle.targets.specs.RuleCalls.{each_of}
 use Rattle.operations.specs.Reading.{string_in}
 use Rattle.targets.proofs.Reading.{behind, read, unread}
 use Rattle.declaring.proofs.lists.strings.Goals as goal
 
-pub returns-in-None : goal.returns-in-None
-returns-in-None c =
+pub returns-in-None-2 : goal.returns-in-None-2
+returns-in-None-2 c =
     let f = λ (v : Value). string_in (shape c.args.heap.now v) in
-    let e : f (item_value c.item.result) ≡ None = ap (λ (s : Shape). string_in s) (sym c.see_item.ensures) ∙ sym c.in_ok-text.ensures ∙ c.in-None.is in
-    sym (unread f (group_items c.args.items) c.loop-place.place (item_value c.item.result) c.item.ensures c.loop-place.texts e) ∙ c.loop-place.invariant
+    let e : f (item_value c.in-Some.item) ≡ None = ap (λ (s : Shape). string_in s) (sym c.see_item.ensures) ∙ sym c.in_ok-text.ensures ∙ c.in-None-2.is in
+    sym (unread f c.in-Some.ensures.steps c.loop-item.texts e) ∙ c.loop-item.invariant
 
-pub loop-place-preserved : goal.loop-place-preserved
-loop-place-preserved c =
+pub loop-item-preserved : goal.loop-item-preserved
+loop-item-preserved c =
     let f = λ (v : Value). string_in (shape c.args.heap.now v) in
-    let xs = group_items c.args.items in let i = c.loop-place.place in
-    let e : f (item_value c.item.result) ≡ Some c.in-Some.text = ap (λ (s : Shape). string_in s) (sym c.see_item.ensures) ∙ sym c.in_ok-text.ensures ∙ c.in-Some.is in
-    ap (λ ys. behind ys (each_of f (drop (i + 1) xs))) c.in_ok-push-in-Some.ensures.ok
-    ∙ read f xs i (item_value c.item.result) c.item.ensures c.loop-place.texts c.in-Some.text e ∙ c.loop-place.invariant
+    let e : f (item_value c.in-Some.item) ≡ Some c.in-Some-2.text = ap (λ (s : Shape). string_in s) (sym c.see_item.ensures) ∙ sym c.in_ok-text.ensures ∙ c.in-Some-2.is in
+    ap (λ ys. behind ys (each_of f c.next.new.self)) c.in_ok-push-in-Some-2.ensures.ok
+    ∙ read f c.in-Some.ensures.steps c.loop-item.texts c.in-Some-2.text e ∙ c.loop-item.invariant

@@ -1,11 +1,12 @@
-use Rattle.std.proofs.Common.{◌++◌, [], ◌∷◌, map, ap, ◌∙◌}
+use Rattle.std.proofs.Common.{◌++◌, [], ◌∷◌, length, map, refl, ap, ◌∙◌}
+use Rattle.std.proofs.lemmas.Option.{slice_get_read}
 use Rattle.values.specs.Shape.{value_of}
 use Rattle.evaluation.specs.Naming.{named}
 use Rattle.endings.proofs.Renamed.{map_next}
 use Rattle.endings.proofs.handing.named_defaults.Goals as goal
 
-pub loop-i-preserved : goal.loop-i-preserved
-loop-i-preserved c =
+pub loop-trees-preserved : goal.loop-trees-preserved
+loop-trees-preserved c =
     let one = map (λ t. value_of (named c.args.naming.now t)) in
-    c.in_ok-push.ensures.ok ∙ (λ j. c.loop-i.invariant j ++ (c.in_ok-items.ensures ∙ ap one c.as_slice.ensures) j ∷ [])
-    ∙ map_next one c.args.defaults.now c.loop-i.i c.defaults_at.result.now c.defaults_at.ensures
+    c.in_ok-push.ensures.ok ∙ (λ j. c.loop-trees.invariant j ++ (c.in_ok-items.ensures ∙ ap one c.as_slice.ensures) j ∷ [])
+    ∙ map_next one c.args.defaults.now c.loop-trees.trees-index c.trees-item.result (slice_get_read c.args.defaults.now (length c.args.defaults.now) c.loop-trees.trees-index c.trees-item.result refl c.loop-trees-test.true c.trees-item.is)

@@ -1,4 +1,5 @@
 use Rattle.std.proofs.Common.{◌≡◌, ◌++◌, [], ◌∷◌, length, min, take, refl, arith, sym, subst, ap, ◌∙◌}
+use Rattle.std.proofs.lemmas.Option.{slice_get_read}
 use Rattle.std.specs.Prelude.{unwrap_or, is_some}
 use Rattle.values.specs.Tree.{list, tuple, dict, trees, pairs, branch_weight, weights, pair_weights}
 use Rattle.values.specs.View.{node_branch}
@@ -10,36 +11,42 @@ use Rattle.endings.proofs.renaming.+rename.Goals as goal
 -- each part weighs less than the whole
 pub rename_all-rename-requires : goal.rename_all-rename-requires
 rename_all-rename-requires t c =
-    let h = weight_at c.args.trees.now c.loop-i.i c.tree_at-tree.result.now c.tree_at-tree.ensures in
+    let xs = c.args.trees.now in
+    let i = c.loop-tree.tree-index in
+    let x = c.tree-item.result in
+    let h = weight_at xs i x (slice_get_read xs (length xs) i x refl c.loop-tree-test.true c.tree-item.is) in
     (omega (arith, c.decreases, h), tt)
 
 pub rename_fields-rename_slot-requires : goal.rename_fields-rename_slot-requires
 rename_fields-rename_slot-requires t c =
-    let h = slot_at c.args.fields.now c.loop-i.i c.slot_at-slot.result.now c.slot_at-slot.ensures in
+    let xs = c.args.fields.now in
+    let i = c.loop-slot.slot-index in
+    let x = c.slot-item.result in
+    let h = slot_at xs i x (slice_get_read xs (length xs) i x refl c.loop-slot-test.true c.slot-item.is) in
     (omega (arith, c.decreases, h), tt)
 
-pub rename_all-loop-i-preserved : goal.rename_all-loop-i-preserved
-rename_all-loop-i-preserved t c =
+pub rename_all-loop-tree-preserved : goal.rename_all-loop-tree-preserved
+rename_all-loop-tree-preserved t c =
     let f = named c.args.naming.now in
     let xs = c.args.trees.now in
-    let i = c.loop-i.i in
-    let x = c.tree_at-tree.result.now in
-    let at = c.tree_at-tree.ensures in (
-      c.in_ok-put.ensures ∙ (λ j. c.loop-i.invariant.0 j ++ c.in_ok-new.ensures j ∷ []) ∙ map_next f xs i x at,
-      λ e. let n = neither c.loop-i.changed (is_some c.in_ok-new.new) (sym c.or_new-changed.ensures ∙ e) in
-          sym (map_next f xs i x at) ∙ (λ j. c.loop-i.invariant.1 n.0 j ++ (sym c.in_ok-new.ensures ∙ unchanged c.in_ok-new.new x n.1) j ∷ []) ∙ sym (take_next xs i x at),
+    let i = c.loop-tree.tree-index in
+    let x = c.tree-item.result in
+    let at = slice_get_read xs (length xs) i x refl c.loop-tree-test.true c.tree-item.is in (
+      c.in_ok-put.ensures ∙ (λ j. c.loop-tree.invariant.0 j ++ c.in_ok-new.ensures j ∷ []) ∙ map_next f xs i x at,
+      λ e. let n = neither c.loop-tree.changed (is_some c.in_ok-new.new) (sym c.or_new-changed.ensures ∙ e) in
+          sym (map_next f xs i x at) ∙ (λ j. c.loop-tree.invariant.1 n.0 j ++ (sym c.in_ok-new.ensures ∙ unchanged c.in_ok-new.new x n.1) j ∷ []) ∙ sym (take_next xs i x at),
     )
 
-pub rename_fields-loop-i-preserved : goal.rename_fields-loop-i-preserved
-rename_fields-loop-i-preserved t c =
+pub rename_fields-loop-slot-preserved : goal.rename_fields-loop-slot-preserved
+rename_fields-loop-slot-preserved t c =
     let f = slot_named c.args.naming.now in
     let xs = c.args.fields.now in
-    let i = c.loop-i.i in
-    let x = c.slot_at-slot.result.now in
-    let at = c.slot_at-slot.ensures in (
-      c.in_ok-put_slot.ensures ∙ (λ j. c.loop-i.invariant.0 j ++ c.in_ok-new.ensures j ∷ []) ∙ map_next f xs i x at,
-      λ e. let n = neither c.loop-i.changed (is_some c.in_ok-new.new) (sym c.or_new-changed.ensures ∙ e) in
-          sym (map_next f xs i x at) ∙ (λ j. c.loop-i.invariant.1 n.0 j ++ (sym c.in_ok-new.ensures ∙ slot_unchanged c.in_ok-new.new x n.1) j ∷ []) ∙ sym (take_next xs i x at),
+    let i = c.loop-slot.slot-index in
+    let x = c.slot-item.result in
+    let at = slice_get_read xs (length xs) i x refl c.loop-slot-test.true c.slot-item.is in (
+      c.in_ok-put_slot.ensures ∙ (λ j. c.loop-slot.invariant.0 j ++ c.in_ok-new.ensures j ∷ []) ∙ map_next f xs i x at,
+      λ e. let n = neither c.loop-slot.changed (is_some c.in_ok-new.new) (sym c.or_new-changed.ensures ∙ e) in
+          sym (map_next f xs i x at) ∙ (λ j. c.loop-slot.invariant.1 n.0 j ++ (sym c.in_ok-new.ensures ∙ slot_unchanged c.in_ok-new.new x n.1) j ∷ []) ∙ sym (take_next xs i x at),
     )
 
 pub rename_node-rename_all-requires-in-Dict : goal.rename_node-rename_all-requires-in-Dict

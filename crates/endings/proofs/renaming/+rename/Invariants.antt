@@ -4,15 +4,15 @@ use Rattle.values.specs.View.{node_branch}
 use Rattle.evaluation.specs.Naming.{named, slot_named}
 use Rattle.endings.proofs.renaming.+rename.Given as goal
 
-abbrev pub invariant-rename_all-loop-i : goal.invariant-rename_all-loop-i
-invariant-rename_all-loop-i l =
-    (l.items.items ≡ map (named l.naming) (take l.i l.trees))
-    × (l.changed ≡ false → map (named l.naming) (take l.i l.trees) ≡ take l.i l.trees)
+abbrev pub invariant-rename_all-loop-tree : goal.invariant-rename_all-loop-tree
+invariant-rename_all-loop-tree l =
+    (l.items.items ≡ map (named l.naming) (take l.tree-index l.trees))
+    × (l.changed ≡ false → map (named l.naming) (take l.tree-index l.trees) ≡ take l.tree-index l.trees)
 
-abbrev pub invariant-rename_fields-loop-i : goal.invariant-rename_fields-loop-i
-invariant-rename_fields-loop-i l =
-    (l.items.items ≡ map (slot_named l.naming) (take l.i l.fields))
-    × (l.changed ≡ false → map (slot_named l.naming) (take l.i l.fields) ≡ take l.i l.fields)
+abbrev pub invariant-rename_fields-loop-slot : goal.invariant-rename_fields-loop-slot
+invariant-rename_fields-loop-slot l =
+    (l.items.items ≡ map (slot_named l.naming) (take l.slot-index l.fields))
+    × (l.changed ≡ false → map (slot_named l.naming) (take l.slot-index l.fields) ≡ take l.slot-index l.fields)
 
 abbrev pub decreases-rename : goal.decreases-rename
 decreases-rename l = 4 * weight l.tree.now + 1

@@ -1,8 +1,8 @@
 use Rattle.std.proofs.Common.{◌≡◌, ◌+◌, ◌++◌, ◌∷◌, [], Some, length, drop, slice_get, refl, ap, ◌∙◌}
 use Rattle.std.proofs.lemmas.Option.{slice_get_read}
+use Rattle.making.proofs.Turns.{mapped}
 use Rattle.operations.specs.Arguments.{given_for}
 use Rattle.operations.specs.Instances.{given_fields}
-use Rattle.operations.proofs.Turns.{mapped}
 use Rattle.making.proofs.instances.given_fields.Goals as goal
 
 pub loop-field-preserved : goal.loop-field-preserved

@@ -1,4 +1,5 @@
-use Rattle.std.proofs.Common.{◌+◌, ◌-◌, drop, length, Ok, Some, option_copied, sym, ap, ◌∙◌, subst}
+use Rattle.std.proofs.Common.{◌+◌, ◌-◌, drop, length, Ok, Some, option_copied, refl, sym, ap, ◌∙◌, subst}
+use Rattle.std.proofs.lemmas.Option.{slice_get_read}
 use Rattle.ticks.specs.Ticking.{Count, FaultOr, Says, after_tick, entered}
 use Rattle.values.specs.Visits.{all_of, keys_of}
 use Rattle.values.specs.Tree.{branch}
@@ -59,16 +60,16 @@ freeze_cell-returns-in-None t c =
 
 pub freeze_all-returns-in-Err : goal.freeze_all-returns-in-Err
 freeze_all-returns-in-Err t c =
-    subst (λ r. FaultOr r c.in-Err.broken) c.loop-i.invariant
-    (all_of-fault (freeze_at c.args.left c.args.heap.now) c.args.values.now c.loop-i.i c.value_at.result.now c.value_at.ensures
-    c.loop-i.kept.items c.loop-i.ticks c.in-Err.broken c.in-Err.ensures)
+    subst (λ r. FaultOr r c.in-Err.broken) c.loop-value.invariant
+    (all_of-fault (freeze_at c.args.left c.args.heap.now) c.args.values.now c.loop-value.value-index c.value-item.result (slice_get_read c.args.values.now (length c.args.values.now) c.loop-value.value-index c.value-item.result refl c.loop-value-test.true c.value-item.is)
+    c.loop-value.kept.items c.loop-value.ticks c.in-Err.broken c.in-Err.ensures)
 
-pub freeze_all-loop-i-preserved : goal.freeze_all-loop-i-preserved
-freeze_all-loop-i-preserved t c =
-    ap (λ l. with_done l (all_of (freeze_at c.args.left c.args.heap.now) (drop (c.loop-i.i + 1) c.args.values.now) c.freeze_within.new.ticks)) c.in_ok-push_last-in-Ok.ensures.ok
-    ∙ all_of-next (freeze_at c.args.left c.args.heap.now) c.args.values.now c.loop-i.i c.value_at.result.now c.value_at.ensures
-    c.loop-i.kept.items c.loop-i.ticks c.in-Ok.tree c.freeze_within.new.ticks c.in-Ok.ensures
-    ∙ c.loop-i.invariant
+pub freeze_all-loop-value-preserved : goal.freeze_all-loop-value-preserved
+freeze_all-loop-value-preserved t c =
+    ap (λ l. with_done l (all_of (freeze_at c.args.left c.args.heap.now) (drop (c.loop-value.value-index + 1) c.args.values.now) c.freeze_within.new.ticks)) c.in_ok-push_last-in-Ok.ensures.ok
+    ∙ all_of-next (freeze_at c.args.left c.args.heap.now) c.args.values.now c.loop-value.value-index c.value-item.result (slice_get_read c.args.values.now (length c.args.values.now) c.loop-value.value-index c.value-item.result refl c.loop-value-test.true c.value-item.is)
+    c.loop-value.kept.items c.loop-value.ticks c.in-Ok.tree c.freeze_within.new.ticks c.in-Ok.ensures
+    ∙ c.loop-value.invariant
 
 pub freeze_entries-returns-in-Err : goal.freeze_entries-returns-in-Err
 freeze_entries-returns-in-Err t c =
@@ -93,13 +94,13 @@ freeze_parts-dict_of-requires t c =
 
 pub freeze_slots-returns-in-Err : goal.freeze_slots-returns-in-Err
 freeze_slots-returns-in-Err t c =
-    subst (λ r. FaultOr r c.in-Err.broken) c.loop-i.invariant
-    (all_of-fault (frozen_slot (freeze_at c.args.left c.args.heap.now)) c.args.fields.now c.loop-i.i c.slot_at.result.now c.slot_at.ensures
-    c.loop-i.kept.items c.loop-i.ticks c.in-Err.broken c.in-Err.ensures)
+    subst (λ r. FaultOr r c.in-Err.broken) c.loop-field.invariant
+    (all_of-fault (frozen_slot (freeze_at c.args.left c.args.heap.now)) c.args.fields.now c.loop-field.field-index c.field-item.result (slice_get_read c.args.fields.now (length c.args.fields.now) c.loop-field.field-index c.field-item.result refl c.loop-field-test.true c.field-item.is)
+    c.loop-field.kept.items c.loop-field.ticks c.in-Err.broken c.in-Err.ensures)
 
-pub freeze_slots-loop-i-preserved : goal.freeze_slots-loop-i-preserved
-freeze_slots-loop-i-preserved t c =
-    ap (λ l. with_done l (all_of (frozen_slot (freeze_at c.args.left c.args.heap.now)) (drop (c.loop-i.i + 1) c.args.fields.now) c.freeze_slot.new.ticks)) c.in_ok-push_last-in-Ok.ensures.ok
-    ∙ all_of-next (frozen_slot (freeze_at c.args.left c.args.heap.now)) c.args.fields.now c.loop-i.i c.slot_at.result.now c.slot_at.ensures
-    c.loop-i.kept.items c.loop-i.ticks c.in-Ok.tree c.freeze_slot.new.ticks c.in-Ok.ensures
-    ∙ c.loop-i.invariant
+pub freeze_slots-loop-field-preserved : goal.freeze_slots-loop-field-preserved
+freeze_slots-loop-field-preserved t c =
+    ap (λ l. with_done l (all_of (frozen_slot (freeze_at c.args.left c.args.heap.now)) (drop (c.loop-field.field-index + 1) c.args.fields.now) c.freeze_slot.new.ticks)) c.in_ok-push_last-in-Ok.ensures.ok
+    ∙ all_of-next (frozen_slot (freeze_at c.args.left c.args.heap.now)) c.args.fields.now c.loop-field.field-index c.field-item.result (slice_get_read c.args.fields.now (length c.args.fields.now) c.loop-field.field-index c.field-item.result refl c.loop-field-test.true c.field-item.is)
+    c.loop-field.kept.items c.loop-field.ticks c.in-Ok.tree c.freeze_slot.new.ticks c.in-Ok.ensures
+    ∙ c.loop-field.invariant

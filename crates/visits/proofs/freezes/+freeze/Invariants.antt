@@ -5,9 +5,9 @@ use Rattle.ticks.specs.Ticking.{entered}
 use Rattle.values.proofs.VisitLemmas.{with_done}
 use Rattle.visits.proofs.freezes.+freeze.Given as goal
 
-abbrev pub invariant-freeze_all-loop-i : goal.invariant-freeze_all-loop-i
-invariant-freeze_all-loop-i l =
-    with_done l.kept.items (all_of (freeze_at l.left l.heap) (drop l.i l.values) l.ticks)
+abbrev pub invariant-freeze_all-loop-value : goal.invariant-freeze_all-loop-value
+invariant-freeze_all-loop-value l =
+    with_done l.kept.items (all_of (freeze_at l.left l.heap) (drop l.value-index l.values) l.ticks)
     ≡ all_of (freeze_at l.left l.heap) l.values l.initial.ticks
 
 abbrev pub invariant-freeze_entries-loop-i : goal.invariant-freeze_entries-loop-i
@@ -15,9 +15,9 @@ invariant-freeze_entries-loop-i l =
     with_done l.kept.items (all_of (frozen_entry (entered l.left) (freeze_at l.left l.heap)) (drop l.i l.entries) l.ticks)
     ≡ all_of (frozen_entry (entered l.left) (freeze_at l.left l.heap)) l.entries l.initial.ticks
 
-abbrev pub invariant-freeze_slots-loop-i : goal.invariant-freeze_slots-loop-i
-invariant-freeze_slots-loop-i l =
-    with_done l.kept.items (all_of (frozen_slot (freeze_at l.left l.heap)) (drop l.i l.fields) l.ticks)
+abbrev pub invariant-freeze_slots-loop-field : goal.invariant-freeze_slots-loop-field
+invariant-freeze_slots-loop-field l =
+    with_done l.kept.items (all_of (frozen_slot (freeze_at l.left l.heap)) (drop l.field-index l.fields) l.ticks)
     ≡ all_of (frozen_slot (freeze_at l.left l.heap)) l.fields l.initial.ticks
 
 abbrev pub decreases-freeze_cell : goal.decreases-freeze_cell

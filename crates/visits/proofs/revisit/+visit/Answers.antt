@@ -1,4 +1,5 @@
-use Rattle.std.proofs.Common.{◌+◌, ◌-◌, drop, false, refl, sym, ap, ◌∙◌, subst, arith}
+use Rattle.std.proofs.Common.{◌+◌, ◌-◌, drop, length, false, refl, sym, ap, ◌∙◌, subst, arith}
+use Rattle.std.proofs.lemmas.Option.{slice_get_read}
 use Rattle.depsets.proofs.Turns.{drop_at}
 use Rattle.ticks.specs.Ticking.{Count, after_tick, entered}
 use Rattle.values.specs.Tree.{pairs}
@@ -33,16 +34,16 @@ visit_tree-returns t c =
 pub visit_trees-returns-in-Err : goal.visit_trees-returns-in-Err
 visit_trees-returns-in-Err t c =
     let ts = c.args.trees.now in
-    sym c.loop-i.invariant
-    ∙ visited-fault (visit_at c.args.left) c.tree_at.result.now (drop c.loop-i.i ts) (drop (c.loop-i.i + 1) ts) c.loop-i.ticks c.in-Err.kind
-    (drop_at ts c.loop-i.i c.tree_at.result.now c.tree_at.ensures) c.in-Err.ensures
+    sym c.loop-tree.invariant
+    ∙ visited-fault (visit_at c.args.left) c.tree-item.result (drop c.loop-tree.tree-index ts) (drop (c.loop-tree.tree-index + 1) ts) c.loop-tree.ticks c.in-Err.kind
+    (drop_at ts c.loop-tree.tree-index c.tree-item.result (slice_get_read ts (length ts) c.loop-tree.tree-index c.tree-item.result refl c.loop-tree-test.true c.tree-item.is)) c.in-Err.ensures
 
-pub visit_trees-loop-i-preserved : goal.visit_trees-loop-i-preserved
-visit_trees-loop-i-preserved t c =
+pub visit_trees-loop-tree-preserved : goal.visit_trees-loop-tree-preserved
+visit_trees-loop-tree-preserved t c =
     let ts = c.args.trees.now in
-    visited-next (visit_at c.args.left) c.tree_at.result.now (drop c.loop-i.i ts) (drop (c.loop-i.i + 1) ts) c.loop-i.ticks c.visit_tree.new.ticks
-    (drop_at ts c.loop-i.i c.tree_at.result.now c.tree_at.ensures) c.in_default.ensures
-    ∙ c.loop-i.invariant
+    visited-next (visit_at c.args.left) c.tree-item.result (drop c.loop-tree.tree-index ts) (drop (c.loop-tree.tree-index + 1) ts) c.loop-tree.ticks c.visit_tree.new.ticks
+    (drop_at ts c.loop-tree.tree-index c.tree-item.result (slice_get_read ts (length ts) c.loop-tree.tree-index c.tree-item.result refl c.loop-tree-test.true c.tree-item.is)) c.in_default.ensures
+    ∙ c.loop-tree.invariant
 
 pub visit_pairs-loop-i-init : goal.visit_pairs-loop-i-init
 visit_pairs-loop-i-init t c = refl
@@ -99,13 +100,13 @@ visit_node-returns-in-Instance t c =
 pub visit_slots-returns-in-Err : goal.visit_slots-returns-in-Err
 visit_slots-returns-in-Err t c =
     let os = c.args.slots.now in
-    sym c.loop-i.invariant
-    ∙ visited-fault (slot_visited (visit_at c.args.left)) c.slot_at.result.now (drop c.loop-i.i os) (drop (c.loop-i.i + 1) os) c.loop-i.ticks c.in-Err.kind
-    (drop_at os c.loop-i.i c.slot_at.result.now c.slot_at.ensures) c.in-Err.ensures
+    sym c.loop-slot.invariant
+    ∙ visited-fault (slot_visited (visit_at c.args.left)) c.slot-item.result (drop c.loop-slot.slot-index os) (drop (c.loop-slot.slot-index + 1) os) c.loop-slot.ticks c.in-Err.kind
+    (drop_at os c.loop-slot.slot-index c.slot-item.result (slice_get_read os (length os) c.loop-slot.slot-index c.slot-item.result refl c.loop-slot-test.true c.slot-item.is)) c.in-Err.ensures
 
-pub visit_slots-loop-i-preserved : goal.visit_slots-loop-i-preserved
-visit_slots-loop-i-preserved t c =
+pub visit_slots-loop-slot-preserved : goal.visit_slots-loop-slot-preserved
+visit_slots-loop-slot-preserved t c =
     let os = c.args.slots.now in
-    visited-next (slot_visited (visit_at c.args.left)) c.slot_at.result.now (drop c.loop-i.i os) (drop (c.loop-i.i + 1) os) c.loop-i.ticks c.visit_slot.new.ticks
-    (drop_at os c.loop-i.i c.slot_at.result.now c.slot_at.ensures) c.in_default.ensures
-    ∙ c.loop-i.invariant
+    visited-next (slot_visited (visit_at c.args.left)) c.slot-item.result (drop c.loop-slot.slot-index os) (drop (c.loop-slot.slot-index + 1) os) c.loop-slot.ticks c.visit_slot.new.ticks
+    (drop_at os c.loop-slot.slot-index c.slot-item.result (slice_get_read os (length os) c.loop-slot.slot-index c.slot-item.result refl c.loop-slot-test.true c.slot-item.is)) c.in_default.ensures
+    ∙ c.loop-slot.invariant

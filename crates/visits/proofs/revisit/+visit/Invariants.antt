@@ -4,18 +4,18 @@ use Rattle.ticks.specs.Ticking.{entered}
 use Rattle.visits.specs.Revisit.{visit_at, all_visited, entry_visited, slot_visited, values_in}
 use Rattle.visits.proofs.revisit.+visit.Given as goal
 
-abbrev pub invariant-visit_trees-loop-i : goal.invariant-visit_trees-loop-i
-invariant-visit_trees-loop-i l =
-    all_visited (visit_at l.left) (drop l.i l.trees) l.ticks ≡ all_visited (visit_at l.left) l.trees l.initial.ticks
+abbrev pub invariant-visit_trees-loop-tree : goal.invariant-visit_trees-loop-tree
+invariant-visit_trees-loop-tree l =
+    all_visited (visit_at l.left) (drop l.tree-index l.trees) l.ticks ≡ all_visited (visit_at l.left) l.trees l.initial.ticks
 
 abbrev pub invariant-visit_pairs-loop-i : goal.invariant-visit_pairs-loop-i
 invariant-visit_pairs-loop-i l =
     all_visited (entry_visited (entered l.left) (visit_at l.left)) (values_in (pairs (drop l.i l.keys.keys) (drop l.i l.values))) l.ticks
     ≡ all_visited (entry_visited (entered l.left) (visit_at l.left)) (values_in (pairs l.keys.keys l.values)) l.initial.ticks
 
-abbrev pub invariant-visit_slots-loop-i : goal.invariant-visit_slots-loop-i
-invariant-visit_slots-loop-i l =
-    all_visited (slot_visited (visit_at l.left)) (drop l.i l.slots) l.ticks ≡ all_visited (slot_visited (visit_at l.left)) l.slots l.initial.ticks
+abbrev pub invariant-visit_slots-loop-slot : goal.invariant-visit_slots-loop-slot
+invariant-visit_slots-loop-slot l =
+    all_visited (slot_visited (visit_at l.left)) (drop l.slot-index l.slots) l.ticks ≡ all_visited (slot_visited (visit_at l.left)) l.slots l.initial.ticks
 
 abbrev pub decreases-visit_tree : goal.decreases-visit_tree
 decreases-visit_tree l = 6 * l.left + 1

@@ -1,0 +1,122 @@
+//! The items of a sequence and the entries of a dict, wherever they stand, one after the other.
+ghost use Rattle.std.specs.Prelude.{◌≡◌};
+
+use crate::{Group, Item, Key, Table};
+use std::marker::Model;
+
+/// The items of a list or tuple that are left, from the first on.
+#[derive(Drop)]
+pub struct GroupIter<'a> {
+    items: Group<'a>,
+    next: usize,
+}
+
+impl<'a> Model for GroupIter<'a> {
+    ghost use Rattle.std.specs.Prelude.{List, drop};
+    ghost use Rattle.values.specs.declared.value.Value.{Value as Held};
+    ghost use Rattle.values.specs.Seeing.{group_items};
+    ghost use Rattle.values.specs.ValueCodes.{items_code};
+
+    ghost Value = { List Held };
+
+    ghost coded = { items_code };
+
+    ghost view = { λ i. drop i.next (group_items i.items) };
+}
+
+impl<'a> Iterator for GroupIter<'a> {
+    ghost use Rattle.std.specs.Iterator.{YieldsFirstBy, item_count};
+    ghost use Rattle.values.specs.Seeing.{item_value};
+
+    type Item = Item<'a>;
+
+    ghost next_gives = { YieldsFirstBy item_value (λ items. items) };
+
+    ghost remaining = { item_count (λ items. items) };
+
+    #[inline(always)]
+    fn next(&mut self) -> Option<Item<'a>> {
+        if self.next >= self.items.len() {
+            return None;
+        }
+        let item = self.items.item(self.next);
+        self.next += 1;
+        Some(item)
+    }
+}
+
+impl<'a> IntoIterator for Group<'a> {
+    ghost use Rattle.values.specs.Seeing.{group_items};
+
+    type Item = Item<'a>;
+
+    type IntoIter = GroupIter<'a>;
+
+    ghost into_iter_gives = { λ s r. r ≡ group_items s };
+
+    #[inline(always)]
+    fn into_iter(self) -> GroupIter<'a> {
+        GroupIter {
+            items: self,
+            next: 0,
+        }
+    }
+}
+
+/// The entries of a dict that are left, from the first on.
+#[derive(Drop)]
+pub struct TableIter<'a> {
+    table: Table<'a>,
+    next: usize,
+}
+
+impl<'a> Model for TableIter<'a> {
+    ghost use Rattle.std.specs.Prelude.{List, drop};
+    ghost use Rattle.values.specs.declared.value.Value.{Value as Held};
+    ghost use Rattle.keys.specs.declared.key.Key.{Key as Index};
+    ghost use Rattle.values.specs.Seeing.{table_entries};
+    ghost use Rattle.values.specs.ValueCodes.{entries_code};
+
+    ghost Value = { List (Index × Held) };
+
+    ghost coded = { entries_code };
+
+    ghost view = { λ i. drop i.next (table_entries i.table) };
+}
+
+impl<'a> Iterator for TableIter<'a> {
+    ghost use Rattle.std.specs.Iterator.{YieldsFirstBy, item_count};
+    ghost use Rattle.values.specs.Seeing.{entry_value};
+
+    type Item = (&'a Key, Item<'a>);
+
+    ghost next_gives = { YieldsFirstBy entry_value (λ entries. entries) };
+
+    ghost remaining = { item_count (λ entries. entries) };
+
+    fn next(&mut self) -> Option<(&'a Key, Item<'a>)> {
+        if self.next >= self.table.len() {
+            return None;
+        }
+        let entry = self.table.at(self.next)?;
+        self.next += 1;
+        Some(entry)
+    }
+}
+
+impl<'a> IntoIterator for Table<'a> {
+    ghost use Rattle.values.specs.Seeing.{table_entries};
+
+    type Item = (&'a Key, Item<'a>);
+
+    type IntoIter = TableIter<'a>;
+
+    ghost into_iter_gives = { λ s r. r ≡ table_entries s };
+
+    fn into_iter(self) -> TableIter<'a> {
+        TableIter {
+            table: self,
+            next: 0,
+        }
+    }
+}
