@@ -1,5 +1,5 @@
 -- Paths that are sorted, and what is found among them.
-use Rattle.std.proofs.Common.{◌≡◌, ℕ, zero, suc, ◌+◌, ◌<◌, inl, inr, Bool, true, false, cond, List, [], ◌∷◌, ◌++◌, length, filter, take, get_or, ◌||◌, Some, None, sym, ap, ◌∙◌, subst, arith, refl, true≢false, eqb-true, eq-eqb}
+use Rattle.std.proofs.Common.{◌≡◌, ℕ, zero, suc, ◌+◌, ◌<◌, inl, inr, Bool, true, false, cond, List, [], ◌∷◌, ◌++◌, length, filter, get_or, ◌||◌, Some, None, sym, ap, ◌∙◌, subst, arith, refl, true≢false, eqb-true, eq-eqb}
 use Rattle.std.specs.Prelude.{if◌then◌else◌, nat_eq}
 use Rattle.std.specs.List.{list_any, IsDistinct, AllByRecursion}
 use Rattle.std.specs.List.Sorted.{IsNonDecreasingBy, IsPartitionPoint, IsPermutation, IsSorted}
@@ -13,40 +13,16 @@ use Rattle.std.proofs.lemmas.Map.Text.{is_eq-slice_cmp}
 use Rattle.std.proofs.lemmas.Map.Keys.{apart_from_distinct, IsDistinct-IsPermutation, IsDistinct-cons, IsDistinct-head, IsDistinct-tail}
 use Rattle.std.proofs.lemmas.List.Sorted.{searchable_from_sorted}
 use Rattle.std.proofs.lemmas.List.Elements.{Contains-get_or}
-use Rattle.std.proofs.lemmas.List.{map_more, get_or_default}
+use Rattle.std.proofs.lemmas.List.{get_or_default}
 use Rattle.std.proofs.lemmas.Slice.Eq.{bytes_eq-Decides}
 use Rattle.edges.proofs.Tests.{cases_of, isnt, any_of, any_in, none_any, not_both, neither}
 use Rattle.edges.proofs.Lists.{below_or_past, sides}
 use Rattle.loading.specs.Loads.{Path}
 use Rattle.workspace.specs.FileKinds.{is_module}
-use Rattle.workspace.specs.Files.{file_pairs}
-use Rattle.workspace.specs.declared.workspace.File.{File}
 use Rattle.workspace.specs.Workspaces.{Pair, paths_of, IsWorkspace}
 use Rattle.load_graph.specs.Paths.{ArePaths, IsAt, listed, path_at, module_paths, entry}
 
 -- ---- the paths of modules
-
-pub paths_more : (files : List File) (i : ℕ) (d : File) → i < length files
-    → module_paths (file_pairs (take (i + 1) files)) ≡ module_paths (file_pairs (take i files)) ++ (if is_module (get_or files i d).path then (get_or files i d).path ∷ [] else [])
-paths_more files i d low =
-    let paths : List File → List Path = λ fs. paths_of (file_pairs fs) in
-    let grown : paths (take (i + 1) files) ≡ paths (take i files) ++ (get_or files i d).path ∷ [] = more files i d low in
-    ap (filter is_module) grown ∙ filter-push (paths (take i files)) (get_or files i d).path
-  where
-    more : (files : List File) (i : ℕ) (d : File) → i < length files → paths_of (file_pairs (take (i + 1) files)) ≡ paths_of (file_pairs (take i files)) ++ (get_or files i d).path ∷ []
-    more files i d low = ap paths_of (map_more (λ (f : File). (f.path, f.text)) files i d low) ∙ paths-push (file_pairs (take i files)) ((get_or files i d).path, (get_or files i d).text)
-      where
-        paths-push : (ps : List Pair) (p : Pair) → paths_of (ps ++ p ∷ []) ≡ paths_of ps ++ p.0 ∷ []
-        paths-push [] p = refl
-        paths-push (q ∷ ps) p = ap (λ l. q.0 ∷ l) (paths-push ps p)
-
-    at_cond : (b : Bool) (q : Path) (xs ys zs : List Path) → xs ≡ ys ++ zs → cond b (q ∷ xs) xs ≡ cond b (q ∷ ys) ys ++ zs
-    at_cond true q xs ys zs e = ap (λ l. q ∷ l) e
-    at_cond false q xs ys zs e = e
-
-    filter-push : (qs : List Path) (q : Path) → filter is_module (qs ++ q ∷ []) ≡ filter is_module qs ++ (if is_module q then q ∷ [] else [])
-    filter-push [] q = refl
-    filter-push (x ∷ qs) q = at_cond (is_module x) x (filter is_module (qs ++ q ∷ [])) (filter is_module qs) (if is_module q then q ∷ [] else []) (filter-push qs q)
 
 any_filter : (p t : Path → Bool) (qs : List Path) → list_any t qs ≡ false → list_any t (filter p qs) ≡ false
 any_filter p t [] none = refl

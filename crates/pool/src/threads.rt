@@ -1,7 +1,8 @@
 //! Workers, one an end: one in the thread that calls, the others in threads of their own, once
 //! there may be nodes for them; and their passes back from them.
 ghost use Rattle.std.specs.Prelude.{◌≡◌, ◌+◌, ◌<◌, ◌≤◌, true, false, [], ◌∷◌, ◌++◌, length};
-ghost use Rattle.std.specs.Prelude.{MatchBool, MatchOption, IfOk, IfSome, Err, vec_len, vec_capacity};
+ghost use Rattle.std.specs.Prelude.{MatchBool, MatchOption, IfOk, IfSome, Err};
+ghost use Rattle.std.specs.Prelude.{vec_len, vec_capacity};
 ghost use Rattle.std.specs.Bool.{OnTrue};
 ghost use Rattle.std.specs.List.{All};
 ghost use Rattle.board.specs.declared.journal.Journal.{Journal};
