@@ -6,14 +6,15 @@ use plain::{Shared, Text};
 use std::alloc::{AllocError, Global};
 use std::marker::Model;
 
-/// An action: a mnemonic, at least one output, inputs, and the words of a command.
+/// An action: a mnemonic, outputs, inputs, and the words of a command.
 ///
-/// Its outputs are Files that its target declared, each once.
+/// One that `ctx.actions` registers has at least one output, and its outputs are Files that its
+/// target declared, each once; nothing here asks for that.
 #[derive(Drop)]
 pub struct Action {
     /// The kind of action, as a report names it.
     pub mnemonic: Text,
-    /// What it makes: at least one File, each once.
+    /// What it makes.
     pub outputs: Files,
     /// What it reads.
     pub inputs: Inputs,

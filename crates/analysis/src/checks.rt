@@ -29,12 +29,7 @@ fn ends_with(path: &str, ending: &Text) -> bool
 fn ends_with_any(path: &str, endings: &[Text]) -> bool
     ensures { result ≡ takes_file (AllowFiles.Ending endings.now) path.now }
 {
-    for ending in endings {
-        if ends_with(path, ending) {
-            return true;
-        }
-    }
-    false
+    endings.iter().any(|ending| ends_with(path, ending))
 }
 
 /// Whether an attribute takes the source file at a path.
@@ -226,12 +221,7 @@ fn first_in_values<'a>(
 fn take_targets(attributes: &[NamedAttribute]) -> bool
     ensures { result ≡ take_targets attributes.now }
 {
-    for named in attributes {
-        if !takes_targets(named) {
-            return false;
-        }
-    }
-    true
+    attributes.iter().all(|named| takes_targets(named))
 }
 
 fn takes_targets(named: &NamedAttribute) -> bool

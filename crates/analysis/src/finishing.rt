@@ -1,7 +1,6 @@
 //! The outcome of a target from what its implementation gave.
-ghost use Rattle.std.specs.Prelude.{◌≡◌, ◌++◌, ◌∷◌, [], Ok, IfOk, OnOk};
+ghost use Rattle.std.specs.Prelude.{◌≡◌, ◌++◌, [], Ok, IfOk, OnOk};
 ghost use Rattle.values.specs.Tree.{branch};
-ghost use Rattle.operations.specs.Instances.{default_info};
 ghost use Rattle.targets.specs.Steps.{Implemented, finished, with_instances, branch_instances};
 ghost use Rattle.targets.specs.Steps.{if_instances, first_unmade, made_whole, with_default_info};
 ghost use Rattle.targets.specs.Steps.{missing_default_info};
@@ -12,31 +11,12 @@ use crate::instances::offers;
 use crate::outputs::first_unmade;
 use crate::returned::are_instances;
 use depsets::{Depset, FileRef, Id, Order};
-use plain::{Shared, Text};
+use operations::DefaultInfo;
+use plain::Shared;
 use std::alloc::{AllocError, Global};
-use targets::{Actions, Outcome, Providers, TargetFault};
-use values::{Branch, Frozen, Held, Leaf, Names, Node, Provider, ProviderRef};
+use targets::{Actions, Outcome, Providers, TargetFault, info_with};
+use values::{Branch, Frozen, Held, Leaf, Node};
 use workspace::Label;
-
-/// The provider `DefaultInfo`, which no module makes. It is made once and shared.
-///
-/// # Errors
-///
-/// `AllocError` where memory was refused.
-pub fn default_info(alloc: Global) -> Result<Shared<Provider>, AllocError>
-    ensures { IfOk result (λ p. p ≡ default_info) }
-{
-    let mut fields = Names::new(alloc);
-    fields.push(Text::new(alloc, "files")?)?;
-    Shared::new(
-        alloc,
-        Provider {
-            id: None,
-            name: ProviderRef::DefaultInfo,
-            fields,
-        },
-    )
-}
 
 /// The outcome of a target whose implementation returned this, declared these files and registered
 /// these actions.
@@ -51,12 +31,11 @@ pub fn default_info(alloc: Global) -> Result<Shared<Provider>, AllocError>
 pub fn finish(
     alloc: Global,
     label: &Label,
-    info: &Shared<Provider>,
+    info: &DefaultInfo,
     returned: &Frozen,
     files: &[Shared<FileRef>],
     actions: Actions,
 ) -> Result<Outcome, AllocError>
-    requires { info.now ≡ default_info }
     ensures { IfOk result (λ o. o ≡ finished label.now
         (Ok (record { result = returned.now; files = files.now; actions = actions }))) }
 {
@@ -71,12 +50,11 @@ pub fn finish(
 fn finish_branch(
     alloc: Global,
     label: &Label,
-    info: &Shared<Provider>,
+    info: &DefaultInfo,
     returned: &Branch,
     files: &[Shared<FileRef>],
     actions: Actions,
 ) -> Result<Outcome, AllocError>
-    requires { info.now ≡ default_info }
     ensures { IfOk result (λ o. o ≡ finished label.now
         (Ok (record { result = branch returned.now; files = files.now; actions = actions }))) }
 {
@@ -90,12 +68,11 @@ fn finish_branch(
 fn finish_list(
     alloc: Global,
     label: &Label,
-    info: &Shared<Provider>,
+    info: &DefaultInfo,
     values: &[Frozen],
     files: &[Shared<FileRef>],
     actions: Actions,
 ) -> Result<Outcome, AllocError>
-    requires { info.now ≡ default_info }
     ensures { IfOk result (λ o. (i : Implemented) → i.files ≡ files.now → i.actions ≡ actions
         → o ≡ with_instances label.now i (if_instances values.now)) }
 {
@@ -109,12 +86,11 @@ fn finish_list(
 fn done(
     alloc: Global,
     label: &Label,
-    info: &Shared<Provider>,
+    info: &DefaultInfo,
     instances: &[Frozen],
     files: &[Shared<FileRef>],
     actions: Actions,
 ) -> Result<Outcome, AllocError>
-    requires { info.now ≡ default_info }
     ensures { IfOk result (λ o. o ≡ made_whole label.now instances.now actions
         (first_unmade actions files.now)) }
 {
@@ -136,11 +112,10 @@ fn no_action(file: &FileRef) -> Result<Outcome, AllocError>
 fn whole(
     alloc: Global,
     label: &Label,
-    info: &Shared<Provider>,
+    info: &DefaultInfo,
     instances: &[Frozen],
     actions: Actions,
 ) -> Result<Outcome, AllocError>
-    requires { info.now ≡ default_info }
     ensures { IfOk result (λ o. o
         ≡ Outcome.Done (with_default_info label.now instances.now) actions) }
 {
@@ -152,13 +127,12 @@ fn whole(
 fn with_default_info(
     alloc: Global,
     label: &Label,
-    info: &Shared<Provider>,
+    info: &DefaultInfo,
     instances: &[Frozen],
 ) -> Result<Providers, AllocError>
-    requires { info.now ≡ default_info }
     ensures { IfOk result (λ ps. ps ≡ with_default_info label.now instances.now) }
 {
-    if offers(instances, info.get()) {
+    if offers(instances, info.provider().get()) {
         return shared(alloc, instances);
     }
     let mut providers = Providers::with_capacity(alloc, instances.len().saturating_add(1))?;
@@ -191,16 +165,11 @@ fn put_all(instances: &[Frozen], providers: &mut Providers) -> Result<(), AllocE
 fn missing_default_info(
     alloc: Global,
     label: &Label,
-    info: &Shared<Provider>,
+    info: &DefaultInfo,
 ) -> Result<Frozen, AllocError>
-    requires { info.now ≡ default_info }
     ensures { IfOk result (λ f. f ≡ missing_default_info label.now) }
 {
-    let files = no_files(alloc, label)?;
-    let mut fields = Vec::with_capacity(alloc, 1)?;
-    fields.push(Some(Frozen::of_leaf(Leaf::Depset(files))))?;
-    let instance = Branch::instance(alloc, info.share()?, fields)?;
-    Ok(Frozen::of_branch(instance))
+    info_with(alloc, no_files(alloc, label)?, info)
 }
 
 /// An empty depset of a target, with serial 0.

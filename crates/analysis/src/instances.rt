@@ -46,36 +46,21 @@ pub fn is_of(value: &Frozen, provider: &Provider) -> bool
 pub fn offers(values: &[Frozen], provider: &Provider) -> bool
     ensures { result ≡ offers values.now provider.now }
 {
-    for value in values {
-        if is_of(value, provider) {
-            return true;
-        }
-    }
-    false
+    values.iter().any(|value| is_of(value, provider))
 }
 
 /// Whether the values have an instance of each of the providers.
 fn offers_all(values: &Offered<'_>, providers: &[Shared<Provider>]) -> bool
     ensures { result ≡ offers_all values.now providers.now }
 {
-    for provider in providers {
-        if !values.has(provider.get()) {
-            return false;
-        }
-    }
-    true
+    providers.iter().all(|provider| values.has(provider.get()))
 }
 
 /// Whether the values have an instance of each of one of the lists.
 fn offers_one_of(values: &Offered<'_>, lists: &[Sequence<Shared<Provider>>]) -> bool
     ensures { result ≡ list_any (offers_all values.now) lists.now }
 {
-    for list in lists {
-        if offers_all(values, list.as_slice()) {
-            return true;
-        }
-    }
-    false
+    lists.iter().any(|list| offers_all(values, list.as_slice()))
 }
 
 /// The same, or there is no list.

@@ -19,7 +19,7 @@ mod returned;
 pub use checks::first_refused;
 pub use dependency::Dependency;
 pub use failed::failed_labels;
-pub use finishing::{default_info, finish};
+pub use finishing::finish;
 pub use instances::{is_of, offers};
 pub use label_keys::{LabelKey, label_key};
 pub use needed::Needed;

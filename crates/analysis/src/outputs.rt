@@ -68,24 +68,16 @@ fn first_unmade_of_few<'a>(
 fn is_made(actions: &[Action], path: &str) -> bool
     ensures { result ≡ list_any (makes path.now) actions.now }
 {
-    for action in actions {
-        if makes(action.outputs.as_slice(), path) {
-            return true;
-        }
-    }
-    false
+    actions
+        .iter()
+        .any(|action| makes(action.outputs.as_slice(), path))
 }
 
 /// Whether one of the files is at a path.
 fn makes(files: &[Shared<FileRef>], path: &str) -> bool
     ensures { result ≡ list_any (λ f. bytes_eq path.now f.path) files.now }
 {
-    for file in files {
-        if path == file.get().path.as_str() {
-            return true;
-        }
-    }
-    false
+    files.iter().any(|file| path == file.get().path.as_str())
 }
 
 /// The paths of all outputs of actions.

@@ -15,7 +15,6 @@ mod refused;
 mod report;
 mod team;
 
-pub use label::LabelAnalysis;
 pub use letting_go::Leftovers;
 pub use refused::NoReport;
 pub use report::{NODE_LIMIT, report_on, report_on_shelf};

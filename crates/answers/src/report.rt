@@ -82,7 +82,7 @@ fn told<R: Threads + Sync>(
 }
 
 /// The targets of a workspace that is read and evaluated, where each evaluation may use so many
-/// ticks, by so many threads.
+/// steps (ticks of evaluation), by so many threads.
 fn targets_of<R: Threads + Sync>(
     rt: &R,
     alloc: Global,
@@ -217,7 +217,7 @@ where
 }
 
 /// The report on labels of a workspace and on all that they depend on, where each evaluation may
-/// use so many ticks.
+/// use so many steps (ticks of evaluation).
 ///
 /// It is [`report_on_shelf`] where each worker has a deque, and where the memory of what the report
 /// was made of is given back.

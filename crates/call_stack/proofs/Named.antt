@@ -4,6 +4,8 @@ use Rattle.std.proofs.lemmas.Bool.Decides.{nat_tests}
 use Rattle.std.specs.Prelude.{Bool, true, false, not, ◌&&◌, Option, Some, None, position, slice_get, bytes_eq}
 use Rattle.std.specs.List.{list_any, list_all, position_or_len}
 use Rattle.std.specs.Map.{lookup}
+use Rattle.std.proofs.lemmas.Iterator.Adapters.{position_from-zero}
+use Rattle.first_places.specs.Places.{place_named}
 use Rattle.program_tree.specs.Names.{Name}
 use Rattle.meaning.specs.Entry.{all_known, paired}
 
@@ -32,12 +34,16 @@ more false n len v vs = by (ltb n len) ∙ sym (ap (λ b. at (cond b (Some (1 + 
     by false = refl
 
 -- the value of a name stands where the name stands
-pub lookup_position : {V : Type 0} (p : Name) (xs : List Name) (vs : List V) →
+lookup_position : {V : Type 0} (p : Name) (xs : List Name) (vs : List V) →
     lookup (bytes_eq p) (paired xs vs) ≡ at (position (bytes_eq p) xs) vs
 lookup_position p [] vs = refl
 lookup_position p (x ∷ xs) [] = sym (at_nil (position (bytes_eq p) (x ∷ xs)))
 lookup_position p (x ∷ xs) (v ∷ vs) =
     ap (λ o. cond (bytes_eq p x) (Some v) o) (lookup_position p xs vs) ∙ more (bytes_eq p x) (position_or_len (bytes_eq p) xs) (length xs) v vs
+
+pub lookup_place : {V : Type 0} (p : Name) (xs : List Name) (vs : List V) →
+    lookup (bytes_eq p) (paired xs vs) ≡ at (place_named p xs) vs
+lookup_place p xs vs = lookup_position p xs vs ∙ ap (λ o. at o vs) (position_from-zero (bytes_eq p) xs)
 
 -- the names that have values
 pub known_taken : {V : Type 0} (params xs : List Name) (vs : List V) (n : ℕ) → n ≡ min (length xs) (length vs) →

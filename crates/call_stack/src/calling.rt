@@ -133,6 +133,7 @@ pub fn call_function<'a, W: Operate<'a>>(
     let defaults = world.defaults(state, function);
     let kept = &mut *frame;
     let fits = slots_at_entry(
+        world.alloc(),
         &mut kept.slots,
         code.params(),
         code.slots(),

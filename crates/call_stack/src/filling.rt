@@ -1,9 +1,7 @@
 //! What the parameters of a function get.
 
-ghost use Rattle.std.specs.Prelude.{◌≡◌, ◌≤◌, ◌++◌, [], None, Some, length, drop, map, position};
-ghost use Rattle.std.specs.Prelude.{replicate, slice_get, option_copied, option_map, bytes_eq};
-ghost use Rattle.std.specs.Prelude.{IfOk};
-ghost use Rattle.std.specs.List.{list_any, list_all};
+ghost use Rattle.std.specs.Prelude.{◌≡◌, ◌≤◌, ◌++◌, [], None, Some, length, drop, map, replicate};
+ghost use Rattle.std.specs.Prelude.{slice_get, option_copied, option_map, bytes_eq, IfOk};
 ghost use Rattle.std.specs.Map.{lookup};
 ghost use Rattle.meaning.specs.Entry.{all_known, defaults_of, entry, filled, paired};
 ghost use Rattle.frames.specs.Answers.{given};
@@ -11,59 +9,45 @@ ghost use Rattle.operands.specs.Lying.{stored_value};
 ghost use Rattle.frames.specs.Kept.{defaults_seen};
 ghost use Rattle.call_stack.specs.Filled.{behind, default_at, fitting, got, rest_filled, top_of};
 
+use first_places::{FirstPlaces, are_among};
 use frames::{Defaults, Slots, Stack};
 use operands::{Operand, Stored};
 use plain::Text;
 use std::alloc::{AllocError, Global};
 
-/// The place of a name.
-fn place_of(name: &Text, names: &[Text]) -> Option<usize>
-    ensures { result ≡ position (bytes_eq name.now) names.now }
-{
-    names.iter().position(|other| *name == *other)
-}
-
 /// The value of an argument by its name, if there is one of this name.
 fn named_value<'a, 'b>(
     param: &Text,
-    names: &[Text],
+    names: &FirstPlaces<'_>,
     named: &'b [Operand<'a>],
 ) -> Option<&'b Operand<'a>>
     ensures { option_copied result ≡ lookup (bytes_eq param.now) (paired names.now named.now) }
 {
-    match place_of(param, names) {
+    match names.get(param.as_str()) {
         Some(index) => value_at(named, index),
         None => None,
     }
 }
 
-/// Whether a name is that of a parameter.
-fn is_param(params: &[Text], name: &Text) -> bool
-    ensures { result ≡ list_any (bytes_eq name.now) params.now }
-{
-    params.iter().any(|param| *name == *param)
-}
-
-/// Whether each name is that of a parameter.
-fn are_params(params: &[Text], names: &[Text]) -> bool
-    ensures { result ≡ list_all (λ n. list_any (bytes_eq n) params.now) names.now }
-{
-    names.iter().all(|name| is_param(params, name))
-}
-
 /// Whether each argument by name is one of a parameter.
-fn are_known(params: &[Text], names: &[Text], named: &[Operand<'_>]) -> bool
-    ensures { result ≡ all_known params.now (paired names.now named.now) }
+fn are_known(
+    alloc: Global,
+    params: &[Text],
+    names: &[Text],
+    named: &[Operand<'_>],
+) -> Result<bool, AllocError>
+    ensures { IfOk result (λ b. b ≡ all_known params.now (paired names.now named.now)) }
 {
     let count = names.len().min(named.len());
-    are_params(params, &names[..count])
+    let known = are_among(alloc, &names[..count], params)?;
+    Ok(known)
 }
 
 /// What one parameter gets, if it gets something.
 fn given_to<'a>(
     param: &Text,
     item: Option<Operand<'a>>,
-    names: &[Text],
+    names: &FirstPlaces<'_>,
     named: &[Operand<'a>],
     default: Option<Stored<'a, '_>>,
 ) -> Result<Option<Operand<'a>>, AllocError>
@@ -116,7 +100,7 @@ fn fill<'a>(
     params: &[Text],
     defaults: Defaults<'a, '_>,
     items: &mut Stack<Operand<'a>>,
-    names: &[Text],
+    names: &FirstPlaces<'_>,
     named: &[Operand<'a>],
 ) -> Result<bool, AllocError>
     requires { slots.old ≡ [] }
@@ -222,6 +206,7 @@ pub fn unset<'a>(alloc: Global, count: usize) -> Result<Slots<'a>, AllocError>
 /// parameters.
 #[tactic(auto, unfolding(meaning::specs::Entry::entry))]
 pub(crate) fn slots_at_entry<'a>(
+    alloc: Global,
     slots: &mut Slots<'a>,
     params: &[Text],
     count: usize,
@@ -234,12 +219,13 @@ pub(crate) fn slots_at_entry<'a>(
         (defaults_seen defaults.entry) (given items.old names.now named.entry)) }
 {
     let named = named.into_vec();
-    if !are_known(params, names, named.as_slice()) {
+    if !are_known(alloc, params, names, named.as_slice())? {
         return Ok(false);
     }
+    let names = FirstPlaces::new(alloc, names)?;
     slots.let_go();
     slots.reserve(count)?;
-    if !fill(slots, params, defaults, items, names, named.as_slice())? {
+    if !fill(slots, params, defaults, items, &names, named.as_slice())? {
         return Ok(false);
     }
     pad(slots, count.saturating_sub(params.len()))?;

@@ -1,6 +1,6 @@
 //! Codes that are linked.
 
-ghost use Rattle.std.specs.Prelude.{◌≡◌, [], ◌∷◌, ◌++◌, IfOk, option_copied};
+ghost use Rattle.std.specs.Prelude.{◌≡◌, [], ◌∷◌, ◌++◌, MatchResult, option_copied};
 ghost use Rattle.meaning.specs.Linked.{AreFileCodes};
 
 use code::{Code, FunctionCode, Lined};
@@ -29,13 +29,14 @@ impl Linked {
         }
     }
 
-    /// One file more: its number is how many there were.
+    /// One file more: its number is how many there were. After an error they are as they were.
     ///
     /// # Errors
     ///
     /// Memory was refused.
     pub fn add(&mut self, code: Code) -> Result<(), AllocError>
-        ensures { IfOk result (λ _. codes_of self.new ≡ codes_of self.old ++ code ∷ []) }
+        ensures { MatchResult result (λ _. codes_of self.new ≡ codes_of self.old ++ code ∷ [])
+            (λ _. codes_of self.new ≡ codes_of self.old) }
     {
         let _compiled = code.functions();
         self.files.push(code)?;

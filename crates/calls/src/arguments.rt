@@ -83,12 +83,7 @@ pub fn argument<'a, 'v>(
 fn are_all(name: &str, names: &[Text]) -> bool
     ensures { result ≡ all_known (wanted name.now ∷ []) names.now }
 {
-    for other in names {
-        if other.as_str() != name {
-            return false;
-        }
-    }
-    true
+    names.iter().all(|other| other.as_str() == name)
 }
 
 /// What the parameter of this name, at this place, gets of arguments that fit: what stands at its

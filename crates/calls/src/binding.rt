@@ -44,12 +44,7 @@ pub fn check_arguments(
 fn are_known(parameters: &[Parameter<'_>], names: &[Text]) -> bool
     ensures { result ≡ all_known (map taken parameters.now) names.now }
 {
-    for name in names {
-        if !is_known(parameters, name) {
-            return false;
-        }
-    }
-    true
+    names.iter().all(|name| is_known(parameters, name))
 }
 
 /// Whether a name is that of a parameter.

@@ -24,4 +24,4 @@ pub use members::Places;
 pub use owned::Owned;
 pub use sets::Shared;
 pub use telling::Telling;
-pub use told::{Told, conflicts, shared, tell};
+pub use told::{Told, shared, tell};

@@ -30,12 +30,23 @@ pub struct Told {
     pub tellings: Vec<Telling>,
 }
 
-/// The conflicts of these actions, and how each is told.
+/// The conflicts of these actions, and how each is told. Conflicts stand by bytes of the path; the
+/// labels of one are in order, by bytes, and a label stands there as often as its actions declare
+/// the path.
+///
+/// It takes n log n comparisons of paths for n outputs, and lists the inputs once of each action
+/// that declares a path that another declares too, or none. Where inputs are coherent, they are
+/// compared as the plain listing has them.
 ///
 /// # Errors
 ///
 /// `AllocError` where memory was refused.
 pub fn tell(alloc: Global, owned: &[Owned<'_>]) -> Result<Told, AllocError>
+    ensures law { IfOk result (λ t. AreConflicts walked owned.now t.conflicts.items) }
+    ensures labels { IfOk result
+        (λ t. Each (λ c. AreLabels owned.now c.path c.labels) t.conflicts.items) }
+    ensures plain { IfOk result
+        (λ t. AreCoherent owned.now → AreConflicts flat owned.now t.conflicts.items) }
     ensures conflicts { IfOk result (λ t. t.conflicts.items ≡ conflicts_of walked owned.now) }
     ensures tellings { IfOk result (λ t. t.tellings.items
         ≡ map (telling walked owned.now) owned.now) }
@@ -48,35 +59,6 @@ pub fn tell(alloc: Global, owned: &[Owned<'_>]) -> Result<Told, AllocError>
         conflicts,
         tellings,
     })
-}
-
-/// The conflicts of these actions, by bytes of the path; the labels of one are in order, by bytes,
-/// and a label stands there as often as its actions declare the path.
-///
-/// It takes n log n comparisons of paths for n outputs, and lists the inputs once of each action
-/// that declares a path that another declares too, or none. Where inputs are coherent, they are
-/// compared as the plain listing has them.
-///
-/// # Errors
-///
-/// `AllocError` where memory was refused.
-pub fn conflicts(alloc: Global, owned: &[Owned<'_>]) -> Result<Vec<Conflict>, AllocError>
-    ensures law { IfOk result (λ v. AreConflicts walked owned.now v.items) }
-    ensures labels { IfOk result (λ v. Each (λ c. AreLabels owned.now c.path c.labels) v.items) }
-    ensures found { IfOk result (λ v. v.items ≡ conflicts_of walked owned.now) }
-    ensures plain { IfOk result (λ v. AreCoherent owned.now → AreConflicts flat owned.now v.items) }
-{
-    let found = all_conflicts(alloc, owned)?;
-    Ok(found)
-}
-
-/// The conflicts of these actions.
-fn all_conflicts(alloc: Global, owned: &[Owned<'_>]) -> Result<Vec<Conflict>, AllocError>
-    ensures { IfOk result (λ v. v.items ≡ conflicts_of walked owned.now) }
-{
-    let commons = commons(alloc, owned)?;
-    let leaders = leaders_among(alloc, owned, &commons)?;
-    conflicts_by(alloc, owned, &leaders, &commons)
 }
 
 /// The leaders of these actions, where these are their common paths.

@@ -1,6 +1,6 @@
 //! Conflicts and shared actions of small lists.
 use actions::{Action, Files, Inputs, Words};
-use claims::{Conflict, Owned, Places, Shared, conflicts, shared};
+use claims::{Conflict, Owned, Places, Shared, shared, tell};
 use depsets::FileRef;
 use plain::{Shared as Counted, Text};
 use std::alloc::{AllocError, Global};
@@ -87,17 +87,17 @@ fn two_equal(alloc: Global) -> Result<Vec<Action>, AllocError> {
 fn one_conflict(alloc: Global) -> Result<bool, AllocError> {
     let actions = three(alloc)?;
     let owned = owned(alloc, &["//a:y", "//a:x", "//a:x"], &actions)?;
-    let found = conflicts(alloc, &owned)?;
+    let told = tell(alloc, &owned)?;
     let sets = shared(alloc, &owned)?;
-    Ok(is_conflict(&found, "a/o", &["//a:x", "//a:x", "//a:y"]) && sets.is_empty())
+    Ok(is_conflict(&told.conflicts, "a/o", &["//a:x", "//a:x", "//a:y"]) && sets.is_empty())
 }
 
 fn one_set(alloc: Global) -> Result<bool, AllocError> {
     let actions = two_equal(alloc)?;
     let owned = owned(alloc, &["//b:z", "//b:q", "//a:y"], &actions)?;
-    let found = conflicts(alloc, &owned)?;
+    let told = tell(alloc, &owned)?;
     let sets = shared(alloc, &owned)?;
-    Ok(found.is_empty() && is_set(&sets, &[2, 0], &["//a:y", "//b:z"]))
+    Ok(told.conflicts.is_empty() && is_set(&sets, &[2, 0], &["//a:y", "//b:z"]))
 }
 
 #[test]

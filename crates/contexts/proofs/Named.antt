@@ -2,8 +2,9 @@
 use Rattle.std.proofs.Common.{◌≡◌, ◌∙◌, ℕ, ◌+◌, Bool, true, false, suc, List, [], ◌∷◌, map, Option, Some, None, if◌then◌else◌, ap, refl, arith}
 use Rattle.std.proofs.lemmas.Option.{slice_get-map}
 use Rattle.std.specs.Prelude.{option_map}
+use Rattle.std.specs.List.{position_from}
 use Rattle.std.specs.Str.{bytes_eq}
-use Rattle.operations.specs.Arguments.{place_from, place_named}
+use Rattle.first_places.specs.Places.{place_named}
 use Rattle.operations.specs.Items.{at_place}
 use Rattle.targets.specs.Placed.{names_of}
 use Rattle.targets.specs.declared.attributes.AttributeValue.{AttributeValue}
@@ -17,11 +18,11 @@ after true i o p h = refl
 after false i o p h = h
 
 -- a place that is counted from one more
-later_place : (x : List ℕ) (i : ℕ) (ns : List (List ℕ)) → place_from x (suc i) ns ≡ option_map (λ n. suc n) (place_from x i ns)
+later_place : (x : List ℕ) (i : ℕ) (ns : List (List ℕ)) → position_from (bytes_eq x) (suc i) ns ≡ option_map (λ n. suc n) (position_from (bytes_eq x) i ns)
 later_place x i [] = refl
 later_place x i (n ∷ ns) =
     let e : suc i + 1 ≡ suc (i + 1) = omega arith in
-    after (bytes_eq x n) i (place_from x (i + 1) ns) (place_from x (suc i + 1) ns) (ap (λ k. place_from x k ns) e ∙ later_place x (i + 1) ns)
+    after (bytes_eq x n) i (position_from (bytes_eq x) (i + 1) ns) (position_from (bytes_eq x) (suc i + 1) ns) (ap (λ k. position_from (bytes_eq x) k ns) e ∙ later_place x (i + 1) ns)
 
 next : {A : Type 0} (v : A) (vs : List A) (o : Option ℕ) → at_place (v ∷ vs) (option_map (λ n. suc n) o) ≡ at_place vs o
 next v vs None = refl
@@ -40,8 +41,8 @@ pub named_at : (x : List ℕ) (named : List NamedAttribute) (vs : List Attribute
 named_at x [] vs = refl
 named_at x (a ∷ rest) [] = nowhere (place_named x (names_of (a ∷ rest)))
 named_at x (a ∷ rest) (v ∷ vs) =
-    chosen (bytes_eq x a.name) v vs (place_from x 1 (names_of rest)) (value_named x rest vs)
-    (ap (at_place (v ∷ vs)) (later_place x 0 (names_of rest)) ∙ next v vs (place_from x 0 (names_of rest)) ∙ named_at x rest vs)
+    chosen (bytes_eq x a.name) v vs (position_from (bytes_eq x) 1 (names_of rest)) (value_named x rest vs)
+    (ap (at_place (v ∷ vs)) (later_place x 0 (names_of rest)) ∙ next v vs (position_from (bytes_eq x) 0 (names_of rest)) ∙ named_at x rest vs)
 
 -- what stands at a place, of what is made of each
 pub mapped_at : {A B : Type 0} (f : A → B) (xs : List A) (o : Option ℕ) → at_place (map f xs) o ≡ option_map f (at_place xs o)

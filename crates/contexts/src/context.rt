@@ -2,8 +2,7 @@
 ghost use Rattle.std.proofs.Props.{props};
 ghost use Rattle.std.specs.Prelude.{◌≡◌, ℕ, IfOk, IfSome, map, option_map};
 ghost use Rattle.values.specs.Seeing.{item_value};
-ghost use Rattle.operations.specs.Arguments.{place_named};
-ghost use Rattle.operations.specs.Instances.{default_info};
+ghost use Rattle.first_places.specs.Places.{place_named};
 ghost use Rattle.targets.specs.Placed.{names_of};
 ghost use Rattle.analysis.specs.Seen.{dependencies_seen};
 ghost use Rattle.operations.specs.Making.{text};
@@ -18,10 +17,11 @@ use crate::listings::files;
 use analysis::Dependency;
 use field_names::FieldName;
 use operands::{Operand, owned};
-use plain::{Shared, Text};
+use operations::DefaultInfo;
+use plain::Text;
 use std::alloc::{AllocError, Global};
 use targets::Target;
-use values::{Broken, Item, Key, Kind, Leaf, Provider, Value};
+use values::{Broken, Item, Key, Kind, Leaf, Value};
 use workspace::Label;
 
 /// A label, its target and the target's dependencies with their outcomes; and what is made of them
@@ -58,9 +58,8 @@ impl<'a, I: FileLists> TargetContext<'a, I> {
         label: &'a Label,
         target: &'a Target,
         dependencies: &'a [Dependency<'a>],
-        info: &'a Shared<Provider>,
+        info: &'a DefaultInfo,
     ) -> Result<TargetContext<'a, I>, AllocError>
-        requires info { info.now ≡ default_info }
         requires lists { (place : ℕ)
             → I.list_at place ≡ files_at target.now (dependencies_seen dependencies.now) place }
         ensures label { IfOk result (λ c. c.label.now ≡ label.now) }

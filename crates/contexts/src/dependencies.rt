@@ -1,6 +1,5 @@
 //! The dependencies of a target, as its implementation has them.
 ghost use Rattle.std.specs.Prelude.{◌≡◌, ◌<◌, IfOk, OnOk, length, option_map, slice_get, Some};
-ghost use Rattle.operations.specs.Instances.{default_info};
 ghost use Rattle.targets.specs.RuleCalls.{same_label};
 ghost use Rattle.analysis.specs.Seen.{dependency_seen, dependencies_seen};
 ghost use Rattle.contexts.specs.Fields.{place_of};
@@ -9,11 +8,11 @@ ghost use Rattle.contexts.specs.Placed.{key_label, ArePlaced, HasFirst};
 
 use analysis::Dependency;
 use indexmap::IndexMap;
-use plain::Shared;
+use operations::DefaultInfo;
 use std::alloc::{AllocError, Global};
 use std::marker::Model;
 use targets::Outcome;
-use values::{Frozen, Provider};
+use values::Frozen;
 use workspace::Label;
 
 /// So many dependencies, at most, are gone through rather than found by hash.
@@ -29,12 +28,11 @@ pub struct Dependencies<'a> {
     all: &'a [Dependency<'a>],
     /// The first place of each label, where there are many.
     places: IndexMap<PlaceKey<'a>, usize>,
-    info: &'a Shared<Provider>,
+    info: &'a DefaultInfo,
 }
 
 impl<'a> Model for Dependencies<'a> {
     ghost use Rattle.std.specs.Prelude.{◌≡◌, List, ◌<◌, length};
-    ghost use Rattle.operations.specs.Instances.{default_info};
     ghost use Rattle.targets.specs.Checks.{Dependency as Depends};
     ghost use Rattle.analysis.specs.Seen.{dependencies_seen};
     ghost use Rattle.contexts.specs.Placed.{ArePlaced};
@@ -49,9 +47,8 @@ impl<'a> Model for Dependencies<'a> {
 
     ghost view = { λ d. dependencies_seen d.all.now };
 
-    ghost invariant = { λ d.
-        (FEW < length d.all.now → ArePlaced (dependencies_seen d.all.now) d.places)
-        × (d.info.now ≡ default_info) };
+    ghost invariant = { λ d. FEW < length d.all.now
+        → ArePlaced (dependencies_seen d.all.now) d.places };
 }
 
 impl<'a> Dependencies<'a> {
@@ -63,9 +60,8 @@ impl<'a> Dependencies<'a> {
     pub fn new(
         alloc: Global,
         all: &'a [Dependency<'a>],
-        info: &'a Shared<Provider>,
+        info: &'a DefaultInfo,
     ) -> Result<Dependencies<'a>, AllocError>
-        requires { info.now ≡ default_info }
         ensures { IfOk result (λ d. d ≡ dependencies_seen all.now) }
     {
         let places = places_of_many(alloc, all)?;
@@ -73,9 +69,7 @@ impl<'a> Dependencies<'a> {
     }
 
     /// The provider `DefaultInfo`.
-    pub(crate) fn info(&self) -> &'a Shared<Provider>
-        ensures { result.now ≡ default_info }
-    {
+    pub(crate) fn info(&self) -> &'a DefaultInfo {
         self.info
     }
 

@@ -68,7 +68,7 @@ fn target_field<'a, 'b>(
     if name.is(KnownName::Label) {
         Some(Operand::lent(Item::Tree(dependency.tree)))
     } else if name.is(KnownName::Files) {
-        files_in(dependencies.instances(place), dependencies.info().get())
+        files_in(dependencies.instances(place), dependencies.info())
     } else {
         None
     }

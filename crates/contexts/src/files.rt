@@ -13,15 +13,16 @@ use crate::offered::instance_of;
 use depsets::Depset;
 use making::field;
 use operands::Operand;
+use operations::DefaultInfo;
 use plain::Text;
 use values::{Frozen, Held, Item, Leaf, Provider, Seen, Value};
 
 /// The depset in `files` of the `DefaultInfo` among instances, if there is one, where it lies.
-pub(crate) fn files_in<'a>(instances: &'a [Frozen], info: &Provider) -> Option<Operand<'a>>
-    requires { info.now ≡ default_info }
+pub(crate) fn files_in<'a>(instances: &'a [Frozen], info: &DefaultInfo) -> Option<Operand<'a>>
     ensures { result ≡ option_map depset_value (files_in instances.now) }
 {
-    match (instance_of(instances, info), files_name(info)) {
+    let provider = info.provider().get();
+    match (instance_of(instances, provider), files_name(provider)) {
         (Some(instance), Some(files)) => tree_files(instance, files),
         _ => None,
     }

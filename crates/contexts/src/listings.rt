@@ -4,7 +4,6 @@ ghost use Rattle.std.specs.Prelude.{IfOk, OnOk, map, length, slice_get};
 ghost use Rattle.depsets.specs.Listed.{walked};
 ghost use Rattle.values.specs.Seeing.{item_value};
 ghost use Rattle.ticks.specs.Ticking.{FaultOr};
-ghost use Rattle.operations.specs.Instances.{default_info};
 ghost use Rattle.operations.specs.States.{Gives};
 ghost use Rattle.contexts.specs.Fields.{attribute_labels, files_listed, files_or_name, frozen_list};
 ghost use Rattle.contexts.specs.Fields.{listing, listed_files, element_tree, place_of};
@@ -99,7 +98,7 @@ fn put_files(
     ensures { OnOk result (trees.new.items ≡ trees.old.items
         ++ map element_tree (listed_files (slice_get dependencies.now place))) }
 {
-    match files_in(dependencies.instances(place), dependencies.info().get()) {
+    match files_in(dependencies.instances(place), dependencies.info()) {
         Some(files) => put_value(alloc, files.item(), trees),
         None => Ok(()),
     }

@@ -15,6 +15,7 @@ use crate::Declarations;
 use crate::fields::fields_in;
 use crate::names::may_be_doc;
 use calls::{Parameter, check_arguments, got};
+use first_places::PlacedNames;
 use operands::Operand;
 use operations::{Arguments, State};
 use plain::Shared;
@@ -98,6 +99,7 @@ fn declare_provider(
     if number == u32::MAX {
         return Err(Broken::NoMemory);
     }
+    let fields = fields.placed(alloc)?;
     let provider = provider_of(state, number, fields)?;
     let provider = Shared::new(alloc, provider)?;
     declared.providers = number + 1;
@@ -105,7 +107,7 @@ fn declare_provider(
 }
 
 /// The provider of this number. Until the end of its module it is called by it.
-fn provider_of(state: &State, number: u32, fields: Names) -> Result<Provider, AllocError>
+fn provider_of(state: &State, number: u32, fields: PlacedNames) -> Result<Provider, AllocError>
     ensures { IfOk result (λ p. p ≡ provider_numbered state.now number fields) }
 {
     let path = state.owner.share()?;

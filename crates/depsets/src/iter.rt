@@ -30,6 +30,7 @@ impl<'l, 'a> Iterator for ElementsIter<'l, 'a> {
 
     ghost remaining = { item_count (λ elements. elements) };
 
+    #[inline(always)]
     fn next(&mut self) -> Option<&'a Element> {
         if self.next >= self.elements.len() {
             return None;
@@ -47,6 +48,7 @@ impl<'l, 'a> IntoIterator for &'l Elements<'a> {
 
     ghost into_iter_gives = { λ s r. r ≡ s.now };
 
+    #[inline(always)]
     fn into_iter(self) -> ElementsIter<'l, 'a> {
         ElementsIter {
             elements: self,

@@ -50,15 +50,15 @@ impl Depset {
     /// The listing of the depset in its own order.
     ///
     /// It takes as many steps as there is work: 1, and over the distinct ids the direct elements
-    /// and the links to children. What it promises of items and steps speaks of coherent depsets:
-    /// those where any two parts with one id are the same tree. Of others the items are still those
-    /// of the walk.
+    /// and the links to children. Items and steps are those of the walk; of a coherent depset, in
+    /// which any two parts with one id are the same tree, they are those of the whole tree.
     ///
     /// # Errors
     ///
     /// `AllocError` where memory was refused, or where the steps pass the greatest `u64`.
     pub fn list_whole(&self, alloc: Global) -> Result<Listing<'_>, AllocError>
         ensures walk { IfOk result (λ l. l.items ≡ walked self.now) }
+        ensures walk_steps { IfOk result (λ l. l.steps ≡ walked_steps self.now) }
         ensures items { IfOk result (λ l. IsCoherent self.now → l.items ≡ flat self.now) }
         ensures steps { IfOk result (λ l. IsCoherent self.now → l.steps ≡ work self.now) }
     {
@@ -117,6 +117,7 @@ impl Depset {
     /// `Large` exactly where the listing has more items; `NoMemory` as for `list_whole`.
     pub fn to_list(&self, alloc: Global) -> Result<Listing<'_>, ListError>
         ensures walk { IfOk result (λ l. l.items ≡ walked self.now) }
+        ensures walk_steps { IfOk result (λ l. l.steps ≡ walked_steps self.now) }
         ensures items { IfOk result (λ l. IsCoherent self.now → l.items ≡ flat self.now) }
         ensures steps { IfOk result (λ l. IsCoherent self.now → l.steps ≡ work self.now) }
         ensures fits { IfOk result (λ l. length l.items ≤ ITEMS) }

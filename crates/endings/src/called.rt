@@ -6,6 +6,7 @@ ghost use Rattle.evaluation.specs.Naming.{exported_as, leaf_named, provider_name
 ghost use Rattle.evaluation.specs.Naming.{with_provider_name, with_rule_name};
 
 use crate::naming::Naming;
+use first_places::PlacedNames;
 use plain::{Shared, Text};
 use std::alloc::{AllocError, Global};
 use values::{ExportName, Exported, Frozen, Leaf, Names, Provider, ProviderRef, RuleRef};
@@ -21,14 +22,14 @@ fn name_at(names: &[Option<Text>], number: u32) -> Option<&Text>
 }
 
 /// The same names.
-fn share_names(alloc: Global, names: &Names) -> Result<Names, AllocError>
+fn share_names(alloc: Global, names: &PlacedNames) -> Result<PlacedNames, AllocError>
     ensures { IfOk result (λ n. n ≡ names.now) }
 {
     let mut shared = Names::new(alloc);
     for name in names.as_slice() {
         shared.push(name.share()?)?;
     }
-    Ok(shared)
+    shared.placed(alloc)
 }
 
 impl Naming {

@@ -2,15 +2,13 @@
 use Rattle.std.specs.Prelude.{◌≡◌, List, [], ◌∷◌, Option, MatchOption, drop}
 use Rattle.values.specs.declared.sees.Table.{Table}
 use Rattle.values.specs.declared.value.Value.{Value}
-use Rattle.values.specs.Seeing.{group_items, table_entries}
+use Rattle.values.specs.Seeing.{table_entries}
 use Rattle.values.specs.Shape.{branch_shape}
 use Rattle.values.specs.Walks.{keys_as_values}
 use Rattle.operations.specs.Walks.{walked_items}
 use Rattle.evaluator.specs.declared.left.FrozenLeft.{FrozenLeft}
 use Rattle.evaluator.specs.declared.left.HeldItemsLeft.{HeldItemsLeft}
 use Rattle.evaluator.specs.declared.left.HeldKeysLeft.{HeldKeysLeft}
-use Rattle.evaluator.specs.declared.left.ItemsLeft.{ItemsLeft}
-use Rattle.evaluator.specs.declared.left.KeysLeft.{KeysLeft}
 use Rattle.evaluator.specs.declared.left.Left.{Left}
 use Rattle.evaluator.specs.declared.left.Left.TheVariants as left
 
@@ -30,21 +28,13 @@ held_keys_seen l = drop l.place (keys_as_values l.entries)
 abbrev pub frozen_seen : FrozenLeft → List Value
 frozen_seen l = drop l.place (walked_items (branch_shape l.branch))
 
--- the items that are left of a list or tuple that is lent
-abbrev pub items_seen : ItemsLeft → List Value
-items_seen l = drop l.place (group_items l.items)
-
--- the keys that are left of a dict that is lent
-abbrev pub keys_seen : KeysLeft → List Value
-keys_seen l = drop l.place (table_keys l.entries)
-
 -- what a `for` loop or a comprehension has still to go over, in order
 abbrev pub left_seen : Left → List Value
 left_seen (left.HeldItems l) = held_items_seen l
 left_seen (left.HeldKeys l) = held_keys_seen l
 left_seen (left.Frozen l) = frozen_seen l
-left_seen (left.Items l) = items_seen l
-left_seen (left.Keys l) = keys_seen l
+left_seen (left.Items l) = l
+left_seen (left.Keys l) = keys_as_values l
 left_seen left.Nothing = []
 
 -- what is left gives its first item, None where there is none

@@ -6,12 +6,16 @@ ghost use Rattle.values.specs.Shape.{shape};
 ghost use Rattle.values.specs.Visits.{keys_of};
 ghost use Rattle.values.specs.Walks.{walked_items, walked_values};
 ghost use Rattle.evaluator.specs.Walked.{Gives, left_seen, frozen_seen, held_items_seen};
-ghost use Rattle.evaluator.specs.Walked.{held_keys_seen, items_seen, keys_seen, table_keys};
+ghost use Rattle.evaluator.specs.Walked.{held_keys_seen, table_keys};
+ghost use Rattle.values.specs.Walks.{keys_as_values};
 
 use heap::Heap;
 use operands::Operand;
 use std::alloc::AllocError;
-use values::{Branch, Group, HeldEntries, HeldItems, Item, Key, Seen, Table, Value, Walked};
+use values::{
+    Branch, Group, GroupIter, HeldEntries, HeldItems, Item, Key, Seen, Table, TableIter, Value,
+    Walked,
+};
 
 /// The items that a walk has left. Of a value of this evaluation it holds a share, and copies
 /// nothing.
@@ -24,9 +28,9 @@ pub enum Left<'a> {
     /// Those of a frozen value of one's own.
     Frozen(FrozenLeft),
     /// Those of a list or tuple that is lent.
-    Items(ItemsLeft<'a>),
-    /// The keys of a dict that is lent.
-    Keys(KeysLeft<'a>),
+    Items(GroupIter<'a>),
+    /// The keys of a dict that is lent, with their values.
+    Keys(TableIter<'a>),
     /// None: of what isn't walked.
     Nothing,
 }
@@ -49,20 +53,6 @@ pub struct HeldKeysLeft {
 #[derive(Drop)]
 pub struct FrozenLeft {
     branch: Branch,
-    place: usize,
-}
-
-/// The items of a list or tuple from a place on.
-#[derive(Drop)]
-pub struct ItemsLeft<'a> {
-    items: Group<'a>,
-    place: usize,
-}
-
-/// The keys of a dict from a place on.
-#[derive(Drop)]
-pub struct KeysLeft<'a> {
-    entries: Table<'a>,
     place: usize,
 }
 
@@ -116,8 +106,8 @@ impl<'a> Left<'a> {
             Left::HeldItems(left) => left.next(),
             Left::HeldKeys(left) => left.next(),
             Left::Frozen(left) => left.next(),
-            Left::Items(left) => Ok(left.next()),
-            Left::Keys(left) => Ok(left.next()),
+            Left::Items(left) => Ok(next_item(left)),
+            Left::Keys(left) => Ok(next_key(left)),
             Left::Nothing => Ok(None),
         }
     }
@@ -138,14 +128,14 @@ fn held_from_first<'a>(walked: Walked) -> Left<'a>
 fn items_from_first<'a>(items: Group<'a>) -> Left<'a>
     ensures { left_seen result ≡ group_items items.entry }
 {
-    Left::Items(ItemsLeft { items, place: 0 })
+    Left::Items(items.into_iter())
 }
 
 /// All keys.
 fn keys_from_first<'a>(entries: Table<'a>) -> Left<'a>
     ensures { left_seen result ≡ map Value.Key (keys_of (table_entries entries.entry)) }
 {
-    Left::Keys(KeysLeft { entries, place: 0 })
+    Left::Keys(entries.into_iter())
 }
 
 /// The item at a place, None from the end on.
@@ -251,34 +241,24 @@ fn walked_at<'b>(walked: &Seen<'b>, place: usize) -> Option<Item<'b>>
     }
 }
 
-impl<'a> ItemsLeft<'a> {
-    /// The next item.
-    #[inline(always)]
-    fn next(&mut self) -> Option<Operand<'a>>
-        ensures { Gives (items_seen self.old) result (items_seen self.new) }
-    {
-        match item_at(self.items, self.place) {
-            Some(item) => {
-                self.place += 1;
-                Some(Operand::lent(item))
-            }
-            None => None,
-        }
+/// The next item that is lent.
+#[inline(always)]
+fn next_item<'a>(left: &mut GroupIter<'a>) -> Option<Operand<'a>>
+    ensures { Gives left.old result left.new }
+{
+    match left.next() {
+        Some(item) => Some(Operand::lent(item)),
+        None => None,
     }
 }
 
-impl<'a> KeysLeft<'a> {
-    /// The next key.
-    #[inline(always)]
-    fn next(&mut self) -> Option<Operand<'a>>
-        ensures { Gives (keys_seen self.old) result (keys_seen self.new) }
-    {
-        match key_at(self.entries, self.place) {
-            Some(key) => {
-                self.place += 1;
-                Some(Operand::lent(Item::Key(key)))
-            }
-            None => None,
-        }
+/// The next key that is lent.
+#[inline(always)]
+fn next_key<'a>(left: &mut TableIter<'a>) -> Option<Operand<'a>>
+    ensures { Gives (keys_as_values left.old) result (keys_as_values left.new) }
+{
+    match left.next() {
+        Some((key, _)) => Some(Operand::lent(Item::Key(key))),
+        None => None,
     }
 }

@@ -1,6 +1,7 @@
 //! The graph of what is reached from labels.
 ghost use Rattle.std.specs.Prelude.{◌≡◌, ◌↔◌, ◌<◌, ◌≤◌, ℕ, length, map, IfOk, IfErr, IsTrue};
 ghost use Rattle.std.specs.Prelude.{slice_index};
+ghost use Rattle.std.specs.List.{IsDistinct};
 ghost use Rattle.edges.specs.Walks.{Cyclic};
 ghost use Rattle.edges.specs.Rows.{row, users_of, ready_of};
 ghost use Rattle.graph.specs.Same.{same_label, label_at};
@@ -36,13 +37,16 @@ impl Drop for Graph {
 
 impl Model for Graph {
     ghost use Rattle.std.specs.Prelude.{◌≡◌, length};
+    ghost use Rattle.std.specs.List.{IsDistinct};
+    ghost use Rattle.graph.specs.Same.{same_label};
     ghost use Rattle.graph.specs.Graphs.{GraphView};
 
     ghost Value = { GraphView };
 
     ghost view = { λ g. record { labels = g.labels.items; edges = g.edges } };
 
-    ghost invariant = { λ g. length g.edges.deps ≡ length g.labels.items };
+    ghost invariant = { λ g. (length g.edges.deps ≡ length g.labels.items)
+        × IsDistinct same_label g.labels.items };
 }
 
 /// The same labels, each behind a count of its own.
@@ -99,9 +103,10 @@ impl Graph {
         Ok(Graph { labels, edges })
     }
 
-    /// How many nodes there are.
+    /// How many nodes there are. No two have the same label.
     pub fn nodes(&self) -> usize
-        ensures { result ≡ length self.now.labels }
+        ensures nodes { result ≡ length self.now.labels }
+        ensures distinct { IsDistinct same_label self.now.labels }
     {
         self.labels.len()
     }

@@ -1,6 +1,6 @@
 -- Changes of one cell: the others stay, and what is walked stays.
 use Rattle.std.proofs.Common.{◌≡◌, ◌≢◌, ℕ, zero, suc, ◌+◌, Bool, true, false, List, [], ◌∷◌, ◌++◌, Option, Some, None, Result, Ok, Err, length, slice_get, if◌then◌else◌, nat_lt, refl, sym, ap, subst, ◌∙◌}
-use Rattle.heap.specs.Cells.{after, put_at, in_list, in_dict, pushed_items, joined_items, indexed_items, keyed_entries, pushed, joined, indexed, keyed, made, list_changed, dict_changed, walk_begun, walk_begun_at, walk_over, walk_ended, ended_at}
+use Rattle.heap.specs.Cells.{after, put_at, in_list, in_dict, pushed_items, joined_items, indexed_items, keyed_entries, pushed, joined, indexed, keyed, list_changed, dict_changed, walk_begun, walk_begun_at, walk_over, walk_ended, ended_at}
 use Rattle.values.specs.View.{is_walkable}
 use Rattle.heap.specs.Laws.{Change, append, extend, set_index, set_key, changed_value, heap_after, is_walked, contents, OthersStay, WalkedStay, WalksStay}
 use Rattle.keys.specs.declared.key.Key.{Key}

@@ -1,9 +1,10 @@
 -- New cells and changes of cells. Each change is refused by the first of type, frozen, iterating,
 -- index and large. (Starlark's specification, "Freezing a value" and "For loops"; the limit of size
 -- is this project's own.)
-use Rattle.std.specs.Prelude.{◌≡◌, ℕ, zero, suc, ◌+◌, ◌-◌, ℤ, pos, negsuc, List, [], ◌∷◌, ◌++◌}
+use Rattle.std.specs.Prelude.{◌≡◌, ℕ, zero, suc, ◌+◌, ◌-◌, ℤ, List, [], ◌∷◌, ◌++◌}
 use Rattle.std.specs.Prelude.{length, Option, Some, None, ◌<◌, Result, Ok, Err, if◌then◌else◌}
 use Rattle.std.specs.Prelude.{nat_lt, ◌&&◌, not, slice_get, slice_set, IsSomeAnd, ◌^◌, ◌≤◌}
+use Rattle.numbers.specs.Places.{place_of}
 use Rattle.indexmap.specs.IndexMap.{insert_entry}
 use Rattle.values.specs.View.{FrozenBranch, is_list, is_dict, is_walkable}
 use Rattle.leaves.specs.Leaves.{same_key}
@@ -20,12 +21,6 @@ use Rattle.values.specs.declared.cells.TheConstants.{LARGEST}
 -- a new cell takes the next number; `large` where it would have more parts than a list may have
 abbrev pub made : List Cell → Cell → ℕ → Result (Value × List Cell) Kind
 made h c n = if nat_lt LARGEST n then Err Large else Ok (value.Cell (length h), h ++ c ∷ [])
-
--- The place that an index means among so many items: from the end where it is negative.
--- (Starlark's specification, "Index expressions".)
-abbrev pub place_of : ℤ → ℕ → Option ℕ
-place_of (pos i) n = if nat_lt i n then Some i else None
-place_of (negsuc i) n = if nat_lt i n then Some (n - (i + 1)) else None
 
 -- a change's result with f of what it gave, where it wasn't refused
 abbrev pub after : {A B : Type 0} → (A → B) → Result A Kind → Result B Kind

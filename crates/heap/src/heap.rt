@@ -9,13 +9,14 @@ ghost use Rattle.std.specs.Prelude.{MatchResult, ◌^◌, ◌≤◌};
 ghost use Rattle.ticks.specs.Ticking.{FaultOr};
 ghost use Rattle.heap.specs.Cells.{made, pushed_items, joined_items, indexed_items, keyed_entries};
 ghost use Rattle.heap.specs.Cells.{pushed, joined, indexed, keyed, walk_begun, walk_begun_at};
-ghost use Rattle.heap.specs.Cells.{IsFull, IsFullAt, walk_over, walk_ended, ended_at, place_of};
+ghost use Rattle.heap.specs.Cells.{IsFull, IsFullAt, walk_over, walk_ended, ended_at};
 ghost use Rattle.heap.specs.Cells.{list_changed, dict_changed, IsWalked};
 ghost use Rattle.values.specs.Shape.{cell_shape};
 ghost use Rattle.values.specs.Walks.{walked_items, walked_values};
 ghost use Rattle.values.specs.declared.cells.Cell.{Cell as Kept};
 ghost use Rattle.ticks.specs.declared.ticks.Kind.{Kind as Fault};
 
+use numbers::place;
 use plain::{Shared, push_last};
 use std::alloc::{AllocError, Global};
 use std::marker::Model;
@@ -390,10 +391,7 @@ fn push_to(cell: &mut Cell, item: Value) -> Result<(), Broken>
             if *walked > 0 {
                 return Err(Broken::Kind(Kind::Iterating));
             }
-            if let Err(broken) = push(parts, item) {
-                return Err(broken);
-            }
-            Ok(())
+            push(parts, item)
         }
         _ => Err(Broken::Kind(Kind::Wrong)),
     }
@@ -409,10 +407,7 @@ fn join_to(cell: &mut Cell, more: Items) -> Result<(), Broken>
             if *walks > 0 {
                 return Err(Broken::Kind(Kind::Iterating));
             }
-            if let Err(broken) = join(parts, more) {
-                return Err(broken);
-            }
-            Ok(())
+            join(parts, more)
         }
         _ => Err(Broken::Kind(Kind::Wrong)),
     }
@@ -428,10 +423,7 @@ fn set_in(cell: &mut Cell, index: i64, item: Value) -> Result<(), Broken>
             if *walks > 0 {
                 return Err(Broken::Kind(Kind::Iterating));
             }
-            if let Err(broken) = set(parts, index, item) {
-                return Err(broken);
-            }
-            Ok(())
+            set(parts, index, item)
         }
         _ => Err(Broken::Kind(Kind::Wrong)),
     }
@@ -447,10 +439,7 @@ fn put_in(cell: &mut Cell, key: Key, item: Value) -> Result<(), Broken>
             if *walks > 0 {
                 return Err(Broken::Kind(Kind::Iterating));
             }
-            if let Err(broken) = put(parts, key, item) {
-                return Err(broken);
-            }
-            Ok(())
+            put(parts, key, item)
         }
         _ => Err(Broken::Kind(Kind::Wrong)),
     }
@@ -487,7 +476,7 @@ fn set(items: &mut HeldItems, index: i64, item: Value) -> Result<(), Broken>
     ensures { MatchResult result (λ _. indexed_items index item items.old ≡ Ok items.new)
         (λ e. (items.new ≡ items.old) × FaultOr (indexed_items index item items.old) e) }
 {
-    match place_of(index, items.len()) {
+    match place(index, items.len()) {
         None => Err(Broken::Kind(Kind::Index)),
         Some(place) => {
             items.set(place, item)?;
@@ -576,18 +565,4 @@ fn count_down(walks: &mut u64)
     ensures { walks.new ≡ walks.old - 1 }
 {
     *walks = walks.saturating_sub(1);
-}
-
-/// The place that an index means among so many items: a negative one counts from the end.
-pub fn place_of(index: i64, items: usize) -> Option<usize>
-    ensures place { result ≡ place_of index items }
-    ensures within { IfSome result (λ place. place < items) }
-{
-    if index >= 0 {
-        let place = index as usize;
-        if place < items { Some(place) } else { None }
-    } else {
-        let back = index.unsigned_abs() as usize;
-        items.checked_sub(back)
-    }
 }

@@ -9,5 +9,5 @@ mod heap;
 mod laws;
 mod seeing;
 
-pub use heap::{Heap, place_of};
+pub use heap::Heap;
 pub use laws::{changes_touch_one_cell, walked_cells_keep_their_items, walks_leave_walked_cells};

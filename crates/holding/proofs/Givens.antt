@@ -3,7 +3,8 @@ use Rattle.std.proofs.Common.{ℕ, if◌then◌else◌, is_some, List, [], ◌�
 use Rattle.ticks.specs.declared.ticks.Kind.{Kind}
 use Rattle.ticks.specs.declared.ticks.Kind.TheVariants.{Arity}
 use Rattle.values.specs.declared.value.Value.{Value}
-use Rattle.operations.specs.Arguments.{Given, Parameter, Bound, place_named, given_for, put_first, named_or_missing, filled, all_known, bound, one, unless_named, positions}
+use Rattle.first_places.specs.Places.{place_named}
+use Rattle.operations.specs.Arguments.{Given, Parameter, Bound, given_for, put_first, named_or_missing, filled, all_known, bound, one, unless_named, positions}
 use Rattle.one_tree.specs.Found.{Set, in_value, in_values, in_fields}
 use Rattle.one_tree.proofs.Changed.{both_in}
 use Rattle.holding.proofs.Steps.{IfSome, IfGiven, either, none_in, left_in, right_in, HasValue, HasValues, HasFields, value_placed_in}

@@ -4,7 +4,7 @@ use Rattle.std.specs.Prelude.{bytes_eq, codes}
 use Rattle.std.specs.List.{flat_map}
 use Rattle.std.specs.Map.{lookup}
 use Rattle.depsets.specs.declared.element.FileRef.{FileRef}
-use Rattle.heap.specs.Cells.{place_of}
+use Rattle.numbers.specs.Places.{place_of}
 use Rattle.leaves.specs.Leaves.{same_key}
 use Rattle.values.specs.Shape.{Shape, key, atom, items, entries, fields, nothing, shape}
 use Rattle.keys.specs.declared.key.Key.{Key}
@@ -14,7 +14,7 @@ use Rattle.leaves.specs.declared.leaf.Leaf.TheVariants as plain
 use Rattle.leaves.specs.declared.leaf.MadeId.{MadeId}
 use Rattle.ticks.specs.declared.ticks.Kind.TheVariants as kind
 use Rattle.values.specs.declared.value.Value.{Value}
-use Rattle.operations.specs.Arguments.{place_named}
+use Rattle.first_places.specs.Places.{place_named}
 use Rattle.operations.specs.Fields.{before_colon, after_colon, label_field, last_part, file_field, leaf_field, shape_field, field, shape_method, Found, plainly, with_method, found_in as found_of, find}
 use Rattle.operations.specs.Items.{or_fault, at_place, item_at, byte_text, byte_at, value_at, key_item, item_in, item}
 use Rattle.operations.specs.Making.{text}

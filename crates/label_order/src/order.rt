@@ -2,8 +2,7 @@
 ghost use Rattle.std.specs.Prelude.{◌≡◌, ◌<◌, true, IfOk, length, map};
 ghost use Rattle.std.specs.List.{All};
 ghost use Rattle.workspace.specs.Labels.{is_label};
-ghost use Rattle.graph.specs.Same.{label_at, same_label};
-ghost use Rattle.std.specs.List.{IsDistinct};
+ghost use Rattle.graph.specs.Same.{label_at};
 ghost use Rattle.label_order.specs.Ordered.{entry_seen, entries, keyed_seen, IsKeyed, AreInOrder};
 
 use edges::NodeId;
@@ -59,9 +58,10 @@ fn entries_of<'g>(alloc: Global, keyed: &[Keyed<'g>]) -> Result<Vec<Entry<'g>>, 
 /// `AllocError` where memory was refused.
 pub fn by_label(alloc: Global, graph: &Graph) -> Result<Vec<Entry<'_>>, AllocError>
     ensures numbers { IfOk result (λ v. All (λ e. e.1 < length graph.now.labels) v.items) }
-    ensures order { IfOk result (λ v. IsDistinct same_label graph.now.labels
-        → AreInOrder graph.now.labels (map entry_seen v.items)) }
+    ensures order { IfOk result (λ v. AreInOrder graph.now.labels (map entry_seen v.items)) }
 {
+    // No two nodes have the same label, so no two entries have the same text.
+    let _nodes = graph.nodes();
     let mut keyed = numbered(alloc, graph)?;
     keyed.sort()?;
     let entries = entries_of(alloc, &keyed)?;

@@ -9,6 +9,6 @@ mod bound;
 mod operators;
 mod placed;
 
-pub use bound::{DefaultInfo, predeclared};
+pub use bound::predeclared;
 pub use operators::binary;
 pub use placed::{leaf_of, of_place, target_of};

@@ -6,6 +6,7 @@ ghost use Rattle.leaves.specs.Leaves.{same_provider, same_rule, same_function, c
 ghost use Rattle.leaves.specs.Leaves.{built_in_text};
 
 use depsets::{Depset, FileRef};
+use first_places::PlacedNames;
 use plain::{Shared, Text};
 use std::alloc::{AllocError, Global};
 use std::marker::Model;
@@ -91,7 +92,7 @@ pub struct Provider {
     /// How it is printed.
     pub name: ProviderRef,
     /// The names of its fields, in order.
-    pub fields: Names,
+    pub fields: PlacedNames,
 }
 
 /// A rule: its numbers, by which it is told from others, and how it is printed.
@@ -195,6 +196,17 @@ impl Names {
         ensures { result.now ≡ self.now }
     {
         self.names.as_slice()
+    }
+
+    /// The same names, each found at its first place.
+    ///
+    /// # Errors
+    ///
+    /// `AllocError` where memory is refused.
+    pub fn placed(self, alloc: Global) -> Result<PlacedNames, AllocError>
+        ensures { IfOk result (λ names. names ≡ self) }
+    {
+        PlacedNames::of(alloc, self.names)
     }
 }
 

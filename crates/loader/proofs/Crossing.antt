@@ -11,6 +11,7 @@ use Rattle.values.specs.contracts.frozen.Branch as Branch
 use Rattle.values.specs.contracts.value.Value as Value
 use Rattle.values.specs.contracts.cells.Items as Items
 use Rattle.values.specs.contracts.cells.Fields as Fields
+use Rattle.operations.specs.contracts.default_info.DefaultInfo as DefaultInfo
 use Rattle.operations.specs.contracts.state.Defaults as Defaults
 use Rattle.targets.proofs.Crossing.{attribute_send, attribute_sync, rule_send, rule_sync}
 use Rattle.evaluation.specs.contracts.handed.Globals as Globals
@@ -18,7 +19,6 @@ use Rattle.evaluation.specs.contracts.handed.Module as Module
 use Rattle.evaluation.specs.contracts.made.Made as Made
 use Rattle.evaluation.proofs.names.TopNames.TheSendSync as names
 use Rattle.modules.proofs.loaded.Modules.TheSendSync as modules
-use Rattle.language_calls.specs.contracts.bound.DefaultInfo as DefaultInfo
 use Rattle.sources.proofs.sources.Sources.TheSendSync as sources
 use Rattle.loader.specs.contracts.evaluating.Evaluator as Evaluator
 use Rattle.loader.specs.contracts.loaded.LoadedFiles as LoadedFiles
@@ -55,7 +55,7 @@ module_sync = search (globals_sync, fields_sync, defaults_sync, made_sync, names
 -- ---- files
 
 pub default_info_sync : IsSync (DefaultInfo.the_field).row
-default_info_sync = search (value_sync, std.crosses, sendable) depth 60 fits 20000
+default_info_sync = search (value_sync, provider.the_send, provider.the_sync, std.crosses, sendable) depth 60 fits 20000
 
 pub evaluator_sync : IsSync (Evaluator.the_field).row
 evaluator_sync = search (default_info_sync, sources.the_sync, std.crosses, sendable) depth 60 fits 20000

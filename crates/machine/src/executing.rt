@@ -191,13 +191,13 @@ fn run<'a, W: Operate<'a>>(
 
 /// Runs linked code. What it answers is exactly what the files mean of which it is the code: the
 /// value, with the state after it and so the ticks; or the fault of that kind, in that file, at
-/// that line. Each run ends: the machine takes one instruction after the other and doesn't recurse,
-/// whatever the depth of calls.
+/// that line. The machine takes one instruction after the other and doesn't recurse, whatever the
+/// depth of calls.
 ///
 /// # Errors
 ///
-/// A fault as the files mean it; [`Stop::NoMemory`] where memory was refused, and then the state is
-/// left as it is.
+/// A fault as the files mean it; [`Stop::NoMemory`] where memory was refused; the state is open
+/// then.
 pub fn execute<'a, W: Operate<'a>>(
     world: &W,
     linked: &'a Linked,

@@ -1,15 +1,14 @@
 //! Instances of providers, and their fields.
-ghost use Rattle.std.specs.Prelude.{◌≡◌, ◌<◌, ◌++◌, ◌∷◌, [], Ok, Err, Some, None, MatchResult};
+ghost use Rattle.std.specs.Prelude.{◌≡◌, ◌++◌, ◌∷◌, [], Ok, Err, Some, None, MatchResult};
 ghost use Rattle.std.specs.Prelude.{MatchOption, IfOk, OnOk, map, length, slice_get, option_copied};
 ghost use Rattle.std.specs.Prelude.{is_ok};
-ghost use Rattle.std.specs.List.{list_any, list_all};
-ghost use Rattle.std.specs.Str.{bytes_eq};
 ghost use Rattle.depsets.specs.Elements.{elements, all_of_type};
 ghost use Rattle.ticks.specs.Ticking.{FaultOr};
 ghost use Rattle.values.specs.Seeing.{seen, option_value, slot_values};
 ghost use Rattle.operations.specs.States.{Does, Stays};
 ghost use Rattle.operations.specs.Items.{at_place};
-ghost use Rattle.operations.specs.Arguments.{given, given_for, place_from, place_named};
+ghost use Rattle.first_places.specs.Places.{place_named};
+ghost use Rattle.operations.specs.Arguments.{given, given_for};
 ghost use Rattle.operations.specs.Fields.{field_in};
 ghost use Rattle.operations.specs.Names.{in_slot};
 ghost use Rattle.operations.specs.Instances.{are_fields, given_fields, new_instance, with_fields};
@@ -17,7 +16,7 @@ ghost use Rattle.operations.specs.Instances.{constructed, unless_placed, with_fi
 ghost use Rattle.operations.specs.Instances.{with_new_files, info_with, files_in, only_files};
 
 use crate::depset_calls::new_depset;
-use crate::places::{FEW, FirstPlaces, place_named};
+use first_places::{FirstPlaces, PlacedNames, place_named};
 use operands::Operand;
 use operations::{Arguments, State};
 use plain::{Shared, Text};
@@ -55,71 +54,20 @@ fn with_fields(
 ) -> Result<Value, Broken>
     ensures { Does (with_fields provider.now names.now values.now) state.old result state.new }
 {
-    let fields = provider.get().fields.as_slice();
-    if !are_fields(alloc, fields, names)? {
+    let fields = &provider.get().fields;
+    if !are_fields(fields, names) {
         return Err(Broken::Kind(Kind::Arity));
     }
+    let fields = given_fields(alloc, fields.as_slice(), names, values)?;
     let provider = provider.share()?;
-    let fields = given_fields(alloc, fields, names, values)?;
-    match state.heap.new_instance(provider, fields) {
-        Ok(instance) => Ok(instance),
-        Err(broken) => Err(broken),
-    }
+    state.heap.new_instance(provider, fields)
 }
 
-/// Whether each name is one of the provider's. The fields are put in order where many names are
-/// given.
-fn are_fields(alloc: Global, fields: &[Text], names: &[Text]) -> Result<bool, AllocError>
-    ensures { IfOk result (λ b. b ≡ are_fields fields.now names.now) }
-{
-    if names.len() <= FEW {
-        return Ok(are_among(fields, names));
-    }
-    let fields = FirstPlaces::new(alloc, fields)?;
-    Ok(are_found(&fields, names))
-}
-
-/// Whether each name is one of the provider's, by a look in order.
-fn are_found(fields: &FirstPlaces<'_>, names: &[Text]) -> bool
+/// Whether each name is that of a field.
+fn are_fields(fields: &PlacedNames, names: &[Text]) -> bool
     ensures { result ≡ are_fields fields.now names.now }
 {
-    for name in names {
-        if !is_found(fields, name) {
-            return false;
-        }
-    }
-    true
-}
-
-/// Whether a name is one of the provider's, by a look in order.
-fn is_found(fields: &FirstPlaces<'_>, name: &Text) -> bool
-    ensures { result ≡ list_any (bytes_eq name.now) fields.now }
-{
-    fields.get(name.as_str()).is_some()
-}
-
-/// Whether each name is one of the provider's, by going through them for each.
-fn are_among(fields: &[Text], names: &[Text]) -> bool
-    ensures { result ≡ are_fields fields.now names.now }
-{
-    for name in names {
-        if !is_field(fields, name) {
-            return false;
-        }
-    }
-    true
-}
-
-/// Whether a name is one of the provider's.
-fn is_field(fields: &[Text], name: &Text) -> bool
-    ensures { result ≡ list_any (bytes_eq name.now) fields.now }
-{
-    for field in fields {
-        if *name == *field {
-            return true;
-        }
-    }
-    false
+    names.iter().all(|name| fields.has(name))
 }
 
 /// What each field got.
@@ -182,7 +130,7 @@ pub fn field<'a>(provider: &Provider, slots: Slots<'a>, name: &Text) -> Option<I
     ensures { option_value result ≡ field_in name.now provider.now.fields
         (slot_values slots.entry) }
 {
-    match place_named(name.as_str(), provider.fields.as_slice()) {
+    match provider.fields.place(name) {
         Some(place) => slot_at(slots, place),
         None => None,
     }
@@ -231,10 +179,7 @@ fn with_files(
 {
     let provider = provider.share()?;
     let fields = one_field(alloc, files)?;
-    match state.heap.new_instance(provider, fields) {
-        Ok(instance) => Ok(instance),
-        Err(broken) => Err(broken),
-    }
+    state.heap.new_instance(provider, fields)
 }
 
 /// One field, with this value.

@@ -11,10 +11,8 @@ mod instances;
 mod listings;
 mod names;
 mod parts;
-mod places;
 
 pub use depset_calls::{depset, new_depset};
 pub use instances::{construct, default_info, field, given_for, has_only_files, value_at};
 pub use listings::to_list;
 pub use names::{define, name_value, set_global, set_loaded};
-pub use places::FirstPlaces;

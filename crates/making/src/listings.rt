@@ -24,10 +24,7 @@ pub fn to_list(alloc: Global, state: &mut State, depset: &Depset) -> Result<Valu
         → Does (new_list (map element_value (flat depset.now))) state.old result state.new }
 {
     let items = listing(alloc, depset)?;
-    match state.heap.new_list(items) {
-        Ok(list) => Ok(list),
-        Err(broken) => Err(broken),
-    }
+    state.heap.new_list(items)
 }
 
 /// The elements of the listing as values.

@@ -12,8 +12,8 @@
 mod modules_alone;
 
 use anyhow::{Result, bail};
-use language_calls::DefaultInfo;
 use modules_alone::{Evaluated, evaluate};
+use operations::DefaultInfo;
 use serde_json::Value;
 use std::alloc::Global;
 use std::io::Write;

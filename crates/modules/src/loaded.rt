@@ -5,6 +5,7 @@ ghost use Rattle.loading.specs.Loads.{loads_fault};
 ghost use Rattle.loading.specs.Modules.{Sources, any_module};
 ghost use Rattle.load_graph.specs.Paths.{ArePaths, module_paths};
 ghost use Rattle.modules.specs.Evaluation.{sources};
+ghost use Rattle.modules.specs.Found.{found_in};
 ghost use Rattle.modules.specs.Modules.{module_in, modules_of};
 
 use crate::evaluate::Evaluate;
@@ -90,7 +91,9 @@ impl<M, S, K> Modules<M, S, K> {
     where
         S: Drop,
         K: Drop,
-        ensures { (w : Sources T M S K) → self.now ≡ modules_of w
+        ensures always { let globals = (E.meaning evaluator.now).globals in
+            IfOk result (λ f. f ≡ loads_fault globals path.now (found_in self.now) loads.now) }
+        ensures known { (w : Sources T M S K) → self.now ≡ modules_of w
             → w.globals ≡ (E.meaning evaluator.now).globals
             → IfOk result (λ f. f ≡ loads_fault w.globals path.now (any_module w) loads.now) }
     {

@@ -1,7 +1,8 @@
 -- Changes of a heap bring no depset that wasn't there or in what is put.
 use Rattle.std.proofs.Common.{◌≡◌, ℕ, zero, suc, Bool, true, false, ◌&&◌, not, nat_lt, if◌then◌else◌, ⊎_elim, List, [], ◌∷◌, ◌++◌, Option, Some, None, Result, Ok, Err, length, slice_set, refl, subst}
 use Rattle.indexmap.specs.IndexMap.{insert_entry}
-use Rattle.heap.specs.Cells.{after, put_at, in_list, in_dict, set_at, place_of, pushed_items, joined_items, indexed_items, keyed_entries, pushed, joined, indexed, keyed, list_changed, dict_changed}
+use Rattle.numbers.specs.Places.{place_of}
+use Rattle.heap.specs.Cells.{after, put_at, in_list, in_dict, set_at, pushed_items, joined_items, indexed_items, keyed_entries, pushed, joined, indexed, keyed, list_changed, dict_changed}
 use Rattle.values.specs.Keyed.{has_key}
 use Rattle.heap.specs.Laws.{append, extend, set_index, set_key}
 use Rattle.leaves.specs.Leaves.{same_key}

@@ -1,11 +1,12 @@
 -- The arguments of a call of what isn't written in Starlark, and what each parameter gets of them.
 -- (Starlark's specification, "Function and method calls".)
-use Rattle.std.specs.Prelude.{ℕ, ◌+◌, Bool, true, false, not, ◌||◌, List, [], ◌∷◌, Option, Some}
+use Rattle.std.specs.Prelude.{ℕ, Bool, true, false, not, ◌||◌, List, [], ◌∷◌, Option, Some}
 use Rattle.std.specs.Prelude.{None, Result, Ok, Err, bytes_eq, is_some, if◌then◌else◌}
 use Rattle.std.specs.List.{list_any, list_all}
 use Rattle.values.specs.declared.value.Value.{Value}
 use Rattle.ticks.specs.declared.ticks.Kind.{Kind}
 use Rattle.ticks.specs.declared.ticks.Kind.TheVariants.{Arity}
+use Rattle.first_places.specs.Places.{place_named}
 use Rattle.operations.specs.Items.{at_place}
 use Rattle.operations.specs.declared.arguments.Arguments.{Arguments}
 
@@ -19,15 +20,6 @@ pub record Given : Type 0 where
 -- the arguments that a call holds
 abbrev pub given : Arguments → Given
 given a = record { items = a.items.now; names = a.names.now; values = a.values.now }
-
--- the first place of a name among names, counted from here
-abbrev pub place_from : List ℕ → ℕ → List (List ℕ) → Option ℕ
-place_from x i [] = None
-place_from x i (n ∷ ns) = if bytes_eq x n then Some i else place_from x (i + 1) ns
-
--- the place of a name among the names that a call gives, if it is one
-abbrev pub place_named : List ℕ → List (List ℕ) → Option ℕ
-place_named x ns = place_from x 0 ns
 
 -- what was given under a name
 abbrev pub given_for : List ℕ → List (List ℕ) → List Value → Option Value

@@ -16,7 +16,7 @@ use Rattle.operations.specs.declared.method.Method.{Method}
 use Rattle.operations.specs.declared.method.Method.TheVariants as method
 use Rattle.operations.specs.States.{Op, keeping}
 use Rattle.operations.specs.Items.{or_fault, at_place}
-use Rattle.operations.specs.Arguments.{place_named}
+use Rattle.first_places.specs.Places.{place_named}
 use Rattle.operations.specs.Making.{text}
 use Rattle.operations.specs.Names.{in_slot}
 

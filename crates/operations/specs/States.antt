@@ -56,13 +56,13 @@ ticked_once s (Err k) = Err k
 abbrev pub tick : Op (Unit {0})
 tick s = ticked_once s (ticked s.ticks)
 
--- A call does what the operation says. After a fault, and after want of memory, the heap and the
--- count of depsets are as they were; the ticks are open.
+-- the heap and the count of depsets are as they were
 abbrev pub Stays : State → State → Type 0
 Stays old new = (new.heap ≡ old.heap) × (new.depsets ≡ old.depsets)
 
--- the answer of a call and the state after it are what the operation gives for the state before, or
--- the call answers the operation's fault or want of memory
+-- A call does what the operation says: its answer and the state after it are what the operation
+-- gives for the state before, or it answers the operation's fault or want of memory. After either
+-- the heap and the count of depsets are as they were, and the rest of the state is open.
 abbrev pub Does : {A : Type 0} → Op A → State → Result A Broken → State → Type 0
 Does f old result new =
     MatchResult result (λ a. f old ≡ Ok (a, new)) (λ e. Stays old new × FaultOr (f old) e)

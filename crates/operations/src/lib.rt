@@ -7,12 +7,14 @@
 
 mod arguments;
 mod arithmetic;
+mod default_info;
 mod made;
 mod method;
 mod state;
 
 pub use arguments::Arguments;
 pub use arithmetic::Arithmetic;
+pub use default_info::DefaultInfo;
 pub use made::Made;
 pub use method::Method;
 pub use state::{Defaults, State};

@@ -5,7 +5,8 @@ ghost use Rattle.values.specs.Shape.{value_of};
 ghost use Rattle.operations.specs.Arguments.{given};
 ghost use Rattle.targets.specs.RuleCalls.{given_as, unless_none};
 
-use making::{FirstPlaces, value_at};
+use first_places::FirstPlaces;
+use making::value_at;
 use operands::Operand;
 use operations::Arguments;
 use plain::Text;

@@ -1,4 +1,5 @@
 pub mod Adding
+pub mod Puts
 pub mod Typed
 pub mod Repeated
 pub mod Named

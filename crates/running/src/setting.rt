@@ -2,7 +2,7 @@
 
 use call_stack::Linked;
 use evaluation::TopNames;
-use language_calls::DefaultInfo;
+use operations::DefaultInfo;
 use plain::{Shared, Text};
 use std::alloc::Global;
 

@@ -135,8 +135,5 @@ pub(crate) fn set_key(
         return Err(Broken::Kind(Kind::Wrong));
     };
     let key = key.share()?;
-    match state.heap.set_key(dict, key, value) {
-        Ok(()) => Ok(()),
-        Err(broken) => Err(broken),
-    }
+    state.heap.set_key(dict, key, value)
 }

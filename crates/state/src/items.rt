@@ -10,7 +10,7 @@ ghost use Rattle.operations.specs.Items.{item, item_in, item_at, value_at, key_i
 ghost use Rattle.operations.specs.Items.{byte_text, found};
 
 use crate::reading::{key_of, number_of};
-use heap::place_of;
+use numbers::place;
 use operands::Operand;
 use operations::State;
 use plain::Text;
@@ -71,7 +71,7 @@ fn byte_at<'a>(alloc: Global, text: &Text, index: i64) -> Result<Operand<'a>, Br
     ensures { Gives (byte_at text.now index) result }
 {
     let bytes = text.as_str().as_bytes();
-    match place_of(index, bytes.len()) {
+    match place(index, bytes.len()) {
         Some(place) => byte_text(alloc, bytes[place]),
         None => Err(Broken::Kind(Kind::Index)),
     }
@@ -114,7 +114,7 @@ fn indexed<'a>(items: Group<'a>, index: Option<i64>) -> Result<Operand<'a>, Brok
 fn item_at<'a>(items: Group<'a>, index: i64) -> Result<Operand<'a>, Broken>
     ensures { Gives (item_at (group_items items.entry) index) result }
 {
-    match place_of(index, items.len()) {
+    match place(index, items.len()) {
         Some(place) => Ok(Operand::lent(items.item(place))),
         None => Err(Broken::Kind(Kind::Index)),
     }

@@ -23,10 +23,7 @@ use values::{Broken, Entries, Item, Items, Kind, Seen, Value};
 pub fn new_list(state: &mut State, items: Items) -> Result<Value, Broken>
     ensures { Does (new_list items) state.old result state.new }
 {
-    match state.heap.new_list(items) {
-        Ok(list) => Ok(list),
-        Err(broken) => Err(broken),
-    }
+    state.heap.new_list(items)
 }
 
 /// A new tuple of these items, or `large`.
@@ -37,10 +34,7 @@ pub fn new_list(state: &mut State, items: Items) -> Result<Value, Broken>
 pub fn new_tuple(state: &mut State, items: Items) -> Result<Value, Broken>
     ensures { Does (new_tuple items) state.old result state.new }
 {
-    match state.heap.new_tuple(items) {
-        Ok(tuple) => Ok(tuple),
-        Err(broken) => Err(broken),
-    }
+    state.heap.new_tuple(items)
 }
 
 /// A new dict, without entries.
@@ -52,10 +46,7 @@ pub fn new_dict(alloc: Global, state: &mut State) -> Result<Value, Broken>
     ensures { Does new_dict state.old result state.new }
 {
     let entries = Entries::with_capacity(alloc, 0)?;
-    match state.heap.new_dict(entries) {
-        Ok(dict) => Ok(dict),
-        Err(broken) => Err(broken),
-    }
+    state.heap.new_dict(entries)
 }
 
 /// What an operation gave, at its place: a value of its own, or a new cell.
@@ -83,10 +74,7 @@ pub fn place(state: &mut State, made: Made) -> Result<Value, Broken>
 pub fn collect(state: &mut State, list: &Value, item: Value) -> Result<(), Broken>
     ensures { Does (collect list.now item) state.old result state.new }
 {
-    match state.heap.append(list, item) {
-        Ok(()) => Ok(()),
-        Err(broken) => Err(broken),
-    }
+    state.heap.append(list, item)
 }
 
 /// An entry more of a comprehension's dict: `type` where the key can't be one, or `large`. The

@@ -3,7 +3,6 @@ ghost use Rattle.std.specs.Prelude.{◌≡◌, ℕ, [], IfOk, length};
 ghost use Rattle.meaning.specs.Functions.{Files as Codes};
 ghost use Rattle.meaning.specs.Calls.{function_meaning};
 ghost use Rattle.meaning.specs.StatementCode.{code_of};
-ghost use Rattle.operations.specs.Instances.{default_info};
 ghost use Rattle.language.specs.Language.{language, function_id};
 ghost use Rattle.call_stack.specs.LinkedView.{codes_of};
 ghost use Rattle.analysis.specs.Seen.{dependencies_seen};
@@ -23,13 +22,12 @@ use lexer::FaultKind;
 use loader::{Files, Loaded, LoadedFiles};
 use loading::Placed;
 use places::Link;
-use plain::Shared;
 use running::{Setting, call_implementation};
 use std::alloc::{AllocError, Global};
 use std::marker::Brand;
 use target_actions::Mnemonics;
 use targets::Target;
-use values::{FunctionRef, Kind, Provider};
+use values::{FunctionRef, Kind};
 use workspace::Label;
 
 /// Calls a function with `ctx` alone, in a place where nothing was done.
@@ -70,36 +68,33 @@ fn call<'a, 'b, L: Link<'a>, I: FileLists>(
 pub(crate) fn implement<'a>(
     alloc: Global,
     files: &'a LoadedFiles,
-    info: &'a Shared<Provider>,
     mnemonics: &'a Mnemonics,
     label: &'a Label,
     target: &'a Target,
     dependencies: &'a [Dependency<'a>],
 ) -> Result<Result<Implemented, Placed<Kind>>, AllocError>
-    requires { info.now ≡ default_info }
     ensures { IfOk result (Implements (implement files.now.files files.now.limit label.now
         target.now (dependencies_seen dependencies.now))) }
 {
-    run::<Brand>(alloc, files, info, mnemonics, label, target, dependencies)
+    run::<Brand>(alloc, files, mnemonics, label, target, dependencies)
 }
 
 /// [`implement`], where `I` has the lists of `ctx.files` of this target.
 fn run<'a, I: FileLists>(
     alloc: Global,
     files: &'a LoadedFiles,
-    info: &'a Shared<Provider>,
     mnemonics: &'a Mnemonics,
     label: &'a Label,
     target: &'a Target,
     dependencies: &'a [Dependency<'a>],
 ) -> Result<Result<Implemented, Placed<Kind>>, AllocError>
-    requires info { info.now ≡ default_info }
     requires lists { (place : ℕ)
         → I.list_at place ≡ files_at target.now (dependencies_seen dependencies.now) place }
     ensures { IfOk result (Implements (implement files.now.files files.now.limit label.now
         target.now (dependencies_seen dependencies.now))) }
 {
     modules::laws::modules_are_found_by_path::<usize, Module, FaultKind, Kind>();
+    let info = files.default_info();
     let context = TargetContext::<I>::new(alloc, label, target, dependencies, info)?;
     let place = ImplementationPlace {
         context: &context,
@@ -119,7 +114,7 @@ fn run<'a, I: FileLists>(
         alloc,
         linked: &linked,
         place: &place,
-        default_info: files.default_info(),
+        default_info: info,
         codes: sources.linked(),
         paths,
         limit: files.limit(),

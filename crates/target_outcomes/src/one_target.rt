@@ -9,23 +9,21 @@ use crate::calling::implement;
 use crate::given::with_outcomes;
 use crate::returning::Implemented;
 use crate::source::source_file;
-use analysis::{Dependency, Needed, default_info, failed_labels, finish, first_refused};
+use analysis::{Dependency, Needed, failed_labels, finish, first_refused};
 use contexts::Work;
 use loader::LoadedFiles;
 use loading::Placed;
-use plain::Shared;
 use std::alloc::{AllocError, Global};
 use std::marker::Model;
 use target_actions::Mnemonics;
 use targets::{Outcome, SourceFile, Target, TargetFault};
-use values::{Kind, Provider};
+use values::Kind;
 use workspace::Label;
 
 /// What the analysis of every target of a workspace takes: its files, with the modules, and the
-/// provider `DefaultInfo` and the mnemonics of actions, made once.
+/// mnemonics of actions, made once.
 pub struct Analysis<'a> {
     files: &'a LoadedFiles,
-    info: Shared<Provider>,
     mnemonics: Mnemonics,
 }
 
@@ -33,7 +31,6 @@ impl<'a> Drop for Analysis<'a> {
     fn drop(self) {
         let Analysis {
             files: _,
-            info: _,
             mnemonics: _,
         } = self;
     }
@@ -41,14 +38,11 @@ impl<'a> Drop for Analysis<'a> {
 
 impl<'a> Model for Analysis<'a> {
     ghost use Rattle.std.specs.Prelude.{◌≡◌};
-    ghost use Rattle.operations.specs.Instances.{default_info};
     ghost use Rattle.loader.specs.Loaded.{LoadedView};
 
     ghost Value = { LoadedView };
 
     ghost view = { λ a. a.files.now };
-
-    ghost invariant = { λ a. a.info ≡ default_info };
 }
 
 /// The outcome of a target whose implementation has a fault.
@@ -69,13 +63,8 @@ impl<'a> Analysis<'a> {
     pub fn new(alloc: Global, files: &'a LoadedFiles) -> Result<Analysis<'a>, AllocError>
         ensures { IfOk result (λ a. a ≡ files.now) }
     {
-        let info = default_info(alloc)?;
         let mnemonics = Mnemonics::new(alloc)?;
-        Ok(Analysis {
-            files,
-            info,
-            mnemonics,
-        })
+        Ok(Analysis { files, mnemonics })
     }
 
     /// The outcome of a label that names a source file: the File at its path, which the label owns
@@ -91,7 +80,8 @@ impl<'a> Analysis<'a> {
         })) }
     {
         let file = source_file(alloc, label)?;
-        Ok(Outcome::Source(SourceFile::new(alloc, file, &self.info)?))
+        let info = self.files.default_info();
+        Ok(Outcome::Source(SourceFile::new(alloc, file, info)?))
     }
 
     /// The outcome of a label that names a target, from the outcomes of the labels that the target
@@ -169,7 +159,6 @@ impl<'a> Analysis<'a> {
         match implement(
             alloc,
             self.files,
-            &self.info,
             &self.mnemonics,
             label,
             target,
@@ -178,7 +167,8 @@ impl<'a> Analysis<'a> {
             Ok(implemented) => {
                 let Implemented { result, work } = implemented;
                 let Work { files, actions } = work;
-                finish(alloc, label, &self.info, &result, files.as_slice(), actions)
+                let info = self.files.default_info();
+                finish(alloc, label, info, &result, files.as_slice(), actions)
             }
             Err(placed) => Ok(implementation_fault(placed)),
         }

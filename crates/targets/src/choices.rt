@@ -104,10 +104,5 @@ fn add(table: &mut IndexSet<Key>, key: &Key) -> Result<(), AllocError>
 fn is_among(keys: &[Key], key: &Key) -> bool
     ensures { result ≡ list_any (same_key key.now) keys.now }
 {
-    for other in keys {
-        if *key == *other {
-            return true;
-        }
-    }
-    false
+    keys.iter().any(|other| *key == *other)
 }

@@ -26,7 +26,7 @@ pub use choices::Choices;
 pub use outcome::{Actions, Outcome, Providers, TargetFault};
 pub use rule_attributes::RuleAttributes;
 pub use sequence::Sequence;
-pub use source_file::SourceFile;
+pub use source_file::{SourceFile, info_with};
 pub use target::Target;
 pub use text_dict::TextDict;
 pub use text_list::TextList;

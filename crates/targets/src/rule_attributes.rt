@@ -1,15 +1,15 @@
 //! The attributes of a rule, by their names, with their defaults.
-ghost use Rattle.std.specs.Prelude.{◌≡◌, ◌<◌, Some, IfOk, OnOk, length, map, slice_get};
+ghost use Rattle.std.specs.Prelude.{◌≡◌, ◌<◌, Some, IfOk, length, slice_get};
 ghost use Rattle.std.specs.List.{list_any};
 ghost use Rattle.std.specs.Str.{bytes_eq};
-ghost use Rattle.operations.specs.Arguments.{place_named};
-ghost use Rattle.targets.specs.Placed.{ArePlaced, HasFirst, names_of, defaults_of};
+ghost use Rattle.first_places.specs.Places.{place_named};
+ghost use Rattle.targets.specs.Placed.{names_of, defaults_of};
 
 use crate::defaults::default_of;
 use crate::{AttributeValue, NamedAttribute, Sequence};
+use first_places::PlacedNames;
 use plain::Text;
 use std::alloc::{AllocError, Global};
-use std::collections::BTreeMap;
 use std::marker::Model;
 
 /// The attributes of a rule in the order of `attrs`, each found by its name. To a contract they are
@@ -19,21 +19,20 @@ pub struct RuleAttributes {
     items: Sequence<NamedAttribute>,
     /// What a target has for each where nothing is given, made once.
     defaults: Sequence<AttributeValue>,
-    /// The first place of each name. Names are found by order, so who chooses them can't make this
-    /// slow.
-    places: BTreeMap<Text, usize>,
+    /// Their names, each found at its first place.
+    names: PlacedNames,
 }
 
 impl Model for RuleAttributes {
     ghost use Rattle.std.specs.Prelude.{◌≡◌, List};
     ghost use Rattle.targets.specs.declared.attributes.NamedAttribute.{NamedAttribute as Named};
-    ghost use Rattle.targets.specs.Placed.{ArePlaced, names_of, defaults_of};
+    ghost use Rattle.targets.specs.Placed.{names_of, defaults_of};
 
     ghost Value = { List Named };
 
     ghost view = { λ a. a.items };
 
-    ghost invariant = { λ a. ArePlaced (names_of a.items) a.places
+    ghost invariant = { λ a. (a.names ≡ names_of a.items)
         × (a.defaults ≡ defaults_of a.items) };
 }
 
@@ -47,11 +46,11 @@ impl RuleAttributes {
         ensures { IfOk result (λ a. a ≡ items) }
     {
         let defaults = defaults(alloc, items.as_slice())?;
-        let places = places(alloc, items.as_slice())?;
+        let names = names(alloc, items.as_slice())?;
         Ok(RuleAttributes {
             items,
             defaults,
-            places,
+            names,
         })
     }
 
@@ -89,10 +88,7 @@ impl RuleAttributes {
     pub fn place(&self, name: &Text) -> Option<usize>
         ensures { result ≡ place_named name.now (names_of self.now) }
     {
-        match self.places.get(name) {
-            Some(place) => Some(*place),
-            None => None,
-        }
+        self.names.place(name)
     }
 
     /// Whether one of them has this name.
@@ -114,17 +110,15 @@ fn defaults(alloc: Global, items: &[NamedAttribute]) -> Result<Sequence<Attribut
     Ok(defaults)
 }
 
-/// The first place of each name.
-fn places(alloc: Global, items: &[NamedAttribute]) -> Result<BTreeMap<Text, usize>, AllocError>
-    ensures { IfOk result (λ places. ArePlaced (names_of items.now) places) }
+/// The name of each.
+fn names(alloc: Global, items: &[NamedAttribute]) -> Result<PlacedNames, AllocError>
+    ensures { IfOk result (λ names. names ≡ names_of items.now) }
 {
-    let mut places = BTreeMap::new(alloc);
-    let mut place = items.len();
-    while place > 0 {
-        place -= 1;
-        put(attribute_at(items, place), place, &mut places)?;
+    let mut names = Vec::with_capacity(alloc, items.len())?;
+    for item in items {
+        names.push(item.name.share()?)?;
     }
-    Ok(places)
+    PlacedNames::of(alloc, names)
 }
 
 /// The attribute at a place.
@@ -141,17 +135,4 @@ fn value_at(values: &[AttributeValue], place: usize) -> &AttributeValue
     ensures { slice_get values.now place ≡ Some result.now }
 {
     &values[place]
-}
-
-/// Puts the place of an attribute's name, in place of a later one.
-fn put(
-    attribute: &NamedAttribute,
-    place: usize,
-    places: &mut BTreeMap<Text, usize>,
-) -> Result<(), AllocError>
-    ensures { OnOk result (HasFirst attribute.now.name place places.old places.new) }
-{
-    let name = attribute.name.share()?;
-    places.insert(name, place)?;
-    Ok(())
 }

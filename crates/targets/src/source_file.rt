@@ -1,13 +1,13 @@
 //! Source files, with what they offer.
 ghost use Rattle.std.specs.Prelude.{◌≡◌, IfOk};
-ghost use Rattle.operations.specs.Instances.{default_info};
 ghost use Rattle.targets.specs.Sources.{info_with, source_files};
 
 use depsets::{Depset, Element, FileRef, Id, Order};
+use operations::DefaultInfo;
 use plain::Shared;
 use std::alloc::{AllocError, Global};
 use std::marker::Model;
-use values::{Branch, Frozen, Leaf, Provider};
+use values::{Branch, Frozen, Leaf};
 
 /// A source file, as a File, with the `DefaultInfo` that it offers: made once, and lent to each who
 /// reads it. To a contract it is its File.
@@ -30,7 +30,7 @@ impl Model for SourceFile {
 }
 
 impl SourceFile {
-    /// The source file that is this File, where `info` is the provider `DefaultInfo`.
+    /// The source file that is this File.
     ///
     /// # Errors
     ///
@@ -38,9 +38,8 @@ impl SourceFile {
     pub fn new(
         alloc: Global,
         file: Shared<FileRef>,
-        info: &Shared<Provider>,
+        info: &DefaultInfo,
     ) -> Result<SourceFile, AllocError>
-        requires { info.now ≡ default_info }
         ensures { IfOk result (λ s. s ≡ file) }
     {
         let info = info_with(alloc, source_files(alloc, &file)?, info)?;
@@ -77,12 +76,15 @@ fn source_files(alloc: Global, file: &Shared<FileRef>) -> Result<Depset, AllocEr
 }
 
 /// A `DefaultInfo` with these Files.
-fn info_with(alloc: Global, files: Depset, info: &Shared<Provider>) -> Result<Frozen, AllocError>
-    requires { info.now ≡ default_info }
+///
+/// # Errors
+///
+/// `AllocError` where memory was refused.
+pub fn info_with(alloc: Global, files: Depset, info: &DefaultInfo) -> Result<Frozen, AllocError>
     ensures { IfOk result (λ t. t ≡ info_with files) }
 {
     let mut fields = Vec::with_capacity(alloc, 1)?;
     fields.push(Some(Frozen::of_leaf(Leaf::Depset(files))))?;
-    let instance = Branch::instance(alloc, info.share()?, fields)?;
+    let instance = Branch::instance(alloc, info.provider().share()?, fields)?;
     Ok(Frozen::of_branch(instance))
 }

@@ -4,14 +4,14 @@ use crate::{AttributeValue, Rule, Sequence};
 use plain::Shared;
 use workspace::Label;
 
-/// A target that the call of a rule declared: its label, its rule, and its value for each attribute
-/// of the rule, in their order.
+/// A target: its label, its rule, and its values. One that the call of a rule declared has a value
+/// for each attribute of its rule, in their order; nothing here asks for that.
 #[derive(Drop)]
 pub struct Target {
     /// Its label.
     pub label: Shared<Label>,
     /// Its rule.
     pub rule: Shared<Rule>,
-    /// What it has for each attribute of its rule, in the order of these.
+    /// What it has for the attributes of its rule, in the order of these.
     pub values: Sequence<AttributeValue>,
 }

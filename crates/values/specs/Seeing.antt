@@ -39,7 +39,7 @@ abbrev pub table_entries : Table → List (Key × Value)
 table_entries (table.Values e) = e.now
 table_entries (table.Trees ks ts) = zip ks.now.keys ts.now
 
--- an entry of a dict: its key, and the value that it is
+-- an entry of a dict as a view lends it: its key, and the value that its item is
 abbrev pub entry_value : Bor Key × Item → Key × Value
 entry_value e = (e.0.now, item_value e.1)
 

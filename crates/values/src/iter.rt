@@ -94,6 +94,7 @@ impl<'a> Iterator for TableIter<'a> {
 
     ghost remaining = { item_count (λ entries. entries) };
 
+    #[inline(always)]
     fn next(&mut self) -> Option<(&'a Key, Item<'a>)> {
         if self.next >= self.table.len() {
             return None;
@@ -113,6 +114,7 @@ impl<'a> IntoIterator for Table<'a> {
 
     ghost into_iter_gives = { λ s r. r ≡ table_entries s };
 
+    #[inline(always)]
     fn into_iter(self) -> TableIter<'a> {
         TableIter {
             table: self,

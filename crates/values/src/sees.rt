@@ -6,8 +6,8 @@ ghost use Rattle.std.specs.Map.{lookup};
 ghost use Rattle.values.specs.Keyed.{AreDistinct};
 ghost use Rattle.leaves.specs.Leaves.{same_key};
 ghost use Rattle.values.specs.Shape.{cell_shape, value_of, slot_of, zip};
-ghost use Rattle.values.specs.Seeing.{item_value, option_value, group_items, table_entries};
-ghost use Rattle.values.specs.Seeing.{slot_values, seen};
+ghost use Rattle.values.specs.Seeing.{entry_value, item_value, option_value, group_items};
+ghost use Rattle.values.specs.Seeing.{table_entries, slot_values, seen};
 ghost use Rattle.values.specs.Visits.{keys_of};
 
 use crate::{Cell, Entries, Frozen, Key, Leaf, Provider, Value};
@@ -193,7 +193,7 @@ impl<'a> Table<'a> {
     #[inline(always)]
     pub fn at(&self, place: usize) -> Option<(&'a Key, Item<'a>)>
         ensures { MatchOption result (length (table_entries self.now) ≤ place)
-            (λ e. slice_get (table_entries self.now) place ≡ Some (e.0.now, item_value e.1)) }
+            (λ e. slice_get (table_entries self.now) place ≡ Some (entry_value e)) }
     {
         match self {
             Table::Values(entries) => entry_at(entries, place),
@@ -222,7 +222,7 @@ fn distinct_pairs(keys: &IndexSet<Key>, values: &[Frozen]) -> usize
 
 fn entry_at<'a>(entries: &'a Entries, place: usize) -> Option<(&'a Key, Item<'a>)>
     ensures { MatchOption result (length entries.now ≤ place)
-        (λ e. slice_get entries.now place ≡ Some (e.0.now, item_value e.1)) }
+        (λ e. slice_get entries.now place ≡ Some (entry_value e)) }
 {
     match entries.at(place) {
         Some((key, value)) => Some((key, Item::Value(value))),
@@ -236,7 +236,7 @@ fn pair_at<'a>(
     place: usize,
 ) -> Option<(&'a Key, Item<'a>)>
     ensures { MatchOption result (length (zip keys.now.keys values.now) ≤ place)
-        (λ e. slice_get (zip keys.now.keys values.now) place ≡ Some (e.0.now, item_value e.1)) }
+        (λ e. slice_get (zip keys.now.keys values.now) place ≡ Some (entry_value e)) }
 {
     if place >= keys.len() {
         return None;
@@ -248,7 +248,7 @@ fn pair_at<'a>(
 }
 
 /// The key at a place.
-pub fn key_at(keys: &IndexSet<Key>, place: usize) -> &Key
+fn key_at(keys: &IndexSet<Key>, place: usize) -> &Key
     requires { place < length keys.now.keys }
     ensures { slice_get keys.now.keys place ≡ Some result.now }
 {

@@ -1,4 +1,5 @@
 //! Providers whose instances are timed.
+use first_places::PlacedNames;
 use plain::{Shared, Text};
 use std::alloc::{AllocError, Global};
 use values::{ExportName, Exported, MadeId, Names, Provider, ProviderRef};
@@ -11,12 +12,12 @@ fn exported(alloc: Global) -> Result<ProviderRef, AllocError> {
 }
 
 /// The names of fields.
-fn names(alloc: Global, fields: &[&str]) -> Result<Names, AllocError> {
+fn names(alloc: Global, fields: &[&str]) -> Result<PlacedNames, AllocError> {
     let mut names = Names::new(alloc);
     for field in fields {
         names.push(Text::new(alloc, field)?)?;
     }
-    Ok(names)
+    names.placed(alloc)
 }
 
 /// A provider of these fields.

@@ -15,7 +15,7 @@ use Rattle.ticks.specs.declared.ticks.Kind.{Kind}
 use Rattle.ticks.specs.declared.ticks.Kind.TheVariants as fault
 use Rattle.values.specs.declared.value.Value.{Value}
 use Rattle.values.specs.declared.value.Value.TheVariants as value
-use Rattle.operations.specs.Arguments.{place_named}
+use Rattle.first_places.specs.Places.{place_named}
 use Rattle.operations.specs.Fields.{field_in}
 use Rattle.operations.specs.Instances.{default_info}
 use Rattle.one_tree.specs.Found.{Set, in_leaf, in_tree, in_value, in_outcome}

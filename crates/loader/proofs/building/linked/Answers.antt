@@ -12,7 +12,7 @@ returns-in-Some c =
     let e = c.args.evaluator.now in
     let w = loads e.sources e.limit in
     let run = targets_of e.sources e.limit (of_build (paths_of e.sources)) in
-    let found = rw c.in-Some.is at (c.in_ok-fault.ensures w c.requires.modules refl) in
+    let found = rw c.in-Some.is at (c.in_ok-fault.ensures.known w c.requires.modules refl) in
     ap (build_linked w run c.args.path.now c.args.read.now.tree)
     (sym (found ∙ ap (loads_fault w.globals c.args.path.now (any_module w)) c.loads.ensures))
 
@@ -21,7 +21,7 @@ returns-in-None c =
     let e = c.args.evaluator.now in
     let w = loads e.sources e.limit in
     let run = targets_of e.sources e.limit (of_build (paths_of e.sources)) in
-    let found = rw c.in-None.is at (c.in_ok-fault.ensures w c.requires.modules refl) in
+    let found = rw c.in-None.is at (c.in_ok-fault.ensures.known w c.requires.modules refl) in
     subst (λ m. IfOk c.run_linked.result (λ r. MatchResult r (λ d. m ≡ Ok d.targets) (λ f. m ≡ Err f)))
     (ap (λ t. build_linked w run c.args.path.now t None) c.tree.ensures
     ∙ ap (build_linked w run c.args.path.now c.args.read.now.tree)

@@ -1,4 +1,4 @@
-use Rattle.std.proofs.Common.{◌≡◌, sym, subst, refl, true, drop, length, arith}
+use Rattle.std.proofs.Common.{◌≡◌, sym, subst, refl, true, drop, arith}
 use Rattle.std.proofs.Math.Seq.{drop-length}
 use Rattle.values.specs.Extents.{IsExtent, beside, one, measure, values_measure}
 use Rattle.values.proofs.ExtentLemmas.{gathered}

@@ -1,4 +1,4 @@
-use Rattle.std.proofs.Common.{◌≡◌, sym, subst, true, drop, length, arith}
+use Rattle.std.proofs.Common.{◌≡◌, sym, subst, drop, arith}
 use Rattle.std.proofs.Math.Seq.{drop-length}
 use Rattle.values.specs.Tree.{slots}
 use Rattle.values.specs.Extents.{IsExtent, slots_measure, with_slot}

@@ -1,4 +1,4 @@
-use Rattle.std.proofs.Common.{◌≡◌, sym, subst, refl, true, drop, length, arith}
+use Rattle.std.proofs.Common.{◌≡◌, sym, subst, refl, drop, arith}
 use Rattle.std.proofs.Math.Seq.{drop-length}
 use Rattle.values.specs.Tree.{trees}
 use Rattle.values.specs.Extents.{IsExtent, beside, measure, trees_measure}

@@ -1,0 +1,10 @@
+use Rattle.std.proofs.Common.{◌∙◌, ap}
+use Rattle.std.specs.Prelude.{is_some}
+use Rattle.first_places.specs.Places.{place_named}
+use Rattle.first_places.proofs.Placing.{found_is_among}
+use Rattle.first_places.proofs.places.FirstPlaces.has.Goals as goal
+
+pub returns : goal.returns
+returns c =
+    c.is_some.ensures ∙ ap is_some c.get.ensures ∙ ap (λ x. is_some (place_named x c.args.self.now)) c.as_str.ensures
+    ∙ found_is_among c.args.name.now c.args.self.now
