@@ -4,6 +4,7 @@ use Rattle.values.specs.declared.cells.Cell.{Cell}
 use Rattle.values.specs.declared.cells.Cell.TheVariants as cell
 use Rattle.keys.specs.declared.key.Key.{Key}
 use Rattle.keys.specs.declared.key.Key.TheVariants as index
+use Rattle.lexer.specs.Begins.{begins}
 use Rattle.leaves.specs.declared.leaf.AttributeKind.{AttributeKind}
 use Rattle.leaves.specs.declared.leaf.AttributeKind.TheVariants as kind
 use Rattle.leaves.specs.declared.leaf.BuiltIn.TheVariants as built_in
@@ -212,20 +213,25 @@ third fields =
 
 -- provider(fields = ["m", "None"]), and of a dict, with `doc` as the position
 of_names : new (with_one (codes "fields") (at 0)) (list (string (codes "m") ∷ string (codes "None") ∷ []) ∷ []) ≡ third (codes "m" ∷ codes "None" ∷ [])
+unfolding begins
 of_names = refl
 
 of_dict : new (record { items = string (codes "d") ∷ []; names = codes "fields" ∷ []; values = at 0 ∷ [] }) (cell.Dict ((index.Text (codes "m"), string (codes "what")) ∷ []) 0 ∷ [])
     ≡ third (codes "m" ∷ [])
+unfolding begins
 of_dict = refl
 
 -- fields = ["m", "m"], ["if"], ["a-b"], {"m": 1}, {1: "m"}, "m"
 twice : new (with_one (codes "fields") (at 0)) (list (string (codes "m") ∷ string (codes "m") ∷ []) ∷ []) ≡ Err fault.Wrong
+unfolding begins
 twice = refl
 
 no_word : new (with_one (codes "fields") (at 0)) (list (string (codes "if") ∷ []) ∷ []) ≡ Err fault.Wrong
+unfolding begins
 no_word = refl
 
 no_dash : new (with_one (codes "fields") (at 0)) (list (string (codes "a-b") ∷ []) ∷ []) ≡ Err fault.Wrong
+unfolding begins
 no_dash = refl
 
 no_document : new (with_one (codes "fields") (at 0)) (cell.Dict ((index.Text (codes "m"), number (pos 1)) ∷ []) 0 ∷ []) ≡ Err fault.Wrong
@@ -293,6 +299,7 @@ with_attrs c = rule (record { items = f ∷ at 0 ∷ []; names = []; values = []
 of_attributes : with_attrs (entries (codes "text" ∷ codes "_p" ∷ []) (own ∷ foreign ∷ []))
     ≡ first (entries (codes "text" ∷ codes "_p" ∷ []) (own ∷ foreign ∷ []) ∷ [])
     (record { name = codes "text"; attribute = plainly kind.String } ∷ record { name = codes "_p"; attribute = private_default } ∷ [])
+unfolding begins
 of_attributes = refl
 
 -- rule(len), and attributes `name`, "a-b", one that is private without a default, one that is no declaration
@@ -300,15 +307,19 @@ built_in_is_none : rule (record { items = value.Leaf (plain.BuiltIn built_in.Len
 built_in_is_none = refl
 
 name_is_there : with_attrs (entries (codes "name" ∷ []) (own ∷ [])) ≡ Err fault.Wrong
+unfolding begins
 name_is_there = refl
 
 no_name : with_attrs (entries (codes "a-b" ∷ []) (own ∷ [])) ≡ Err fault.Wrong
+unfolding begins
 no_name = refl
 
 private_bare : with_attrs (entries (codes "_q" ∷ []) (own ∷ [])) ≡ Err fault.Wrong
+unfolding begins
 private_bare = refl
 
 no_declaration : with_attrs (entries (codes "text" ∷ []) (f ∷ [])) ≡ Err fault.Wrong
+unfolding begins
 no_declaration = refl
 
 -- rule(), rule(f, {}, "doc")

@@ -1,15 +1,15 @@
 -- By its first byte it is settled which kind of token can begin, and names and numbers are as the relation has them.
-use Rattle.std.proofs.Common.{ℕ, ◌≡◌, ◌≢◌, ◌≤◌, Bool, true, false, ◌||◌, ◌⊎◌, inl, inr, ◌==◌, nat_lt, List, [], ◌∷◌, ◌++◌, length, take, drop, refl, sym, ap, subst, ◌∙◌, arith, if◌then◌else◌}
+use Rattle.std.proofs.Common.{ℕ, ◌≡◌, ◌≢◌, ◌≤◌, Bool, true, false, not, ◌||◌, ◌⊎◌, inl, inr, ◌==◌, nat_lt, List, [], ◌∷◌, ◌++◌, length, take, drop, refl, sym, ap, subst, ◌∙◌, arith, Some, None, if◌then◌else◌}
 use Rattle.std.specs.List.{list_all}
 use Rattle.std.proofs.lemmas.Bool.Decides.{nat_tests}
-use Rattle.std.proofs.lemmas.List.{take_at, drop_at}
+use Rattle.std.proofs.lemmas.List.{take_at}
 use Rattle.lexer.specs.Characters.{newline}
 use Rattle.lexer.specs.Tokens.{Token, number}
 use Rattle.lexer.specs.Words.{word_or_name}
 use Rattle.lexer.specs.Strings.{is_quote}
-use Rattle.lexer.specs.Begins.{Begins, space, line_end, comment, token, nothing, is_digit, is_letter, is_word_byte, run_length, name_at, greatest_number, value_after, digits_after, goes_on, number_at, string_at, mark_at, begins}
-use Rattle.lexer.specs.Fits.{IsWordLike, IsNumeral, Spells, StandsOff}
-use Rattle.lexer.proofs.RunLaws.{either, passes_next, run_passes, run_longest, run_exact, run_within}
+use Rattle.lexer.specs.Begins.{Begins, space, line_end, comment, token, is_digit, is_letter, is_word_byte, run_length, name_at, greatest_number, value_after, digits_follow, number_token, number_at, string_at, mark_at, begins}
+use Rattle.lexer.specs.Fits.{IsWordLike, Spells, goes_on, StandsOff}
+use Rattle.lexer.proofs.RunLaws.{either, passes_next, run_passes, run_longest, run_exact, run_within, run_stops}
 use Rattle.lexer.proofs.WordLaws.{word_is, stands_off_word}
 
 -- what begins, by tests in order
@@ -97,65 +97,77 @@ name_as_long b front further u h e =
 
 -- two tests that a number passes
 number_tested : (a b : Bool) (n k m : ℕ) (t : Token)
-    → (if a || b then nothing else token (number n) m) ≡ token t k → (a ≡ false) × (b ≡ false) × (number n ≡ t) × (m ≡ k)
+    → number_token m (if a || not b then None else Some n) ≡ token t k → (a ≡ false) × (b ≡ true) × (number n ≡ t) × (m ≡ k)
 number_tested true b n k m t e = absurd cc
-number_tested false true n k m t e = absurd cc
-number_tested false false n k m t e = (refl, refl, cc, cc)
+number_tested false false n k m t e = absurd cc
+number_tested false true n k m t e = (refl, refl, cc, cc)
 
--- the further digits of a number are digits, and none where the first is 0
-digits_are : (b : ℕ) (bs : List ℕ)
-    → (list_all is_digit (take (digits_after b bs) bs) ≡ true)
-    × (b ≡ 48 → take (digits_after b bs) bs ≡ []) × (digits_after b bs ≤ length bs)
-digits_are b bs = elim (either (b == 48)) [
-  | inl z ↦ rw z (refl, λ e. refl, omega arith)
+-- what follows a number's first digit is digits, and nothing where that is 0
+follow_is : (b : ℕ) (ds : List ℕ) → digits_follow b ds ≡ true → (list_all is_digit ds ≡ true) × (b ≡ 48 → ds ≡ [])
+follow_is b [] h = (refl, λ e. refl)
+follow_is b (d ∷ ds) h = elim (either (b == 48)) [
+  | inl z ↦ let none : false ≡ true = rw z at h in absurd cc
   | inr z ↦
       let other : b ≢ 48 = grind (arith, nat_tests) in
-      rw z (run_passes is_digit bs, λ e. absurd (other e), run_within is_digit bs)
+      (rw z at h, λ e. absurd (other e))
 ]
+
+-- digits follow a number's first digit, where none follow a 0
+follow_as : (b : ℕ) (ds : List ℕ) → list_all is_digit ds ≡ true → (b ≡ 48 → ds ≡ []) → digits_follow b ds ≡ true
+follow_as b [] h n = refl
+follow_as b (d ∷ ds) h n = elim (either (b == 48)) [
+  | inl z ↦
+      let zero_first : b ≡ 48 = grind (arith, nat_tests) in
+      let none : d ∷ ds ≡ [] = n zero_first in
+      absurd cc
+  | inr z ↦ rw z h
+]
+
+-- digits may stand in a word
+digits_in_word : (ds : List ℕ) → list_all is_digit ds ≡ true → list_all is_word_byte ds ≡ true
+digits_in_word [] h = refl
+digits_in_word (d ∷ ds) h = elim (either (is_digit d)) [
+  | inl t ↦
+      let others : list_all is_digit ds ≡ true = rw t at h in
+      let one : is_word_byte d ≡ true = second (is_letter d) (is_digit d) t in
+      rw one (digits_in_word ds others)
+  | inr f ↦ let none : false ≡ true = rw f at h in absurd cc
+]
+  where
+    second : (x y : Bool) → y ≡ true → (x || y) ≡ true
+    second true y e = refl
+    second false y e = e
+
+-- what goes on with a letter, a digit or `_` goes on as a word
+goes_on_as : (bs : List ℕ) → goes_on bs ≡ passes_next is_word_byte bs
+goes_on_as [] = refl
+goes_on_as (b ∷ bs) = refl
 
 -- a number that begins is one
 pub number_is : (b : ℕ) (bs : List ℕ) (t : Token) (k : ℕ) → is_digit b ≡ true → number_at b bs ≡ token t k
     → IsToken b bs t k
 number_is b bs t k h e =
-    let more = digits_after b bs in
+    let more = run_length is_word_byte bs in
     let value = value_after 0 (b ∷ take more bs) in
-    let g = number_tested (goes_on (drop more bs)) (nat_lt greatest_number value) value k more t e in
-    let d = digits_are b bs in
-    let test : nat_lt greatest_number value ≡ false = g.1 in
+    let g = number_tested (nat_lt greatest_number value) (digits_follow b (take more bs)) value k more t e in
+    let d = follow_is b (take more bs) g.1 in
+    let test : nat_lt greatest_number value ≡ false = g.0 in
     let small : value ≤ greatest_number = grind (arith, nat_tests) in
-    let shown : IsToken b bs (number value) more = (d.2, ((h, d.0, d.1), refl, small), g.0) in
+    let off : goes_on (drop more bs) ≡ false = goes_on_as (drop more bs) ∙ run_stops is_word_byte bs in
+    let shown : IsToken b bs (number value) more = (run_within is_word_byte bs, ((h, d.0, d.1), refl, small), off) in
     subst (λ (n : ℕ). IsToken b bs t n) g.3 (subst (λ (u : Token). IsToken b bs u more) g.2 shown)
-
--- bytes that don't go on with a letter, a digit or `_` don't go on with a digit
-no_digit_next : (further : List ℕ) → goes_on further ≡ false → passes_next is_digit further ≡ false
-no_digit_next [] h = refl
-no_digit_next (b ∷ further) h = step (is_letter b) (is_digit b) h
-  where
-    step : (x y : Bool) → (x || y) ≡ false → y ≡ false
-    step true y e = absurd cc
-    step false y e = e
-
--- the further digits of a numeral that stands off are those of the number
-digits_end : (b : ℕ) (front further : List ℕ) → IsNumeral (b ∷ front) → goes_on further ≡ false
-    → digits_after b (front ++ further) ≡ length front
-digits_end b front further h n = elim (either (b == 48)) [
-  | inl z ↦
-      let zero_first : b ≡ 48 = grind (arith, nat_tests) in
-      rw (z, h.2 zero_first) refl
-  | inr z ↦ rw z (run_exact is_digit front further h.1 (no_digit_next further n))
-]
 
 -- where bytes are a numeral that stands off, this number begins
 pub number_as_long : (b : ℕ) (front further : List ℕ) (n : ℕ) → Spells (b ∷ front) (number n) → goes_on further ≡ false
     → BeginsAsLong b (front ++ further) (length front) (number n)
 number_as_long b front further n h off =
-    let more : digits_after b (front ++ further) ≡ length front = digits_end b front further h.0 off in
+    let more : run_length is_word_byte (front ++ further) ≡ length front =
+    run_exact is_word_byte front further (digits_in_word front h.0.1) (sym (goes_on_as further) ∙ off) in
     let whole : take (length front) (front ++ further) ≡ front = take_at front further (length front) refl in
-    let left : drop (length front) (front ++ further) ≡ further = drop_at front further (length front) refl in
     let small : nat_lt greatest_number n ≡ false = grind (arith, nat_tests) in (
       number n,
       length front,
-      begins_number b (front ++ further) h.0.0 ∙ rw (more, whole, left, off, h.1, small) refl,
+      begins_number b (front ++ further) h.0.0 ∙ rw (more, whole, h.1, small, follow_as b front h.0.1 h.0.2) refl,
       omega arith,
       λ e. refl,
     )

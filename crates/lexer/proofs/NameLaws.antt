@@ -1,59 +1,44 @@
--- Bytes that are a name by tests are spelled as one, and no others.
-use Rattle.std.proofs.Common.{ℕ, ◌≡◌, Bool, true, false, not, ◌&&◌, ◌||◌, List, [], ◌∷◌, refl, sym, ◌∙◌, Option, Some, None, if◌then◌else◌}
-use Rattle.std.specs.Prelude.{◌↔◌, is_some}
-use Rattle.std.specs.List.{list_all}
-use Rattle.lexer.specs.declared.token.Word.{Word}
-use Rattle.lexer.specs.declared.token.Word.TheVariants.{Reserved}
-use Rattle.lexer.specs.Begins.{is_letter, is_word_byte}
-use Rattle.lexer.specs.Fits.{IsWordLike, Spells}
-use Rattle.lexer.specs.Names.{is_word, spells_name}
-use Rattle.lexer.specs.Tokens.{Token, name, word}
-use Rattle.lexer.specs.Words.{expression_word, statement_word, is_reserved, word_or_name}
-use Rattle.lexer.proofs.WordLaws.{name_as, word_is}
+-- Bytes that are a name by the test are spelled as one, and no others.
+use Rattle.std.proofs.Common.{ℕ, ◌≡◌, ◌+◌, ◌==◌, true, List, [], ◌∷◌, length, take, refl, sym, ap, subst, ◌∙◌, arith}
+use Rattle.std.specs.Prelude.{◌↔◌}
+use Rattle.std.proofs.lemmas.Bool.Decides.{nat_tests}
+use Rattle.std.proofs.lemmas.List.{take_all}
+use Rattle.lexer.specs.Tokens.{name, number, string, word, mark}
+use Rattle.lexer.specs.Begins.{Begins, space, line_end, comment, token, nothing, begins}
+use Rattle.lexer.specs.Fits.{Spells, IsLongest}
+use Rattle.lexer.specs.Names.{is_name_of, spells_name}
+use Rattle.lexer.proofs.FitsLaws.{begins_longest, longest_begins}
 
-abbrev found : Option Word → Option Word → Bool → List ℕ → Token
-found first second test w =
-    elim first as (λ _. Token) [
-      | Some k ↦ word k
-      | None ↦ elim second as (λ _. Token) [ Some k ↦ word k | None ↦ if test then word Reserved else name w ]
-    ]
-
-no_word : (first second : Option Word) (test : Bool) (w : List ℕ) → (is_some first || is_some second || test) ≡ false → found first second test w ≡ name w
-no_word (Some k) second test w e = absurd cc
-no_word None (Some k) test w e = absurd cc
-no_word None None true w e = absurd cc
-no_word None None false w e = refl
-
-as_name : (first second : Option Word) (test : Bool) (w : List ℕ) → found first second test w ≡ name w → (is_some first || is_some second || test) ≡ false
-as_name (Some k) second test w e = absurd cc
-as_name None (Some k) test w e = absurd cc
-as_name None None true w e = absurd cc
-as_name None None false w e = refl
-
-three_hold : (a b c : Bool) → (a && b && not c) ≡ true → (a ≡ true) × (b ≡ true) × (c ≡ false)
-three_hold true true true e = absurd cc
-three_hold true true false e = (refl, refl, refl)
-three_hold true false c e = absurd cc
-three_hold false b c e = absurd cc
-
-hold_three : (a b c : Bool) → a ≡ true → b ≡ true → c ≡ false → (a && b && not c) ≡ true
-hold_three true true false e f g = refl
-hold_three true true true e f g = absurd cc
-hold_three true false c e f g = absurd cc
-hold_three false b c e f g = absurd cc
+-- what passes the test is a name of so many bytes
+name_of : (n : ℕ) (at : Begins) → is_name_of n at ≡ true → (w : List ℕ) × (k : ℕ) × (at ≡ token (name w) k) × (k + 1 ≡ n)
+name_of n (token (name w) k) e = (w, k, refl, grind (arith, nat_tests))
+name_of n (token (number m) k) e = absurd cc
+name_of n (token (string s) k) e = absurd cc
+name_of n (token (word m) k) e = absurd cc
+name_of n (token (mark m) k) e = absurd cc
+name_of n space e = absurd cc
+name_of n line_end e = absurd cc
+name_of n (comment k) e = absurd cc
+name_of n nothing e = absurd cc
 
 is_spelled : (w : List ℕ) → spells_name w ≡ true → Spells w (name w)
 is_spelled [] e = absurd cc
 is_spelled (b ∷ bs) e =
-    let h = three_hold (is_letter b) (list_all is_word_byte bs) (is_word (b ∷ bs)) e in
     let w = b ∷ bs in
-    word_is w (name w) (h.0, h.1) (no_word (expression_word w) (statement_word w) (is_reserved w) w h.2)
+    let g = name_of (length w) (begins b bs) e in
+    let front = (begins_longest b bs (name g.0) g.1 g.2).0.1 in
+    let whole : Spells w (name g.0) = subst (λ (v : List ℕ). Spells v (name g.0)) (take_all (g.1 + 1) w (omega (arith, g.3))) front in
+    subst (λ (v : List ℕ). Spells w (name v)) (sym whole.0) whole
 
 spelled_is : (w : List ℕ) → Spells w (name w) → spells_name w ≡ true
 spelled_is [] h = absurd h.1
 spelled_is (b ∷ bs) h =
     let w = b ∷ bs in
-    hold_three (is_letter b) (list_all is_word_byte bs) (is_word w) h.1.0 h.1.1 (as_name (expression_word w) (statement_word w) (is_reserved w) w (name_as w h.2))
+    let n = length bs + 1 in
+    let whole : Spells (take n w) (name w) = subst (λ (v : List ℕ). Spells v (name w)) (sym (take_all n w (omega arith))) h in
+    let longest : IsLongest w n (name w) = ((omega arith, whole, tt), λ m u f. omega arith) in
+    let test : (n == length w) ≡ true = grind (arith, nat_tests) in
+    ap (is_name_of (length w)) (longest_begins b bs (name w) (length bs) longest) ∙ test
 
 pub name_told : (w : List ℕ) → (spells_name w ≡ true) ↔ Spells w (name w)
 name_told w = (is_spelled w, spelled_is w)

@@ -8,7 +8,7 @@ use Rattle.lexer.specs.declared.token.Mark.{Mark}
 use Rattle.lexer.specs.Tokens.{Token, mark}
 use Rattle.lexer.specs.Marks.{punctuation, operator}
 use Rattle.lexer.specs.Strings.{is_quote}
-use Rattle.lexer.specs.Begins.{Begins, space, line_end, comment, token, nothing, is_digit, is_letter, run_length, string_of, string_at, name_at, number_at, mark_at, pair_at, begins}
+use Rattle.lexer.specs.Begins.{Begins, space, line_end, comment, token, nothing, is_digit, is_letter, run_length, string_of, string_at, name_at, number_token, number_at, mark_at, pair_at, begins}
 use Rattle.lexer.specs.Fits.{Fits, AtLineEnd, IsComment}
 use Rattle.lexer.proofs.RunLaws.{either, passes_next, run_passes, run_exact, run_within, run_stops}
 use Rattle.lexer.proofs.FitsLaws.{begins_longest}
@@ -25,9 +25,9 @@ string_alone bs None = tt
 string_alone bs (Some n) = tt
 
 -- where a digit stands a number begins or nothing
-number_alone : (x : Bool) (t : Token) (n : ℕ) → IsTokenOrNone (if x then nothing else token t n)
-number_alone true t n = tt
-number_alone false t n = tt
+number_alone : (more : ℕ) (o : Option ℕ) → IsTokenOrNone (number_token more o)
+number_alone more None = tt
+number_alone more (Some n) = tt
 
 -- where another byte stands a mark begins or nothing
 mark_alone : (two one other : Option Mark) → IsTokenOrNone (elim two as (λ _. Begins) [
@@ -64,7 +64,7 @@ unfolding begins
 begins_other b bs at e =
     by_tests (b == 32) (b == newline) (b == 35) (is_quote b) (is_digit b) (is_letter b) (run_length (λ c. not (c == newline)) bs)
     (string_at b bs) (number_at b bs) (name_at b bs) (mark_at b bs) at
-    (string_alone bs _) (number_alone _ _ _) tt (mark_alone (pair_at b bs) (punctuation b) (operator b)) e
+    (string_alone bs _) (number_alone _ _) tt (mark_alone (pair_at b bs) (punctuation b) (operator b)) e
 
 -- a space begins at a space alone
 pub space_is : (b : ℕ) (bs : List ℕ) → begins b bs ≡ space → b ≡ 32

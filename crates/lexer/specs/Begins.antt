@@ -1,7 +1,8 @@
 -- What begins at a byte of a file: the longest token that fits, or what separates tokens.
-use Rattle.std.specs.Prelude.{ℕ, ◌+◌, ◌-◌, ◌*◌, Bool, false, ◌&&◌, ◌||◌, ◌==◌, nat_le, nat_lt, not}
-use Rattle.std.specs.Prelude.{List, [], ◌∷◌, length, take, drop, take_while, fold, Option, Some}
-use Rattle.std.specs.Prelude.{None, if◌then◌else◌}
+use Rattle.std.specs.Prelude.{ℕ, ◌+◌, ◌-◌, ◌*◌, Bool, true, false, ◌&&◌, ◌||◌, ◌==◌, nat_le}
+use Rattle.std.specs.Prelude.{nat_lt, not, List, [], ◌∷◌, length, take, take_while, fold}
+use Rattle.std.specs.Prelude.{Option, Some, None, if◌then◌else◌}
+use Rattle.std.specs.List.{list_all}
 use Rattle.lexer.specs.Characters.{newline}
 use Rattle.lexer.specs.Tokens.{Token, number, string, mark}
 use Rattle.lexer.specs.Words.{word_or_name}
@@ -47,22 +48,27 @@ greatest_number = 9223372036854775807
 abbrev pub value_after : ℕ → List ℕ → ℕ
 value_after value digits = fold (λ v d. v * 10 + (d - 48)) value digits
 
--- the further digits of a number: `0` stands alone
-abbrev pub digits_after : ℕ → List ℕ → ℕ
-digits_after b bs = if b == 48 then 0 else run_length is_digit bs
+-- whether bytes follow a number's first digit as more digits: none follow `0`, which stands alone
+abbrev pub digits_follow : ℕ → List ℕ → Bool
+digits_follow b [] = true
+digits_follow b (c ∷ bs) = not (b == 48) && list_all is_digit (c ∷ bs)
 
--- whether bytes go on with a letter, a digit or `_`
-abbrev pub goes_on : List ℕ → Bool
-goes_on [] = false
-goes_on (b ∷ bs) = is_word_byte b
+-- the number that a digit spells with the bytes behind it, if it is one
+abbrev pub number_of : ℕ → List ℕ → Option ℕ
+number_of b bs =
+    let value = value_after 0 (b ∷ bs) in
+    if nat_lt greatest_number value || not (digits_follow b bs) then None else Some value
 
--- a number: `0`, or a digit 1 to 9 and more digits, not followed directly by a letter, digit or `_`
+-- the number of so many further bytes, where these spell one
+abbrev pub number_token : ℕ → Option ℕ → Begins
+number_token more None = nothing
+number_token more (Some value) = token (number value) more
+
+-- a number: `0`, or a digit 1 to 9 and more digits; all letters, digits and `_` that follow belong
+-- to it
 abbrev pub number_at : ℕ → List ℕ → Begins
 number_at b bs =
-    let more = digits_after b bs in
-    let value = value_after 0 (b ∷ take more bs) in
-    if goes_on (drop more bs) || nat_lt greatest_number value then nothing else
-    token (number value) more
+    let more = run_length is_word_byte bs in number_token more (number_of b (take more bs))
 
 -- the string whose body has so many bytes, with its escapes read; the closing quote is one further
 -- byte. Where the body has no length the string is not closed, or has an escape that is none, and

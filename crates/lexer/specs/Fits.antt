@@ -1,7 +1,7 @@
 -- How each token is spelled, and which bytes at the front of a text are one: said of the bytes, as
 -- a user writes them.
-use Rattle.std.specs.Prelude.{◌≡◌, ◌≢◌, ◌⊎◌, ℕ, ◌+◌, ◌≤◌, true, false, List, [], ◌∷◌, ◌++◌, length}
-use Rattle.std.specs.Prelude.{take, drop, map, flat_map, codes}
+use Rattle.std.specs.Prelude.{◌≡◌, ◌≢◌, ◌⊎◌, ℕ, ◌+◌, ◌≤◌, Bool, true, false, List, [], ◌∷◌, ◌++◌}
+use Rattle.std.specs.Prelude.{length, take, drop, map, flat_map, codes}
 use Rattle.std.specs.List.{AllByRecursion, list_all}
 use Rattle.lexer.specs.declared.token.Word.{Word}
 use Rattle.lexer.specs.declared.token.Word.TheVariants.{And, Break, Continue, Def, Elif, Else, For}
@@ -18,7 +18,6 @@ use Rattle.lexer.specs.Characters.{newline}
 use Rattle.lexer.specs.Tokens.{Token, name, number, string, word, mark}
 use Rattle.lexer.specs.Strings.{backslash, is_quote, is_escape, escape_meaning}
 use Rattle.lexer.specs.Begins.{is_digit, is_letter, is_word_byte, greatest_number, value_after}
-use Rattle.lexer.specs.Begins.{goes_on}
 
 -- how a word of the language is written; a reserved word stands for each of those that no form of
 -- the language has
@@ -118,6 +117,11 @@ Spells bs (string s) =
     × (bs ≡ in_quotes quote pieces) × (s ≡ map piece_meaning pieces)
 Spells bs (word k) = IsOneOf bs (texts_of k)
 Spells bs (mark m) = bs ≡ text_of m
+
+-- whether bytes go on with a letter, a digit or `_`
+abbrev pub goes_on : List ℕ → Bool
+goes_on [] = false
+goes_on (b ∷ bs) = is_word_byte b
 
 -- a number isn't followed directly by a letter, a digit or `_`
 abbrev pub StandsOff : Token → List ℕ → Type 0

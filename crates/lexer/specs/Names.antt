@@ -1,15 +1,14 @@
--- Whether bytes are a name, by tests.
-use Rattle.std.specs.Prelude.{ℕ, Bool, false, not, ◌&&◌, ◌||◌, List, [], ◌∷◌, is_some}
-use Rattle.std.specs.List.{list_all}
-use Rattle.lexer.specs.Begins.{is_letter, is_word_byte}
-use Rattle.lexer.specs.Words.{expression_word, statement_word, is_reserved}
+-- Whether bytes are a name, by a test.
+use Rattle.std.specs.Prelude.{ℕ, ◌+◌, Bool, false, ◌==◌, List, [], ◌∷◌, length}
+use Rattle.lexer.specs.Tokens.{name}
+use Rattle.lexer.specs.Begins.{Begins, token, begins}
 
--- a word of the language, or one that is kept free
-abbrev pub is_word : List ℕ → Bool
-is_word w = is_some (expression_word w) || is_some (statement_word w) || is_reserved w
+-- what begins is a name of so many bytes
+abbrev pub is_name_of : ℕ → Begins → Bool
+is_name_of n (token (name w) k) = k + 1 == n
+is_name_of n _ = false
 
--- whether bytes are a name: a letter or `_`, then letters, digits and `_`, and no word of the
--- language or reserved word
+-- whether bytes are a name: one begins with the first of them, and takes them all
 abbrev pub spells_name : List ℕ → Bool
 spells_name [] = false
-spells_name (b ∷ bs) = is_letter b && list_all is_word_byte bs && not (is_word (b ∷ bs))
+spells_name (b ∷ bs) = is_name_of (length (b ∷ bs)) (begins b bs)

@@ -1,21 +1,22 @@
 //! What begins at a byte of a text: the longest token that fits, or what separates tokens.
 
-ghost use Rattle.std.specs.Prelude.{◌≡◌, ◌+◌, ◌<◌, ◌≤◌, ◌==◌, not, length, drop, IfSome};
+ghost use Rattle.std.specs.Prelude.{◌≡◌, ◌+◌, ◌<◌, ◌≤◌, ◌==◌, not, length, drop};
 ghost use Rattle.std.specs.Prelude.{slice_index};
 ghost use Rattle.lexer.specs.Characters.{newline};
 ghost use Rattle.lexer.specs.Words.{word_or_name};
 ghost use Rattle.lexer.specs.Begins.{begins, is_word_byte, run_length, number_at, name_at};
-ghost use Rattle.lexer.specs.Begins.{string_at, mark_at, pair_at};
+ghost use Rattle.lexer.specs.Begins.{string_at, mark_at};
 ghost use Rattle.lexer.specs.Marks.{pair_mark, punctuation, operator};
 ghost use Rattle.lexer.specs.Seen.{beginning_seen, token_seen, bytes_of, EndsWithin};
 
 use crate::classes::{is_digit, is_letter, is_word_byte};
-use crate::numbers::{digits_after, goes_on, value_of};
+use crate::numbers::value_of;
 use crate::strings::{body_length, is_quote};
 use crate::token::{Kind, Mark, Span, Word};
 use crate::words::{expression_word, is_reserved, statement_word};
 
 /// What begins at a byte; a count is that of the further bytes that belong to it.
+#[derive(Clone, Copy)]
 pub(crate) enum Beginning {
     Space,
     LineEnd,
@@ -79,13 +80,9 @@ fn number_at(text: &[u8], at: usize) -> Beginning
         ≡ number_at (slice_index text.now at) (drop (at + 1) text.now) }
     ensures within { EndsWithin text.now at result }
 {
-    let first = text[at];
     let rest = &text[at + 1..];
-    let more = digits_after(first, rest);
-    if goes_on(&rest[more..]) {
-        return Beginning::Nothing;
-    }
-    match value_of(first, &rest[..more]) {
+    let more = word_length(rest);
+    match value_of(text[at], &rest[..more]) {
         Some(value) => Beginning::Token(Kind::Number(value), more),
         None => Beginning::Nothing,
     }
@@ -157,17 +154,6 @@ fn operator(first: u8) -> Option<Mark>
     }
 }
 
-/// The mark of two bytes, where one fits.
-fn pair_at(first: u8, rest: &[u8]) -> Option<Mark>
-    ensures value { result ≡ pair_at first rest.now }
-    ensures within { IfSome result (λ _. 1 ≤ length rest.now) }
-{
-    match rest {
-        [second, ..] => pair_mark(first, *second),
-        [] => None,
-    }
-}
-
 /// The mark whose first byte is at `at`, if it is one.
 fn mark_at(text: &[u8], at: usize) -> Beginning
     requires { at < length text.now }
@@ -176,8 +162,9 @@ fn mark_at(text: &[u8], at: usize) -> Beginning
     ensures within { EndsWithin text.now at result }
 {
     let first = text[at];
-    let rest = &text[at + 1..];
-    if let Some(mark) = pair_at(first, rest) {
+    if let [second, ..] = &text[at + 1..]
+        && let Some(mark) = pair_mark(first, *second)
+    {
         return Beginning::Token(Kind::Mark(mark), 1);
     }
     if let Some(mark) = punctuation(first) {

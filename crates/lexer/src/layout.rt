@@ -7,10 +7,9 @@
 ghost use Rattle.std.specs.Prelude.{◌≡◌, ◌+◌, List, ℕ, [], ◌∷◌, ◌++◌, ◌<◌, map, drop, length, Ok};
 ghost use Rattle.std.specs.Prelude.{Some, None, IfOk, IfErr, if◌then◌else◌};
 ghost use Rattle.std.specs.Bool.{MatchBool};
-ghost use Rattle.lexer.specs.Layout.{opening, closing, opened, closed, after_mark, after_token};
-ghost use Rattle.lexer.specs.Layout.{back_to, innermost, block_opened, columns_at, nothing_open};
-ghost use Rattle.lexer.specs.Layout.{starts, begun, is_colon, turn, ended, at_start, mark_of};
-ghost use Rattle.lexer.specs.Layout.{line_starts, same_bracket};
+ghost use Rattle.lexer.specs.Layout.{opening, closing, opened, closed, after_mark, back_to};
+ghost use Rattle.lexer.specs.Layout.{block_opened, columns_at, nothing_open, starts, begun, turn};
+ghost use Rattle.lexer.specs.Layout.{ended, at_start, mark_of, line_starts};
 ghost use Rattle.lexer.specs.Scan.{preceded};
 ghost use Rattle.lexer.specs.Seen.{seen};
 ghost use Rattle.lexer.specs.Tokens.{Placed};
@@ -90,17 +89,6 @@ fn closing(mark: Mark) -> Option<Bracket>
     }
 }
 
-fn same_bracket(a: Bracket, b: Bracket) -> bool
-    ensures { result ≡ same_bracket a b }
-{
-    matches!(
-        (a, b),
-        (Bracket::Round, Bracket::Round)
-            | (Bracket::Square, Bracket::Square)
-            | (Bracket::Curly, Bracket::Curly)
-    )
-}
-
 /// Opens a bracket, where fewer than the most are open.
 fn open_bracket(unclosed: &mut Stack<Open>, bracket: Bracket, line: usize) -> Result<(), ParseStop>
     ensures value { IfOk result (λ _. opened unclosed.old bracket line ≡ Ok unclosed.new) }
@@ -121,7 +109,7 @@ fn close_bracket(unclosed: &mut Stack<Open>, bracket: Bracket, line: usize) -> R
     let Some(innermost) = unclosed.pop() else {
         return Err(indent_fault(line));
     };
-    if !same_bracket(innermost.bracket, bracket) {
+    if innermost.bracket != bracket {
         return Err(indent_fault(line));
     }
     Ok(())
@@ -141,23 +129,6 @@ fn after_mark(unclosed: &mut Stack<Open>, mark: Mark, line: usize) -> Result<(),
     Ok(())
 }
 
-/// The same after any token, by the mark that it is.
-fn after_token(unclosed: &mut Stack<Open>, mark: Option<Mark>, line: usize) -> Result<(), ParseStop>
-    ensures value { IfOk result (λ _. after_token unclosed.old mark line ≡ Ok unclosed.new) }
-    ensures fault { FaultsAt FaultKind.Indent (after_token unclosed.old mark line) result }
-{
-    match mark {
-        Some(mark) => after_mark(unclosed, mark, line),
-        None => Ok(()),
-    }
-}
-
-fn is_colon(mark: Option<Mark>) -> bool
-    ensures { result ≡ is_colon mark }
-{
-    matches!(mark, Some(Mark::Colon))
-}
-
 /// Leaves the blocks that are deeper than this column; whether one stands at it.
 fn back_to(columns: &mut Stack<usize>, column: usize) -> bool
     ensures { MatchBool result (back_to column columns.old ≡ Some columns.new)
@@ -173,12 +144,6 @@ fn back_to(columns: &mut Stack<usize>, column: usize) -> bool
         columns.pop();
     }
     column == 0
-}
-
-fn innermost(columns: &Stack<usize>) -> usize
-    ensures { result ≡ innermost columns.now }
-{
-    columns.top().unwrap_or(0)
 }
 
 impl Layout {
@@ -207,7 +172,7 @@ impl Layout {
             × (self.new ≡ record self.old { columns = self.new.columns })) }
         ensures fault { FaultsAt FaultKind.Indent (block_opened self.old line column) result }
     {
-        if column <= innermost(&self.columns) {
+        if column <= self.columns.top().unwrap_or(0) {
             return Err(indent_fault(self.first));
         }
         if self.columns.len() >= MOST_BLOCKS {
@@ -254,8 +219,10 @@ impl Layout {
         ensures fault { FaultsAt FaultKind.Indent (turn self.old mark line column) result }
     {
         let begins = self.begin(line, column)?;
-        after_token(&mut self.unclosed, mark, line)?;
-        self.head = is_colon(mark);
+        if let Some(mark) = mark {
+            after_mark(&mut self.unclosed, mark, line)?;
+        }
+        self.head = matches!(mark, Some(Mark::Colon));
         self.last = line;
         Ok(begins)
     }

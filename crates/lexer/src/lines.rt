@@ -52,24 +52,16 @@ fn between<T>(items: &[T], start: usize, end: usize) -> &[T]
     &items[start.min(end)..end]
 }
 
-fn start_at(starts: &[usize], place: usize) -> usize
-    requires { place < length starts.now }
-    ensures { result ≡ slice_index starts.now place }
-{
-    starts[place]
-}
-
 /// The tokens of the line at a place, which go up to where the next line begins.
 fn line_at<'l>(tokens: &'l [Token], starts: &[usize], place: usize) -> &'l [Token]
     requires { place < length starts.now }
     ensures { (text : List ℕ) → slice_get (lines_at starts.now (map (seen text) tokens.now)) place
         ≡ Some (map (seen text) result.now) }
 {
-    let start = start_at(starts, place);
+    let start = starts[place];
     let next = place + 1;
     if next < starts.len() {
-        let end = start_at(starts, next);
-        return between(tokens, start, end);
+        return between(tokens, start, starts[next]);
     }
     between(tokens, start, tokens.len())
 }

@@ -5,10 +5,10 @@ use Rattle.lexer.proofs.lines.line_at.Goals as goal
 
 pub returns-then-next-starts : goal.returns-then-next-starts
 returns-then-next-starts c text =
-    inner_line (seen text) c.args.starts.now c.args.tokens.now c.between.result.now c.args.place c.start_at-start.result c.start_at-end.result
-    c.if-next-starts.true c.start_at-start.ensures c.start_at-end.ensures c.between.ensures
+    inner_line (seen text) c.args.starts.now c.args.tokens.now c.between.result.now c.args.place _ _
+    c.if-next-starts.true refl refl c.between.ensures
 
 pub returns : goal.returns
 returns c text =
-    last_line (seen text) c.args.starts.now c.args.tokens.now c.between-2.result.now c.args.place c.start_at-start.result _
-    c.requires c.if-next-starts.false c.start_at-start.ensures refl c.between-2.ensures
+    last_line (seen text) c.args.starts.now c.args.tokens.now c.between-2.result.now c.args.place _ _
+    c.requires c.if-next-starts.false refl refl c.between-2.ensures

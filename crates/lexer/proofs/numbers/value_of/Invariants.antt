@@ -1,7 +1,10 @@
 use Rattle.std.proofs.Common.{◌≡◌, ◌≤◌, ◌∷◌, drop}
-use Rattle.lexer.specs.Begins.{value_after, greatest_number}
+use Rattle.std.specs.List.{list_all}
+use Rattle.lexer.specs.Begins.{is_digit, value_after, greatest_number}
 use Rattle.lexer.proofs.numbers.value_of.Given as goal
 
--- the digits that are left take the value to that of all digits
+-- the bytes that are left take the value to that of all, and are digits if all are
 abbrev pub invariant-loop-b : goal.invariant-loop-b
-invariant-loop-b l = (value_after l.value (drop l.b-index l.digits) ≡ value_after 0 (l.first ∷ l.digits)) × (l.value ≤ greatest_number)
+invariant-loop-b l =
+    (value_after l.value (drop l.b-index l.rest) ≡ value_after 0 (l.first ∷ l.rest)) × (l.value ≤ greatest_number)
+    × (list_all is_digit (drop l.b-index l.rest) ≡ list_all is_digit l.rest)
