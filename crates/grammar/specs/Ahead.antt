@@ -1,5 +1,5 @@
 -- What is left of a logical line, and what is taken from its front.
-use Rattle.std.specs.Prelude.{◌≡◌, ◌≤◌, ◌==◌, ℕ, Bool, true, false, List, [], ◌∷◌, map, Option}
+use Rattle.std.specs.Prelude.{◌≡◌, ◌≢◌, ◌≤◌, ◌==◌, ℕ, Bool, true, false, List, [], ◌∷◌, map, Option}
 use Rattle.std.specs.Prelude.{Some, None, Result, Ok, Err}
 use Rattle.lexer.specs.declared.token.Token as found
 use Rattle.lexer.specs.declared.token.Word.TheVariants.{If, Not}
@@ -31,6 +31,11 @@ is_done (t ∷ ts) = false
 abbrev pub Passes : Option (List Token) → Bool → List Token → List Token → Type 0
 Passes o true old new = o ≡ Some new
 Passes o false old new = (o ≡ None) × (new ≡ old)
+
+-- this token was passed by, or it doesn't come next and nothing was
+abbrev pub PassesToken : Token → Bool → List Token → List Token → Type 0
+PassesToken t true old new = old ≡ t ∷ new
+PassesToken t false old new = ((ts : List Token) → old ≢ t ∷ ts) × (new ≡ old)
 
 -- the same of something that is kept
 abbrev pub Takes : {X A : Type 0} → (X → A) → Option (A × List Token) → Option X → List Token

@@ -4,6 +4,7 @@ ghost use Rattle.std.specs.Prelude.{◌≡◌, ℕ, List, length, IfSome, IfOk, 
 ghost use Rattle.std.specs.Option.{option_map};
 ghost use Rattle.grammar.specs.Ahead.{is_done, Ends, Passes, Takes, tokens_seen, operator_at};
 ghost use Rattle.grammar.specs.Ahead.{operator_of, behind_not, behind_minus, behind_if, HasHead};
+ghost use Rattle.grammar.specs.Ahead.{PassesToken};
 ghost use Rattle.grammar.specs.Ahead.{suffix_at, named_at, number_at, string_at, bracket_at};
 ghost use Rattle.grammar.specs.Front.{next, behind_comma, behind_colon, behind_else, behind_close};
 ghost use Rattle.grammar.specs.Front.{name_at, names_in, head_at, is_for};
@@ -11,6 +12,7 @@ ghost use Rattle.grammar.specs.FormDescent.{opening_at, behind_assign, behind_ad
 ghost use Rattle.grammar.specs.FormReading.{names_to};
 ghost use Rattle.grammar.specs.TreeView.{operator_seen};
 ghost use Rattle.lexer.specs.Strings.{unescaped};
+ghost use Rattle.lexer.specs.Tokens.{mark, word};
 ghost use Rattle.std.specs.Str.{IsAscii};
 
 use crate::Name;
@@ -229,24 +231,52 @@ impl<'l, 't> Ahead<'l, 't> {
         false
     }
 
-    /// Passes a comma by, if it comes next.
-    #[tactic(auto, unfolding(crate::specs::Front::behind_comma))]
-    pub fn comma(&mut self) -> bool
-        ensures { Passes (behind_comma self.old) result self.old self.new }
+    /// Passes a mark by, if it comes next.
+    #[inline(always)]
+    fn pass_mark(&mut self, wanted: Mark) -> bool
+        ensures { PassesToken (mark wanted) result self.old self.new }
     {
         match self.tokens {
             [
                 Token {
-                    kind: Kind::Mark(Mark::Comma),
+                    kind: Kind::Mark(found),
                     ..
                 },
                 rest @ ..,
-            ] => {
+            ] if *found == wanted => {
                 self.tokens = rest;
                 true
             }
             _ => false,
         }
+    }
+
+    /// Passes a word by, if it comes next.
+    #[inline(always)]
+    fn pass_word(&mut self, wanted: Word) -> bool
+        ensures { PassesToken (word wanted) result self.old self.new }
+    {
+        match self.tokens {
+            [
+                Token {
+                    kind: Kind::Word(found),
+                    ..
+                },
+                rest @ ..,
+            ] if *found == wanted => {
+                self.tokens = rest;
+                true
+            }
+            _ => false,
+        }
+    }
+
+    /// Passes a comma by, if it comes next.
+    #[tactic(auto, unfolding(crate::specs::Front::behind_comma))]
+    pub fn comma(&mut self) -> bool
+        ensures { Passes (behind_comma self.old) result self.old self.new }
+    {
+        self.pass_mark(Mark::Comma)
     }
 
     /// Passes a colon by.
@@ -254,19 +284,7 @@ impl<'l, 't> Ahead<'l, 't> {
     pub fn colon(&mut self) -> bool
         ensures { Passes (behind_colon self.old) result self.old self.new }
     {
-        match self.tokens {
-            [
-                Token {
-                    kind: Kind::Mark(Mark::Colon),
-                    ..
-                },
-                rest @ ..,
-            ] => {
-                self.tokens = rest;
-                true
-            }
-            _ => false,
-        }
+        self.pass_mark(Mark::Colon)
     }
 
     /// Passes `else` by.
@@ -274,19 +292,7 @@ impl<'l, 't> Ahead<'l, 't> {
     pub fn else_word(&mut self) -> bool
         ensures { Passes (behind_else self.old) result self.old self.new }
     {
-        match self.tokens {
-            [
-                Token {
-                    kind: Kind::Word(Word::Else),
-                    ..
-                },
-                rest @ ..,
-            ] => {
-                self.tokens = rest;
-                true
-            }
-            _ => false,
-        }
+        self.pass_word(Word::Else)
     }
 
     /// Passes `if` by.
@@ -294,19 +300,7 @@ impl<'l, 't> Ahead<'l, 't> {
     pub fn if_word(&mut self) -> bool
         ensures { Passes (behind_if self.old) result self.old self.new }
     {
-        match self.tokens {
-            [
-                Token {
-                    kind: Kind::Word(Word::If),
-                    ..
-                },
-                rest @ ..,
-            ] => {
-                self.tokens = rest;
-                true
-            }
-            _ => false,
-        }
+        self.pass_word(Word::If)
     }
 
     /// Passes `not` by.
@@ -314,19 +308,7 @@ impl<'l, 't> Ahead<'l, 't> {
     pub fn not_word(&mut self) -> bool
         ensures { Passes (behind_not self.old) result self.old self.new }
     {
-        match self.tokens {
-            [
-                Token {
-                    kind: Kind::Word(Word::Not),
-                    ..
-                },
-                rest @ ..,
-            ] => {
-                self.tokens = rest;
-                true
-            }
-            _ => false,
-        }
+        self.pass_word(Word::Not)
     }
 
     /// Passes `-` by.
@@ -334,19 +316,7 @@ impl<'l, 't> Ahead<'l, 't> {
     pub fn minus(&mut self) -> bool
         ensures { Passes (behind_minus self.old) result self.old self.new }
     {
-        match self.tokens {
-            [
-                Token {
-                    kind: Kind::Mark(Mark::Minus),
-                    ..
-                },
-                rest @ ..,
-            ] => {
-                self.tokens = rest;
-                true
-            }
-            _ => false,
-        }
+        self.pass_mark(Mark::Minus)
     }
 
     /// Whether a token comes next that is no operator between two parts, or none at all. Where it
@@ -588,19 +558,7 @@ impl<'l, 't> Ahead<'l, 't> {
     pub fn assign(&mut self) -> bool
         ensures { Passes (behind_assign self.old) result self.old self.new }
     {
-        match self.tokens {
-            [
-                Token {
-                    kind: Kind::Mark(Mark::Assign),
-                    ..
-                },
-                rest @ ..,
-            ] => {
-                self.tokens = rest;
-                true
-            }
-            _ => false,
-        }
+        self.pass_mark(Mark::Assign)
     }
 
     /// Passes `+=` by.
@@ -608,19 +566,7 @@ impl<'l, 't> Ahead<'l, 't> {
     pub fn add_assign(&mut self) -> bool
         ensures { Passes (behind_add self.old) result self.old self.new }
     {
-        match self.tokens {
-            [
-                Token {
-                    kind: Kind::Mark(Mark::AddAssign),
-                    ..
-                },
-                rest @ ..,
-            ] => {
-                self.tokens = rest;
-                true
-            }
-            _ => false,
-        }
+        self.pass_mark(Mark::AddAssign)
     }
 
     /// Passes `(` by.
@@ -628,19 +574,7 @@ impl<'l, 't> Ahead<'l, 't> {
     pub fn open_round(&mut self) -> bool
         ensures { Passes (behind_open self.old) result self.old self.new }
     {
-        match self.tokens {
-            [
-                Token {
-                    kind: Kind::Mark(Mark::OpenParen),
-                    ..
-                },
-                rest @ ..,
-            ] => {
-                self.tokens = rest;
-                true
-            }
-            _ => false,
-        }
+        self.pass_mark(Mark::OpenParen)
     }
 
     /// Takes the names behind commas up to `=`.

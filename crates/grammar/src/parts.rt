@@ -11,9 +11,9 @@ ghost use Rattle.grammar.specs.Descended.{part_seen, pair_seen, several_seen, pa
 ghost use Rattle.grammar.specs.Descended.{arguments_seen, conditions_seen};
 ghost use Rattle.grammar.specs.TreeView.{operator_seen, sign_seen, tree_of};
 
+use crate::Name;
 use crate::ahead::Stop;
 use crate::tree::{Clause, Entry, Expr, Keyword, Operator, Sign};
-use crate::{Name, tree};
 use plain::Text;
 use std::alloc::{AllocError, Global};
 
@@ -106,7 +106,7 @@ fn over<'t>(
 pub fn name<'t>(alloc: Global, name: &'t str, room: usize) -> Result<Part<'t>, Stop>
     ensures { Makes part_seen (spec.over room true (bare.named name.now) 0) result }
 {
-    over(alloc, tree::name(Name::new(name)), 0, true, room)
+    over(alloc, Expr::Name(Name::new(name)), 0, true, room)
 }
 
 /// A number.
@@ -119,7 +119,7 @@ pub fn name<'t>(alloc: Global, name: &'t str, room: usize) -> Result<Part<'t>, S
 pub fn number<'t>(alloc: Global, value: u64, room: usize) -> Result<Part<'t>, Stop>
     ensures { Makes part_seen (spec.over room false (bare.numeral value) 0) result }
 {
-    over(alloc, tree::number(value), 0, false, room)
+    over(alloc, Expr::Number(value), 0, false, room)
 }
 
 /// A string.
@@ -132,7 +132,7 @@ pub fn number<'t>(alloc: Global, value: u64, room: usize) -> Result<Part<'t>, St
 pub fn string<'t>(alloc: Global, text: Text, room: usize) -> Result<Part<'t>, Stop>
     ensures { Makes part_seen (spec.over room false (bare.quoted text) 0) result }
 {
-    over(alloc, tree::string(text), 0, false, room)
+    over(alloc, Expr::Str(text), 0, false, room)
 }
 
 /// An operator between two parts.
@@ -162,7 +162,7 @@ pub fn operated<'t>(
         depth: b,
         ..
     } = right;
-    let expr = tree::binary(operator, first, second);
+    let expr = Expr::Binary(operator, first, second);
     over(alloc, expr, a.max(b), false, room)
 }
 
@@ -183,7 +183,7 @@ pub fn signed<'t>(
         result }
 {
     let Part { expr, depth, .. } = operand;
-    over(alloc, tree::unary(sign, expr), depth, false, room)
+    over(alloc, Expr::Unary(sign, expr), depth, false, room)
 }
 
 /// A conditional, with its parts in the order of the text.
@@ -218,7 +218,7 @@ pub fn chosen<'t>(
         depth: c,
         ..
     } = other;
-    let expr = tree::choice(first, second, third);
+    let expr = Expr::Choice(first, second, third);
     over(alloc, expr, a.max(b.max(c)), false, room)
 }
 
@@ -238,7 +238,7 @@ pub fn selected<'t>(
     ensures { Makes part_seen (spec.selected room (part_seen of.entry) name.now) result }
 {
     let Part { expr, depth, .. } = of;
-    let expr = tree::attribute(expr, Name::new(name));
+    let expr = Expr::Attribute(expr, Name::new(name));
     over(alloc, expr, depth, false, room)
 }
 
@@ -268,7 +268,7 @@ pub fn subscripted<'t>(
         depth: b,
         ..
     } = at;
-    over(alloc, tree::index(first, second), a.max(b), true, room)
+    over(alloc, Expr::Index(first, second), a.max(b), true, room)
 }
 
 /// A call.
@@ -294,7 +294,7 @@ pub fn called<'t>(
         depth: b,
         ..
     } = arguments;
-    over(alloc, tree::call(expr, items, named), a.max(b), false, room)
+    over(alloc, Expr::Call(expr, items, named), a.max(b), false, room)
 }
 
 /// A tuple.
@@ -308,7 +308,7 @@ pub fn tuple<'t>(alloc: Global, several: Several<'t>, room: usize) -> Result<Par
     ensures { Makes part_seen (spec.tuple_part room (several_seen several.entry)) result }
 {
     let Several { items, depth } = several;
-    over(alloc, tree::tuple(items), depth, false, room)
+    over(alloc, Expr::Tuple(items), depth, false, room)
 }
 
 /// A list.
@@ -322,7 +322,7 @@ pub fn list<'t>(alloc: Global, several: Several<'t>, room: usize) -> Result<Part
     ensures { Makes part_seen (spec.list_part room (several_seen several.entry)) result }
 {
     let Several { items, depth } = several;
-    over(alloc, tree::list_of(items), depth, false, room)
+    over(alloc, Expr::ListOf(items), depth, false, room)
 }
 
 /// A dict.
@@ -336,7 +336,7 @@ pub fn dict<'t>(alloc: Global, found: Pairs<'t>, room: usize) -> Result<Part<'t>
     ensures { Makes part_seen (spec.dict_part room (pairs_seen found.entry)) result }
 {
     let Pairs { entries, depth } = found;
-    over(alloc, tree::dict_of(entries), depth, false, room)
+    over(alloc, Expr::DictOf(entries), depth, false, room)
 }
 
 /// A list comprehension.
@@ -357,7 +357,7 @@ pub fn list_each<'t>(
 {
     let Part { expr, depth: a, .. } = element;
     let Conditions { clauses, depth: b } = conditions;
-    over(alloc, tree::list_each(expr, clauses), a.max(b), false, room)
+    over(alloc, Expr::ListEach(expr, clauses), a.max(b), false, room)
 }
 
 /// A dict comprehension.
@@ -388,7 +388,7 @@ pub fn dict_each<'t>(
         ..
     } = value;
     let Conditions { clauses, depth: c } = conditions;
-    let expr = tree::dict_each(first, second, clauses);
+    let expr = Expr::DictEach(first, second, clauses);
     over(alloc, expr, a.max(b).max(c), false, room)
 }
 
@@ -413,22 +413,11 @@ pub fn no_items<'t>(alloc: Global) -> Several<'t>
     }
 }
 
-/// Adds to a list that takes no more memory than for one where it has one alone.
-fn add_one<T: Drop>(items: &mut Vec<T>, item: T) -> Result<(), AllocError>
+/// Adds an item. A list of at most `few` items takes no more memory than for these.
+fn add_one<T: Drop>(items: &mut Vec<T>, item: T, few: usize) -> Result<(), AllocError>
     ensures { OnOk result (items.new.items ≡ items.old.items ++ item ∷ []) }
 {
-    if items.is_empty() {
-        items.reserve_exact(1)?;
-    }
-    items.push(item)?;
-    Ok(())
-}
-
-/// Adds an item. A list of one or two takes no more memory than for these.
-fn add_item<'t>(items: &mut Vec<Expr<'t>>, item: Expr<'t>) -> Result<(), AllocError>
-    ensures { OnOk result (items.new.items ≡ items.old.items ++ item.entry ∷ []) }
-{
-    if items.len() < 2 {
+    if items.len() < few {
         items.reserve_exact(1)?;
     }
     items.push(item)?;
@@ -450,7 +439,7 @@ pub fn with_item<'t>(several: Several<'t>, part: Part<'t>) -> Result<Several<'t>
         depth: a,
     } = several;
     let Part { expr, depth: b, .. } = part;
-    add_item(&mut items, Box::into_inner(expr))?;
+    add_one(&mut items, Box::into_inner(expr), 2)?;
     Ok(Several {
         items,
         depth: a.max(b),
@@ -493,7 +482,7 @@ pub fn with_pair<'t>(found: Pairs<'t>, pair: (Part<'t>, Part<'t>)) -> Result<Pai
         key: Box::into_inner(first),
         value: Box::into_inner(second),
     };
-    add_one(&mut entries, entry)?;
+    add_one(&mut entries, entry, 1)?;
     Ok(Pairs {
         entries,
         depth: depth.max(a.max(b)),
@@ -533,7 +522,7 @@ pub fn with_positional<'t>(
         in_order,
     } = arguments;
     let Part { expr, depth: b, .. } = part;
-    add_item(&mut items, Box::into_inner(expr))?;
+    add_one(&mut items, Box::into_inner(expr), 2)?;
     let in_order = in_order && named.is_empty();
     Ok(Arguments {
         items,
@@ -566,7 +555,7 @@ pub fn with_keyword<'t>(
     } = arguments;
     let Part { expr, depth: b, .. } = part;
     let value = Box::into_inner(expr);
-    add_one(&mut named, Keyword { name, value })?;
+    add_one(&mut named, Keyword { name, value }, 1)?;
     Ok(Arguments {
         items,
         named,
@@ -607,7 +596,7 @@ pub fn with_for<'t>(
     } = found;
     let Part { expr, depth: b, .. } = part;
     let clause = Clause::For(first, others, Box::into_inner(expr));
-    add_one(&mut clauses, clause)?;
+    add_one(&mut clauses, clause, 1)?;
     Ok(Conditions {
         clauses,
         depth: a.max(b),

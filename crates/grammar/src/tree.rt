@@ -5,10 +5,8 @@ ghost use Rattle.std.specs.Prelude.{◌≡◌};
 ghost use Rattle.std.specs.Option.{option_map};
 ghost use Rattle.grammar.specs.Descent.{target_in};
 ghost use Rattle.grammar.specs.Descended.{target_of};
-ghost use Rattle.grammar.specs.Bare as bare;
 ghost use Rattle.grammar.specs.Levels.{operator_level};
-ghost use Rattle.grammar.specs.TreeView.{operator_seen, sign_seen, tree_of, trees, entries};
-ghost use Rattle.grammar.specs.TreeView.{keywords, rests};
+ghost use Rattle.grammar.specs.TreeView.{operator_seen, tree_of};
 
 use crate::Name;
 use plain::Text;
@@ -171,100 +169,4 @@ pub enum Clause<'t> {
     /// `for FIRST, OTHERS in OPERAND`.
     For(Name<'t>, Vec<Name<'t>>, Expr<'t>),
     If(Expr<'t>),
-}
-
-pub(crate) fn binary<'t>(operator: Operator, left: Box<Expr<'t>>, right: Box<Expr<'t>>) -> Expr<'t>
-    ensures { tree_of result ≡ bare.operates (operator_seen operator) (tree_of left.entry.value)
-        (tree_of right.entry.value) }
-{
-    Expr::Binary(operator, left, right)
-}
-
-pub(crate) fn unary<'t>(sign: Sign, operand: Box<Expr<'t>>) -> Expr<'t>
-    ensures { tree_of result ≡ bare.turned (sign_seen sign) (tree_of operand.entry.value) }
-{
-    Expr::Unary(sign, operand)
-}
-
-pub(crate) fn choice<'t>(then: Box<Expr<'t>>, test: Box<Expr<'t>>, other: Box<Expr<'t>>) -> Expr<'t>
-    ensures { tree_of result ≡ bare.choice (tree_of then.entry.value) (tree_of test.entry.value)
-        (tree_of other.entry.value) }
-{
-    Expr::Choice(then, test, other)
-}
-
-pub(crate) fn attribute<'t>(of: Box<Expr<'t>>, name: Name<'t>) -> Expr<'t>
-    ensures { tree_of result ≡ bare.selects (tree_of of.entry.value) name.entry }
-{
-    Expr::Attribute(of, name)
-}
-
-pub(crate) fn index<'t>(of: Box<Expr<'t>>, at: Box<Expr<'t>>) -> Expr<'t>
-    ensures { tree_of result ≡ bare.subscript (tree_of of.entry.value) (tree_of at.entry.value) }
-{
-    Expr::Index(of, at)
-}
-
-pub(crate) fn call<'t>(
-    callee: Box<Expr<'t>>,
-    arguments: Vec<Expr<'t>>,
-    named: Vec<Keyword<'t>>,
-) -> Expr<'t>
-    ensures { tree_of result ≡ bare.invokes (tree_of callee.entry.value)
-        (trees arguments.entry.items) (keywords named.entry.items) }
-{
-    Expr::Call(callee, arguments, named)
-}
-
-pub(crate) fn list_each<'t>(element: Box<Expr<'t>>, clauses: Vec<Clause<'t>>) -> Expr<'t>
-    ensures { tree_of result ≡ bare.each (tree_of element.entry.value) (rests clauses.entry.items) }
-{
-    Expr::ListEach(element, clauses)
-}
-
-pub(crate) fn dict_each<'t>(
-    key: Box<Expr<'t>>,
-    value: Box<Expr<'t>>,
-    clauses: Vec<Clause<'t>>,
-) -> Expr<'t>
-    ensures { tree_of result ≡ bare.each_entry (tree_of key.entry.value) (tree_of value.entry.value)
-        (rests clauses.entry.items) }
-{
-    Expr::DictEach(key, value, clauses)
-}
-
-pub(crate) fn tuple<'t>(items: Vec<Expr<'t>>) -> Expr<'t>
-    ensures { tree_of result ≡ bare.tuple (trees items.entry.items) }
-{
-    Expr::Tuple(items)
-}
-
-pub(crate) fn list_of<'t>(items: Vec<Expr<'t>>) -> Expr<'t>
-    ensures { tree_of result ≡ bare.listing (trees items.entry.items) }
-{
-    Expr::ListOf(items)
-}
-
-pub(crate) fn dict_of<'t>(found: Vec<Entry<'t>>) -> Expr<'t>
-    ensures { tree_of result ≡ bare.dict (entries found.entry.items) }
-{
-    Expr::DictOf(found)
-}
-
-pub(crate) fn name<'t>(text: Name<'t>) -> Expr<'t>
-    ensures { tree_of result ≡ bare.named text.entry }
-{
-    Expr::Name(text)
-}
-
-pub(crate) fn number<'t>(value: u64) -> Expr<'t>
-    ensures { tree_of result ≡ bare.numeral value }
-{
-    Expr::Number(value)
-}
-
-pub(crate) fn string<'t>(text: Text) -> Expr<'t>
-    ensures { tree_of result ≡ bare.quoted text }
-{
-    Expr::Str(text)
 }
