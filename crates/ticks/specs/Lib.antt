@@ -1,2 +1,3 @@
 pub mod Ticking
 pub mod KindText
+pub mod Extents

@@ -3,8 +3,9 @@ use Rattle.std.proofs.Common.{◌≡◌, ℕ, ◌+◌, ◌-◌, ◌<◌, List, [
 use Rattle.depsets.proofs.Turns.{drop_at}
 use Rattle.values.specs.Tree.{pairs, slots}
 use Rattle.values.specs.View.{FrozenTree}
-use Rattle.values.specs.Extents.{Measure, IsExtent, beside, one, measure, pairs_measure, slots_measure, values_measure, with_slot}
-use Rattle.values.specs.declared.extent.Extent.{Extent}
+use Rattle.ticks.specs.Extents.{Measure, IsExtent, beside, one}
+use Rattle.values.specs.Extents.{measure, pairs_measure, slots_measure, values_measure}
+use Rattle.ticks.specs.declared.extent.Extent.{Extent}
 use Rattle.keys.specs.declared.key.Key.{Key}
 
 -- one turn of a loop that goes back over parts: what is found of those behind, and one before them
@@ -24,6 +25,11 @@ pairs-values (k ∷ ks) [] h = absurd (omega arith)
 pairs-values (k ∷ ks) (t ∷ ts) h =
     let rest = pairs-values ks ts (omega arith) in
     ap (λ m. beside (one true) (beside (measure t) m)) rest
+
+-- what a visit finds in a field and in those behind it, whose measure is m
+abbrev pub with_slot : Option FrozenTree → Measure → Measure
+with_slot None m = m
+with_slot (Some t) m = beside (measure t) m
 
 pub slots-next : (o : Option FrozenTree) (os : List (Option FrozenTree)) → slots_measure (slots (o ∷ os)) ≡ with_slot o (slots_measure (slots os))
 slots-next None os = refl

@@ -6,7 +6,6 @@ use borrow.Author.Tests.{ltb-true}
 use Rattle.std.specs.List.{position, position_or_len}
 use Rattle.std.specs.Map.{lookup}
 use Rattle.leaves.specs.Leaves.{same_key}
-use Rattle.values.specs.declared.value.Value.{Value}
 use Rattle.keys.specs.declared.key.Key.TheVariants as key
 use Rattle.keys.specs.contracts.key.KeyPartialEq.TheImpl.{eq-value}
 use Rattle.values.specs.Tree.{stop, trees, tree_list, pairs, pair_list, slots, slot_list}
@@ -49,11 +48,16 @@ length-zip [] ts = omega arith
 length-zip (k ∷ ks) [] = omega arith
 length-zip (k ∷ ks) (t ∷ ts) = omega (arith, length-zip ks ts)
 
-pub zip-place : (ks : List Key) (ts : List FrozenTree) (i : ℕ) (k : Key) (v : Value) → slice_get ks i ≡ Some k → slice_get (map value_of ts) i ≡ Some v → slice_get (zip ks ts) i ≡ Some (k, v)
-zip-place [] ts i k v p q = absurd (cc)
-zip-place (x ∷ ks) [] i k v p q = absurd (cc)
-zip-place (x ∷ ks) (u ∷ ts) zero k v p q = let a : x ≡ k = cc in let b : value_of u ≡ v = cc in λ j. Some (a j, b j)
-zip-place (x ∷ ks) (u ∷ ts) (suc i) k v p q = zip-place ks ts i k v p q
+pub none_at : {A : Type 0} (xs : List A) (i : ℕ) → slice_get xs i ≡ None → length xs ≤ i
+none_at [] i h = omega arith
+none_at (x ∷ xs) zero h = absurd (cc)
+none_at (x ∷ xs) (suc i) h = omega (arith, none_at xs i h)
+
+pub zip-place : (ks : List Key) (ts : List FrozenTree) (i : ℕ) (k : Key) (t : FrozenTree) → slice_get ks i ≡ Some k → slice_get ts i ≡ Some t → slice_get (zip ks ts) i ≡ Some (k, value_of t)
+zip-place [] ts i k t p q = absurd (cc)
+zip-place (x ∷ ks) [] i k t p q = absurd (cc)
+zip-place (x ∷ ks) (u ∷ ts) zero k t p q = let a : x ≡ k = cc in let b : u ≡ t = cc in λ j. Some (a j, value_of (b j))
+zip-place (x ∷ ks) (u ∷ ts) (suc i) k t p q = zip-place ks ts i k t p q
 
 -- the derived test of keys is theirs
 pub agree : (x k : Key) → eq-value.it x k ≡ same_key x k
@@ -79,18 +83,18 @@ module _ (x : Key) where
   at_place : (b : Bool) (k : Key) → eq-value.it x k ≡ b → same_key x k ≡ b
   at_place b k h = sym (agree x k) ∙ h
 
-  found_at : (ks : List Key) (ts : List FrozenTree) (i : ℕ) (v : Value) → position_or_len (eq-value.it x) ks ≡ i → i < length ks → slice_get (map value_of ts) i ≡ Some v
-      → lookup (same_key x) (zip ks ts) ≡ Some v
-  found_at [] ts i v p l q = absurd (omega arith)
-  found_at (k ∷ ks) [] i v p l q = absurd (cc)
-  found_at (k ∷ ks) (t ∷ ts) zero v p l q =
-      ⊎_elim (λ h. ap (λ b. cond b (Some (value_of t)) (lookup (same_key x) (zip ks ts))) (at_place true k h) ∙ (let e : value_of t ≡ v = cc in ap Some e))
+  found_at : (ks : List Key) (ts : List FrozenTree) (i : ℕ) (u : FrozenTree) → position_or_len (eq-value.it x) ks ≡ i → i < length ks → slice_get ts i ≡ Some u
+      → lookup (same_key x) (zip ks ts) ≡ Some (value_of u)
+  found_at [] ts i u p l q = absurd (omega arith)
+  found_at (k ∷ ks) [] i u p l q = absurd (cc)
+  found_at (k ∷ ks) (t ∷ ts) zero u p l q =
+      ⊎_elim (λ h. ap (λ b. cond b (Some (value_of t)) (lookup (same_key x) (zip ks ts))) (at_place true k h) ∙ (let e : t ≡ u = cc in λ j. Some (value_of (e j))))
       (λ h. let e = sym (place_step k ks ∙ ap (λ b. cond b 0 (suc (position_or_len (eq-value.it x) ks))) h) ∙ p in absurd (omega (arith, e)))
       (cases_Bool (eq-value.it x k))
-  found_at (k ∷ ks) (t ∷ ts) (suc i) v p l q =
+  found_at (k ∷ ks) (t ∷ ts) (suc i) u p l q =
       ⊎_elim (λ h. let e = sym (place_step k ks ∙ ap (λ b. cond b 0 (suc (position_or_len (eq-value.it x) ks))) h) ∙ p in absurd (omega (arith, e)))
       (λ h. let e = sym (place_step k ks ∙ ap (λ b. cond b 0 (suc (position_or_len (eq-value.it x) ks))) h) ∙ p in
-      ap (λ b. cond b (Some (value_of t)) (lookup (same_key x) (zip ks ts))) (at_place false k h) ∙ found_at ks ts i v (omega (arith, e)) (omega arith) q)
+      ap (λ b. cond b (Some (value_of t)) (lookup (same_key x) (zip ks ts))) (at_place false k h) ∙ found_at ks ts i u (omega (arith, e)) (omega arith) q)
       (cases_Bool (eq-value.it x k))
 
   -- past the values, no key of the entries is it
@@ -125,8 +129,8 @@ module _ (x : Key) where
       (λ b. grind (arith, nat_tests, b))
       (cases_Bool (nat_lt (position_or_len (eq-value.it x) ks) (length ks)))
 
-  pub lookup-found : (ks : List Key) (ts : List FrozenTree) (i : ℕ) (v : Value) → position (eq-value.it x) ks ≡ Some i → slice_get (map value_of ts) i ≡ Some v → lookup (same_key x) (zip ks ts) ≡ Some v
-  lookup-found ks ts i v h q = let p = position_is ks i h in found_at ks ts i v p.0 p.1 q
+  pub lookup-found : (ks : List Key) (ts : List FrozenTree) (i : ℕ) (u : FrozenTree) → position (eq-value.it x) ks ≡ Some i → slice_get ts i ≡ Some u → lookup (same_key x) (zip ks ts) ≡ Some (value_of u)
+  lookup-found ks ts i u h q = let p = position_is ks i h in found_at ks ts i u p.0 p.1 q
 
   pub lookup-past : (ks : List Key) (ts : List FrozenTree) (i : ℕ) → position (eq-value.it x) ks ≡ Some i → length ts ≤ i → lookup (same_key x) (zip ks ts) ≡ None
   lookup-past ks ts i h l = let p = position_is ks i h in none_past ks ts (omega (arith, p.0, l))

@@ -3,17 +3,18 @@
 //! A key or a leaf is held as it is, and every other frozen value is one counted branch that has
 //! its parts by place, so a second name of it costs a count, also from another thread, and nothing
 //! below it is copied.
-ghost use Rattle.std.specs.Prelude.{◌≡◌, ◌<◌, ◌≤◌, IfOk, Some, length, slice_get};
+ghost use Rattle.std.specs.Prelude.{◌≡◌, ◌≤◌, IfOk, length};
 ghost use Rattle.values.specs.Tree.{Tree, key, leaf, branch, list, tuple, dict, instance, trees};
 ghost use Rattle.values.specs.Tree.{pairs, slots};
-ghost use Rattle.values.specs.Extents.{IsExtent, branch_measure, measure, parts_measure};
+ghost use Rattle.ticks.specs.Extents.{IsExtent};
+ghost use Rattle.values.specs.Extents.{branch_measure, measure, parts_measure};
 ghost use Rattle.values.specs.View.{tree_of, node_branch, is_list, is_dict, is_walkable, IsPaired};
 ghost use Rattle.values.specs.Shape.{tree_shape, branch_shape, value_of};
 ghost use Rattle.values.specs.Seeing.{seen};
 
-use crate::extent::{Extent, of_entries, of_fields, of_items};
+use crate::extent::{of_entries, of_fields, of_items};
 use crate::sees::{Group, Seen, Slots, Table};
-use crate::{Key, Leaf, Provider, Value};
+use crate::{Extent, Key, Leaf, Provider, Value};
 use indexmap::IndexSet;
 use plain::Shared;
 use std::alloc::{AllocError, Global};
@@ -182,8 +183,8 @@ impl Frozen {
         ensures { IsExtent result (measure self.now) }
     {
         match &self.held {
-            Held::Key(_) => Extent::of_key(),
-            Held::Leaf(leaf) => Extent::of_leaf(leaf),
+            Held::Key(_) => Extent::one(true),
+            Held::Leaf(leaf) => Extent::one(leaf.can_be_frozen()),
             Held::Branch(branch) => branch.extent(),
         }
     }
@@ -331,15 +332,6 @@ impl Branch {
     {
         self.parts.node.see()
     }
-}
-
-/// The frozen value at a place.
-#[inline(always)]
-pub fn tree_at(trees: &[Frozen], place: usize) -> &Frozen
-    requires { place < length trees.now }
-    ensures { slice_get trees.now place ≡ Some result.now }
-{
-    &trees[place]
 }
 
 impl Node {

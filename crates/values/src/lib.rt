@@ -20,8 +20,7 @@ pub use cells::{Cell, Entries, Fields, Items, LARGEST};
 pub use depsets::{
     Depset, DepsetError, Element, ElementType, FileRef, Id, ListError, Listing, Order,
 };
-pub use extent::Extent;
-pub use frozen::{Branch, Frozen, Held, Node, tree_at};
+pub use frozen::{Branch, Frozen, Held, Node};
 pub use held::{HeldEntries, HeldItems, Walked};
 pub use iter::{GroupIter, TableIter};
 pub use keys::Key;
@@ -29,6 +28,6 @@ pub use leaves::{
     AttributeKind, AttributeRef, BuiltIn, ExportName, Exported, FunctionRef, Leaf, MadeId, Names,
     Object, Provider, ProviderRef, RuleRef,
 };
-pub use sees::{Group, Item, Seen, Slots, Table};
-pub use ticks::{Broken, Kind, Ticks, VISITED_LEVELS};
+pub use sees::{Group, Item, Seen, Slots, Table, part_at};
+pub use ticks::{Broken, Extent, Kind, Ticks, VISITED_LEVELS};
 pub use value::Value;

@@ -1,11 +1,11 @@
 //! One view of values, in cells and frozen alike: what equality, freezing and `str` look at.
 //!
 //! Nothing is shared or copied to look: a view borrows the cell or the tree.
-ghost use Rattle.std.specs.Prelude.{◌≡◌, ◌<◌, ◌≤◌, IfOk, length, slice_get, Some, MatchOption, map};
+ghost use Rattle.std.specs.Prelude.{◌≡◌, ◌<◌, ◌≤◌, IfOk, length, slice_get, Some, MatchOption};
 ghost use Rattle.std.specs.Map.{lookup};
 ghost use Rattle.values.specs.Keyed.{AreDistinct};
 ghost use Rattle.leaves.specs.Leaves.{same_key};
-ghost use Rattle.values.specs.Shape.{cell_shape, value_of, slot_of, zip};
+ghost use Rattle.values.specs.Shape.{cell_shape, zip};
 ghost use Rattle.values.specs.Seeing.{entry_value, item_value, option_value, group_items};
 ghost use Rattle.values.specs.Seeing.{table_entries, slot_values, seen};
 ghost use Rattle.values.specs.Visits.{keys_of};
@@ -57,6 +57,15 @@ pub enum Seen<'a> {
     Nothing,
 }
 
+/// The part at a place.
+#[inline(always)]
+pub fn part_at<T>(parts: &[T], place: usize) -> &T
+    requires { place < length parts.now }
+    ensures { slice_get parts.now place ≡ Some result.now }
+{
+    &parts[place]
+}
+
 impl<'a> Item<'a> {
     /// A value of one's own, for a cell that keeps it: at most a count more.
     ///
@@ -70,16 +79,9 @@ impl<'a> Item<'a> {
         match self {
             Item::Value(value) => value.share(),
             Item::Tree(tree) => tree.to_value(),
-            Item::Key(key) => key_value(key),
+            Item::Key(key) => Ok(Value::Key(key.share()?)),
         }
     }
-}
-
-fn key_value(key: &Key) -> Result<Value, AllocError>
-    ensures { IfOk result (λ v. v ≡ Value.Key key.now) }
-{
-    let key = key.share()?;
-    Ok(Value::Key(key))
 }
 
 impl<'a> Group<'a> {
@@ -101,26 +103,10 @@ impl<'a> Group<'a> {
         ensures { slice_get (group_items self.now) place ≡ Some (item_value result) }
     {
         match self {
-            Group::Values(values) => value_at(values, place),
-            Group::Trees(trees) => tree_at(trees, place),
+            Group::Values(values) => Item::Value(part_at(values, place)),
+            Group::Trees(trees) => Item::Tree(part_at(trees, place)),
         }
     }
-}
-
-#[inline(always)]
-fn value_at<'a>(values: &'a [Value], place: usize) -> Item<'a>
-    requires { place < length values.now }
-    ensures { slice_get values.now place ≡ Some (item_value result) }
-{
-    Item::Value(&values[place])
-}
-
-#[inline(always)]
-fn tree_at<'a>(trees: &'a [Frozen], place: usize) -> Item<'a>
-    requires { place < length trees.now }
-    ensures { slice_get (map value_of trees.now) place ≡ Some (item_value result) }
-{
-    Item::Tree(&trees[place])
 }
 
 impl<'a> Slots<'a> {
@@ -140,29 +126,9 @@ impl<'a> Slots<'a> {
         ensures { slice_get (slot_values self.now) place ≡ Some (option_value result) }
     {
         match self {
-            Slots::Values(values) => value_slot(values, place),
-            Slots::Trees(trees) => tree_slot(trees, place),
+            Slots::Values(values) => Some(Item::Value(part_at(values, place).as_ref()?)),
+            Slots::Trees(trees) => Some(Item::Tree(part_at(trees, place).as_ref()?)),
         }
-    }
-}
-
-fn value_slot<'a>(values: &'a [Option<Value>], place: usize) -> Option<Item<'a>>
-    requires { place < length values.now }
-    ensures { slice_get values.now place ≡ Some (option_value result) }
-{
-    match &values[place] {
-        Some(value) => Some(Item::Value(value)),
-        None => None,
-    }
-}
-
-fn tree_slot<'a>(trees: &'a [Option<Frozen>], place: usize) -> Option<Item<'a>>
-    requires { place < length trees.now }
-    ensures { slice_get (map slot_of trees.now) place ≡ Some (option_value result) }
-{
-    match &trees[place] {
-        Some(tree) => Some(Item::Tree(tree)),
-        None => None,
     }
 }
 
@@ -196,7 +162,10 @@ impl<'a> Table<'a> {
             (λ e. slice_get (table_entries self.now) place ≡ Some (entry_value e)) }
     {
         match self {
-            Table::Values(entries) => entry_at(entries, place),
+            Table::Values(entries) => {
+                let (key, value) = entries.at(place)?;
+                Some((key, Item::Value(value)))
+            }
             Table::Trees(keys, values) => pair_at(keys, values, place),
         }
     }
@@ -206,7 +175,7 @@ impl<'a> Table<'a> {
         ensures { option_value result ≡ lookup (same_key key.now) (table_entries self.now) }
     {
         match self {
-            Table::Values(entries) => value_of_key(entries, key),
+            Table::Values(entries) => Some(Item::Value(entries.get(key)?)),
             Table::Trees(keys, values) => tree_of_key(keys, values, key),
         }
     }
@@ -220,16 +189,7 @@ fn distinct_pairs(keys: &IndexSet<Key>, values: &[Frozen]) -> usize
     keys.len().min(values.len())
 }
 
-fn entry_at<'a>(entries: &'a Entries, place: usize) -> Option<(&'a Key, Item<'a>)>
-    ensures { MatchOption result (length entries.now ≤ place)
-        (λ e. slice_get entries.now place ≡ Some (entry_value e)) }
-{
-    match entries.at(place) {
-        Some((key, value)) => Some((key, Item::Value(value))),
-        None => None,
-    }
-}
-
+/// The key and the value at a place, as many as have both.
 fn pair_at<'a>(
     keys: &'a IndexSet<Key>,
     values: &'a [Frozen],
@@ -238,45 +198,14 @@ fn pair_at<'a>(
     ensures { MatchOption result (length (zip keys.now.keys values.now) ≤ place)
         (λ e. slice_get (zip keys.now.keys values.now) place ≡ Some (entry_value e)) }
 {
-    if place >= keys.len() {
-        return None;
-    }
-    if place >= values.len() {
-        return None;
-    }
-    Some((key_at(keys, place), tree_at(values, place)))
-}
-
-/// The key at a place.
-fn key_at(keys: &IndexSet<Key>, place: usize) -> &Key
-    requires { place < length keys.now.keys }
-    ensures { slice_get keys.now.keys place ≡ Some result.now }
-{
-    &keys.as_slice()[place]
-}
-
-fn value_of_key<'a>(entries: &'a Entries, key: &Key) -> Option<Item<'a>>
-    ensures { option_value result ≡ lookup (same_key key.now) entries.now }
-{
-    match entries.get(key) {
-        Some(value) => Some(Item::Value(value)),
-        None => None,
-    }
+    Some((keys.get_index(place)?, Item::Tree(values.get(place)?)))
 }
 
 fn tree_of_key<'a>(keys: &'a IndexSet<Key>, values: &'a [Frozen], key: &Key) -> Option<Item<'a>>
     ensures { option_value result ≡ lookup (same_key key.now) (zip keys.now.keys values.now) }
 {
-    match keys.get_index_of(key) {
-        Some(place) => {
-            if place < values.len() {
-                Some(tree_at(values, place))
-            } else {
-                None
-            }
-        }
-        None => None,
-    }
+    let place = keys.get_index_of(key)?;
+    Some(Item::Tree(values.get(place)?))
 }
 
 impl Cell {

@@ -3,10 +3,11 @@ use Rattle.std.proofs.Common.{◌≡◌, ℕ, zero, suc, ◌+◌, ◌≤◌, Boo
 use Rattle.values.specs.Tree.{Trees, Pairs, Slots, key, leaf, branch, list, tuple, dict, instance, none, more, stop, pair, end, missing, given, tree_list, slot_list}
 use Rattle.values.specs.View.{FrozenTree, FrozenBranch}
 use Rattle.ticks.specs.Ticking.{Count, Spends, ticked, spent, after_tick, entered}
-use Rattle.values.specs.Extents.{Measure, IsExtent, both, one, beside, above, measure, branch_measure, trees_measure, pairs_measure, slots_measure}
+use Rattle.ticks.specs.Extents.{Measure, IsExtent, both, one, beside, above}
+use Rattle.values.specs.Extents.{measure, branch_measure, trees_measure, pairs_measure, slots_measure}
 use Rattle.leaves.specs.Leaves.{can_freeze}
 use Rattle.visits.specs.Revisit.{AtOnce, values_in, all_visited, entry_visited, slot_visited, branch_visited, leaf_visited, visit_at}
-use Rattle.values.specs.declared.extent.Extent.{Extent}
+use Rattle.ticks.specs.declared.extent.Extent.{Extent}
 use Rattle.keys.specs.declared.key.Key.{Key}
 use Rattle.leaves.specs.declared.leaf.Leaf.{Leaf}
 use Rattle.leaves.specs.declared.leaf.Provider.{Provider}

@@ -5,9 +5,10 @@ use Rattle.values.specs.Tree.{Pairs, key, leaf, branch, list, tuple, dict, insta
 use Rattle.values.specs.Tree.{tree_list, slot_list}
 use Rattle.values.specs.View.{FrozenTree, FrozenBranch}
 use Rattle.ticks.specs.Ticking.{Count, after_tick, entered}
-use Rattle.values.specs.Extents.{measure, IsExtent}
+use Rattle.ticks.specs.Extents.{IsExtent}
+use Rattle.values.specs.Extents.{measure}
 use Rattle.leaves.specs.Leaves.{can_freeze}
-use Rattle.values.specs.declared.extent.Extent.{Extent}
+use Rattle.ticks.specs.declared.extent.Extent.{Extent}
 use Rattle.leaves.specs.declared.leaf.Leaf.{Leaf}
 use Rattle.leaves.specs.declared.leaf.Provider.{Provider}
 use Rattle.keys.specs.declared.key.Key.{Key}

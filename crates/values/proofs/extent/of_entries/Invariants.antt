@@ -1,5 +1,6 @@
 use Rattle.std.proofs.Common.{◌≤◌, length, drop}
-use Rattle.values.specs.Extents.{IsExtent, values_measure}
+use Rattle.ticks.specs.Extents.{IsExtent}
+use Rattle.values.specs.Extents.{values_measure}
 use Rattle.values.proofs.extent.of_entries.Given as goal
 
 abbrev pub invariant-loop-place : goal.invariant-loop-place

@@ -1,6 +1,7 @@
 use Rattle.std.proofs.Common.{◌≤◌, length, drop}
 use Rattle.values.specs.Tree.{slots}
-use Rattle.values.specs.Extents.{IsExtent, slots_measure}
+use Rattle.ticks.specs.Extents.{IsExtent}
+use Rattle.values.specs.Extents.{slots_measure}
 use Rattle.values.proofs.extent.of_fields.Given as goal
 
 abbrev pub invariant-loop-place : goal.invariant-loop-place

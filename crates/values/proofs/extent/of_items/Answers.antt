@@ -1,7 +1,8 @@
 use Rattle.std.proofs.Common.{◌≡◌, sym, subst, refl, drop, arith}
 use Rattle.std.proofs.Math.Seq.{drop-length}
 use Rattle.values.specs.Tree.{trees}
-use Rattle.values.specs.Extents.{IsExtent, beside, measure, trees_measure}
+use Rattle.ticks.specs.Extents.{IsExtent, beside}
+use Rattle.values.specs.Extents.{measure, trees_measure}
 use Rattle.values.proofs.ExtentLemmas.{gathered}
 use Rattle.values.proofs.extent.of_items.Goals as goal
 
@@ -11,14 +12,14 @@ loop-place-init c = record {
   behind = subst (λ xs. IsExtent c.nothing-extent.result (trees_measure (trees xs))) (sym (drop-length c.args.items.now)) c.nothing-extent.ensures;
 }
 
-pub tree_at-requires : goal.tree_at-requires
-tree_at-requires c = omega (arith, c.loop-place.invariant.within, c.loop-place-test.true)
+pub part_at-requires : goal.part_at-requires
+part_at-requires c = omega (arith, c.loop-place.invariant.within, c.loop-place-test.true)
 
 pub loop-place-preserved : goal.loop-place-preserved
 loop-place-preserved c = record {
   within = omega (arith, c.loop-place.invariant.within);
   behind = gathered (λ ts. trees_measure (trees ts)) (λ t n. beside (measure t) n) (λ t ts. refl) c.args.items.now c.loop-place.extent c.beside-extent.result c.loop-place.place
-      c.tree_at.result.now c.loop-place-test.true c.tree_at.ensures c.loop-place.invariant.behind (λ n rest. c.beside-extent.ensures (measure c.tree_at.result.now) n c.extent.ensures rest);
+      c.part_at.result.now c.loop-place-test.true c.part_at.ensures c.loop-place.invariant.behind (λ n rest. c.beside-extent.ensures (measure c.part_at.result.now) n c.extent.ensures rest);
 }
 
 pub returns : goal.returns

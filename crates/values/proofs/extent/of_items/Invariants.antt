@@ -1,6 +1,7 @@
 use Rattle.std.proofs.Common.{◌≤◌, length, drop}
 use Rattle.values.specs.Tree.{trees}
-use Rattle.values.specs.Extents.{IsExtent, trees_measure}
+use Rattle.ticks.specs.Extents.{IsExtent}
+use Rattle.values.specs.Extents.{trees_measure}
 use Rattle.values.proofs.extent.of_items.Given as goal
 
 abbrev pub invariant-loop-place : goal.invariant-loop-place

@@ -1,16 +1,21 @@
-use Rattle.std.proofs.Common.{sym, ◌∙◌}
-use Rattle.values.specs.Seeing.{item_value}
+use Rattle.std.proofs.Common.{length, refl, sym, ap, ◌∙◌}
+use Rattle.std.proofs.lemmas.Option.{slice_get_read}
+use Rattle.values.specs.Seeing.{option_value}
 use Rattle.values.proofs.SeeLemmas.{lookup-found, lookup-past, lookup-none}
 use Rattle.values.proofs.sees.tree_of_key.Goals as goal
 
-pub returns-in-None : goal.returns-in-None
-returns-in-None c = sym (lookup-none c.args.key.now c.args.keys.now.keys c.args.values.now (sym c.get_index_of.ensures.index ∙ c.in-None.is))
+pub returns-in_err-place : goal.returns-in_err-place
+returns-in_err-place c =
+    ap option_value c.from_residual.ensures
+    ∙ sym (lookup-none c.args.key.now c.args.keys.now.keys c.args.values.now (sym c.in_err-place.ensures.index))
 
-pub returns-then-place-values : goal.returns-then-place-values
-returns-then-place-values c =
-    sym (lookup-found c.args.key.now c.args.keys.now.keys c.args.values.now c.in-Some.place (item_value c.tree_at.result)
-    (sym c.get_index_of.ensures.index ∙ c.in-Some.is) c.tree_at.ensures)
+pub returns-in_err-get : goal.returns-in_err-get
+returns-in_err-get c =
+    ap option_value c.from_residual-in_err-get.ensures
+    ∙ sym (lookup-past c.args.key.now c.args.keys.now.keys c.args.values.now c.in_ok-place.place (sym c.in_ok-place.ensures.index)
+    c.in_err-get.ensures.lookup.3)
 
-pub returns-else-place-values : goal.returns-else-place-values
-returns-else-place-values c =
-    sym (lookup-past c.args.key.now c.args.keys.now.keys c.args.values.now c.in-Some.place (sym c.get_index_of.ensures.index ∙ c.in-Some.is) c.if-place-values.false)
+pub returns : goal.returns
+returns c =
+    sym (lookup-found c.args.key.now c.args.keys.now.keys c.args.values.now c.in_ok-place.place c.in_ok-get.field-0.now
+    (sym c.in_ok-place.ensures.index) (slice_get_read c.args.values.now (length c.args.values.now) c.in_ok-place.place c.in_ok-get.field-0.now refl c.in_ok-get.ensures.lookup.3.0 c.in_ok-get.ensures.lookup.1))

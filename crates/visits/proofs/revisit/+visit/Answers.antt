@@ -53,19 +53,19 @@ visit_pairs-returns-in-Err t c =
     let ks = c.args.keys.now.keys in
     let ts = c.args.values.now in
     sym c.loop-i.invariant
-    ∙ visited-fault (entry_visited (entered c.args.left) (visit_at c.args.left)) c.tree_at.result.now
+    ∙ visited-fault (entry_visited (entered c.args.left) (visit_at c.args.left)) c.part_at.result.now
     (values_in (pairs (drop c.loop-i.i ks) (drop c.loop-i.i ts))) (values_in (pairs (drop (c.loop-i.i + 1) ks) (drop (c.loop-i.i + 1) ts)))
     c.loop-i.ticks c.in-Err.kind
-    (next-pair ks ts c.loop-i.i c.tree_at.result.now (omega (arith, c.loop-i-test.true, c.min-i-end.ensures, c.len.ensures.len)) c.tree_at.ensures) c.in-Err.ensures
+    (next-pair ks ts c.loop-i.i c.part_at.result.now (omega (arith, c.loop-i-test.true, c.min-i-end.ensures, c.len.ensures.len)) c.part_at.ensures) c.in-Err.ensures
 
 pub visit_pairs-loop-i-preserved : goal.visit_pairs-loop-i-preserved
 visit_pairs-loop-i-preserved t c =
     let ks = c.args.keys.now.keys in
     let ts = c.args.values.now in
-    visited-next (entry_visited (entered c.args.left) (visit_at c.args.left)) c.tree_at.result.now
+    visited-next (entry_visited (entered c.args.left) (visit_at c.args.left)) c.part_at.result.now
     (values_in (pairs (drop c.loop-i.i ks) (drop c.loop-i.i ts))) (values_in (pairs (drop (c.loop-i.i + 1) ks) (drop (c.loop-i.i + 1) ts)))
     c.loop-i.ticks c.visit_entry.new.ticks
-    (next-pair ks ts c.loop-i.i c.tree_at.result.now (omega (arith, c.loop-i-test.true, c.min-i-end.ensures, c.len.ensures.len)) c.tree_at.ensures) c.in_default.ensures
+    (next-pair ks ts c.loop-i.i c.part_at.result.now (omega (arith, c.loop-i-test.true, c.min-i-end.ensures, c.len.ensures.len)) c.part_at.ensures) c.in_default.ensures
     ∙ c.loop-i.invariant
 
 pub visit_pairs-returns : goal.visit_pairs-returns

@@ -1,5 +1,6 @@
 use Rattle.std.proofs.Common.{◌∙◌, sym, subst, ap}
-use Rattle.values.specs.Extents.{IsExtent, pairs_measure, values_measure}
+use Rattle.ticks.specs.Extents.{IsExtent}
+use Rattle.values.specs.Extents.{pairs_measure, values_measure}
 use Rattle.values.specs.Tree.{pairs}
 use Rattle.values.proofs.ExtentLemmas.{pairs-values}
 use Rattle.values.proofs.frozen.Branch.dict.Goals as goal

@@ -1,5 +1,6 @@
 use Rattle.std.proofs.Common.{subst}
-use Rattle.values.specs.Extents.{IsExtent, slots_measure}
+use Rattle.ticks.specs.Extents.{IsExtent}
+use Rattle.values.specs.Extents.{slots_measure}
 use Rattle.values.specs.Tree.{slots}
 use Rattle.values.proofs.frozen.Branch.instance.Goals as goal
 

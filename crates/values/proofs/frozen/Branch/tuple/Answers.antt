@@ -1,5 +1,6 @@
 use Rattle.std.proofs.Common.{subst}
-use Rattle.values.specs.Extents.{IsExtent, trees_measure}
+use Rattle.ticks.specs.Extents.{IsExtent}
+use Rattle.values.specs.Extents.{trees_measure}
 use Rattle.values.specs.Tree.{trees}
 use Rattle.values.proofs.frozen.Branch.tuple.Goals as goal
 
