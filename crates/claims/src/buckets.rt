@@ -17,7 +17,9 @@ pub(crate) fn buckets(
         ≡ put_all leaders.now (map no_members owned.now) 0 owned.now) }
 {
     let mut buckets = empty(alloc, owned)?;
-    fill(&mut buckets, owned, leaders)?;
+    for (place, one) in owned.iter().enumerate() {
+        put(&mut buckets, leader_at(leaders, place), one, place)?;
+    }
     Ok(buckets)
 }
 
@@ -32,21 +34,6 @@ fn empty(alloc: Global, owned: &[Owned<'_>]) -> Result<Vec<Members>, AllocError>
     Ok(buckets)
 }
 
-/// Puts each action into the bucket of its leader.
-fn fill(
-    buckets: &mut Vec<Members>,
-    owned: &[Owned<'_>],
-    leaders: &[usize],
-) -> Result<(), AllocError>
-    ensures { OnOk result
-        (buckets.new.items ≡ put_all leaders.now buckets.old.items 0 owned.now) }
-{
-    for (place, one) in owned.iter().enumerate() {
-        put(buckets, leader_at(leaders, place), one, place)?;
-    }
-    Ok(())
-}
-
 /// Puts the action at a place into a bucket.
 fn put(
     buckets: &mut Vec<Members>,
@@ -57,16 +44,9 @@ fn put(
     ensures { OnOk result (buckets.new.items ≡ put_at buckets.old.items leader
         (record { label = owned.now.label; place = place })) }
 {
-    let label = owned.label().share()?;
-    push_at(buckets, leader, Member { label, place })
-}
-
-/// Puts an action last in a bucket.
-fn push_at(buckets: &mut Vec<Members>, leader: usize, member: Member) -> Result<(), AllocError>
-    ensures { OnOk result (buckets.new.items ≡ put_at buckets.old.items leader member) }
-{
     if let Some(bucket) = buckets.get_mut(leader) {
-        bucket.push(member)?;
+        let label = owned.label().share()?;
+        bucket.push(Member { label, place })?;
     }
     Ok(())
 }

@@ -4,7 +4,6 @@ ghost use Rattle.std.specs.Prelude.{◌≡◌, ◌++◌, ◌∷◌, [], IfOk, On
 ghost use Rattle.claims.specs.Claims.{claim_on, claims_of, claims_from, in_order};
 
 use crate::owned::Owned;
-use actions::Action;
 use depsets::FileRef;
 use plain::{Shared, Text};
 use std::alloc::{AllocError, Global};
@@ -24,7 +23,7 @@ pub(crate) fn all_claims(alloc: Global, owned: &[Owned<'_>]) -> Result<Vec<Claim
 {
     let mut claims = Vec::new(alloc);
     for (place, one) in owned.iter().enumerate() {
-        claim_all(&mut claims, place, one)?;
+        claim_outputs(&mut claims, place, one)?;
     }
     Ok(claims)
 }
@@ -39,22 +38,11 @@ pub(crate) fn sort_claims(claims: &mut Vec<Claim>) -> Result<(), AllocError>
 }
 
 /// Adds the claims of one action.
-fn claim_all(claims: &mut Vec<Claim>, place: usize, owned: &Owned<'_>) -> Result<(), AllocError>
+fn claim_outputs(claims: &mut Vec<Claim>, place: usize, owned: &Owned<'_>) -> Result<(), AllocError>
     ensures { OnOk result (claims.new.items ≡ claims.old.items ++ claims_of place owned.now) }
 {
-    claim_outputs(claims, place, owned.label(), owned.action())
-}
-
-/// Adds the claims of an action, which the target of this label registered.
-fn claim_outputs(
-    claims: &mut Vec<Claim>,
-    place: usize,
-    label: &Text,
-    action: &Action,
-) -> Result<(), AllocError>
-    ensures { OnOk result (claims.new.items ≡ claims.old.items
-        ++ claims_of place (record { label = label.now; action = action.now })) }
-{
+    let label = owned.label();
+    let action = owned.action();
     let files = action.outputs.as_slice();
     for file in files {
         add_claim(claims, place, label, file)?;

@@ -1,6 +1,6 @@
 //! Which actions may be equal to others: those that declare nothing, or a path that another
 //! declares too.
-ghost use Rattle.std.specs.Prelude.{◌≡◌, true, IfOk, map, set};
+ghost use Rattle.std.specs.Prelude.{◌≡◌, IfOk, map};
 ghost use Rattle.claims.specs.Marks.{is_bare, marked_all, marked_by};
 
 use crate::commons::Common;
@@ -46,15 +46,8 @@ fn mark_members(marks: &mut Vec<bool>, members: &[Member])
     ensures { marks.new.items ≡ marked_by marks.old.items members.now }
 {
     for member in members {
-        mark(marks, member.place);
-    }
-}
-
-/// Marks the action at a place.
-fn mark(marks: &mut Vec<bool>, place: usize)
-    ensures { marks.new.items ≡ set marks.old.items place true }
-{
-    if let Some(mark) = marks.get_mut(place) {
-        *mark = true;
+        if let Some(mark) = marks.get_mut(member.place) {
+            *mark = true;
+        }
     }
 }

@@ -17,7 +17,7 @@ pub(crate) struct Member {
 
 impl Member {
     /// Another name of the same.
-    pub(crate) fn share(&self) -> Result<Member, AllocError>
+    fn share(&self) -> Result<Member, AllocError>
         ensures { IfOk result (λ m. m ≡ self.now) }
     {
         let label = self.label.share()?;
@@ -53,6 +53,18 @@ impl Members {
         }
     }
 
+    /// The same as these, by label and then by place.
+    pub(crate) fn sorted(alloc: Global, members: &[Member]) -> Result<Members, AllocError>
+        ensures { IfOk result (IsSorting members.now) }
+    {
+        let mut items = Vec::with_capacity(alloc, members.len())?;
+        for member in members {
+            items.push(member.share()?)?;
+        }
+        items.sort()?;
+        Ok(Members { items })
+    }
+
     /// One more, which is the last.
     pub(crate) fn push(&mut self, member: Member) -> Result<(), AllocError>
         ensures { OnOk result (self.new ≡ self.old ++ member ∷ []) }
@@ -66,14 +78,6 @@ impl Members {
         ensures { self.new ≡ [] }
     {
         self.items.clear();
-    }
-
-    /// Puts them in order, by label and then by place.
-    pub(crate) fn sort(&mut self) -> Result<(), AllocError>
-        ensures { OnOk result (IsSorting self.old self.new) }
-    {
-        self.items.sort()?;
-        Ok(())
     }
 
     /// How many there are.
@@ -117,23 +121,6 @@ impl Model for Places {
 }
 
 impl Places {
-    /// No places.
-    pub(crate) fn new(alloc: Global) -> Places
-        ensures { result ≡ [] }
-    {
-        Places {
-            items: Vec::new(alloc),
-        }
-    }
-
-    /// A place more, which is the last.
-    pub(crate) fn push(&mut self, place: usize) -> Result<(), AllocError>
-        ensures { OnOk result (self.new ≡ self.old ++ place ∷ []) }
-    {
-        self.items.push(place)?;
-        Ok(())
-    }
-
     /// All of them, in order.
     pub fn as_slice(&self) -> &[usize]
         ensures { result.now ≡ self.now }
@@ -146,9 +133,9 @@ impl Places {
 pub(crate) fn places_of(alloc: Global, members: &[Member]) -> Result<Places, AllocError>
     ensures { IfOk result (λ p. p ≡ map place_of members.now) }
 {
-    let mut places = Places::new(alloc);
+    let mut items = Vec::with_capacity(alloc, members.len())?;
     for member in members {
-        places.push(member.place)?;
+        items.push(member.place)?;
     }
-    Ok(places)
+    Ok(Places { items })
 }

@@ -1,7 +1,7 @@
 //! Sets of equal actions, no two of which have one owner.
 ghost use Rattle.std.specs.Prelude.{◌≡◌, ◌++◌, ◌<◌, [], None, IfOk, OnOk, length, option_copied};
 ghost use Rattle.std.specs.List.{AllZip};
-ghost use Rattle.claims.specs.Sets.{AddsSetOf, AreSetsOf, IsSetOf, IsSorting, is_twin, set_from};
+ghost use Rattle.claims.specs.Sets.{AddsSetOf, AreSetsOf, IsSetOf, is_twin, set_from};
 ghost use Rattle.claims.specs.Sets.{some_twin};
 
 use crate::members::{Member, Members, Places, labels_of, places_of};
@@ -57,29 +57,9 @@ fn set_of(alloc: Global, members: &[Member]) -> Result<Option<Shared>, AllocErro
     if members.len() < 2 {
         return Ok(None);
     }
-    let sorted = sorted(alloc, members)?;
+    let sorted = Members::sorted(alloc, members)?;
     let found = set_from(alloc, sorted.as_slice())?;
     Ok(found)
-}
-
-/// The same actions, by label and then by place.
-fn sorted(alloc: Global, members: &[Member]) -> Result<Members, AllocError>
-    ensures { IfOk result (IsSorting members.now) }
-{
-    let mut sorted = shares(alloc, members)?;
-    sorted.sort()?;
-    Ok(sorted)
-}
-
-/// Other names of the same.
-fn shares(alloc: Global, members: &[Member]) -> Result<Members, AllocError>
-    ensures { IfOk result (λ s. s ≡ members.now) }
-{
-    let mut shares = Members::new(alloc);
-    for member in members {
-        shares.push(member.share()?)?;
-    }
-    Ok(shares)
 }
 
 /// The set of actions that are in order, if no two of them have one owner.

@@ -132,17 +132,10 @@ pub fn shared(alloc: Global, owned: &[Owned<'_>]) -> Result<Vec<Shared>, AllocEr
     ensures law { IfOk result (λ v. AreShared walked owned.now v.items) }
     ensures plain { IfOk result (λ v. AreCoherent owned.now → AreShared flat owned.now v.items) }
 {
-    let found = all_shared(alloc, owned)?;
-    Ok(found)
-}
-
-/// The shared actions of these actions.
-fn all_shared(alloc: Global, owned: &[Owned<'_>]) -> Result<Vec<Shared>, AllocError>
-    ensures { IfOk result (λ v. AreShared walked owned.now v.items) }
-{
     let commons = commons(alloc, owned)?;
     let leaders = leaders_among(alloc, owned, &commons)?;
-    sets_by(alloc, owned, &leaders)
+    let found = sets_by(alloc, owned, &leaders)?;
+    Ok(found)
 }
 
 /// The shared actions, where these are the leaders of all.

@@ -5,5 +5,5 @@ use Rattle.claims.proofs.members.places_of.Goals as goal
 
 pub loop-member-preserved : goal.loop-member-preserved
 loop-member-preserved c =
-    map-next place_of c.args.members.now c.loop-member.member-index c.member-item.result c.member-item.result.place c.loop-member.places c.push.new.self c.loop-member-test.true
-    c.member-item.is c.loop-member.invariant c.in_ok-push.ensures refl
+    map-next place_of c.args.members.now c.loop-member.member-index c.member-item.result c.member-item.result.place c.loop-member.items.items c.push.new.self.items c.loop-member-test.true
+    c.member-item.is c.loop-member.invariant c.in_ok-push.ensures.items refl

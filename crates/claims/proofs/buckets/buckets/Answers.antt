@@ -1,7 +1,7 @@
 use Rattle.std.proofs.Common.{◌∙◌, ap, ℕ}
 use Rattle.claims.specs.Buckets.{member_at, put_at}
 use Rattle.claims.proofs.Turns.{puts-next}
-use Rattle.claims.proofs.buckets.fill.Goals as goal
+use Rattle.claims.proofs.buckets.buckets.Goals as goal
 
 pub loop-place-preserved : goal.loop-place-preserved
 loop-place-preserved c =
