@@ -8,7 +8,7 @@ ghost use Rattle.grammar.specs.BareDepth.{form_depth, param_depth, params_depth,
 ghost use Rattle.grammar.specs.BareLines.{defines};
 ghost use Rattle.grammar.specs.LineView.{form_of, item_of, param_of};
 ghost use Rattle.grammar.specs.TreeView.{tree_of};
-ghost use Rattle.program_tree.specs.Names.{form_binds, param_name};
+ghost use Rattle.program_tree.specs.Names.{form_binds};
 ghost use Rattle.program_tree.specs.ProgramView as view;
 ghost use Rattle.program_tree.specs.ProgramView.{terms_onto};
 ghost use Rattle.program_tree.specs.Resolved as resolved;
@@ -140,25 +140,6 @@ fn defaults<'t>(
     Ok(found)
 }
 
-/// What a `load` binds.
-fn loaded<'t>(
-    alloc: Global,
-    scope: &Scope<'t>,
-    items: &[Item<'t>],
-) -> Result<Vec<Loaded>, AllocError>
-    ensures { IfOk result (λ v. v.items ≡ map (λ i. record
-        { asked = i.asked; binds = global_of scope.now i.binds }) (map item_of items.now)) }
-{
-    let mut found = Vec::new(alloc);
-    for item in items {
-        found.push(Loaded {
-            asked: item.asked.share()?,
-            binds: scope.global(&item.binds),
-        })?;
-    }
-    Ok(found)
-}
-
 /// A `load`.
 fn load<'t>(
     alloc: Global,
@@ -170,18 +151,15 @@ fn load<'t>(
         ≡ resolved.load path.now (map (λ i. record
         { asked = i.asked; binds = global_of scope.now i.binds }) (map item_of items.now))) }
 {
-    let items = loaded(alloc, scope, items)?;
+    let mut found = Vec::new(alloc);
+    for item in items {
+        found.push(Loaded {
+            asked: item.asked.share()?,
+            binds: scope.global(&item.binds),
+        })?;
+    }
     let path = path.share()?;
-    Ok(Statement::Load(path, items))
-}
-
-/// The names of parameters.
-fn param_names<'t>(alloc: Global, params: &[Param<'t>]) -> Result<Vec<Name<'t>>, AllocError>
-    ensures { IfOk result (λ v. v.items ≡ map param_name (map param_of params.now)) }
-{
-    let mut names = Vec::with_capacity(alloc, params.len())?;
-    add_params(&mut names, params)?;
-    Ok(names)
+    Ok(Statement::Load(path, found))
 }
 
 /// The head of a function.
@@ -195,7 +173,8 @@ fn def<'t>(
     ensures { GivesHead form_scoped (defines name.now (map param_of params.now)) scope.old result
         scope.new }
 {
-    let names = param_names(alloc, params)?;
+    let mut names = Vec::with_capacity(alloc, params.len())?;
+    add_params(&mut names, params)?;
     if !are_distinct(alloc, names.as_slice())? {
         return Err(Unresolved::Breaks);
     }

@@ -143,28 +143,19 @@ fn named_value<'l, 't>(keyword: &'l Keyword<'t>) -> (&'l Name<'t>, &'l Expr<'t>)
     (&keyword.name, &keyword.value)
 }
 
-/// The names of the arguments with names.
-fn argument_names<'t>(alloc: Global, named: &[Keyword<'t>]) -> Result<Vec<Name<'t>>, AllocError>
-    ensures { IfOk result (λ v. v.items ≡ keyword_names (keywords named.now)) }
-{
-    let mut found = Vec::new(alloc);
-    for keyword in named {
-        found.push(keyword.name.share()?)?;
-    }
-    Ok(found)
-}
-
 /// Whether no name comes twice among the arguments of a call.
 fn names_differ(alloc: Global, named: &[Keyword<'_>]) -> Result<bool, AllocError>
     ensures { IfOk result (λ b. b ≡ distinct (keyword_names (keywords named.now))) }
 {
-    match named {
-        [] | [_] => Ok(true),
-        _ => {
-            let names = argument_names(alloc, named)?;
-            are_distinct(alloc, names.as_slice())
-        }
+    if named.len() < 2 {
+        return Ok(true);
     }
+    let mut names = Vec::with_capacity(alloc, named.len())?;
+    for keyword in named {
+        names.push(keyword.name.share()?)?;
+    }
+    let told = are_distinct(alloc, names.as_slice())?;
+    Ok(told)
 }
 
 /// What a name that is used stands for.

@@ -23,7 +23,7 @@ use crate::resolver::Unresolved;
 use crate::top::until_rebound;
 use grammar::{Form, Line};
 use plain::Text;
-use program_tree::{Binding, Branch, Function, Statement, Step, Term};
+use program_tree::{Branch, Function, Statement, Step, Term};
 use scopes::{Levels, Scope, add_lines, add_params, block_of, steps_slots};
 use std::alloc::{AllocError, AllocFailed, Global};
 
@@ -87,22 +87,6 @@ impl Behind {
             steps: Vec::with_capacity(alloc, room)?,
         })
     }
-
-    /// With a statement before the others, which ends what an `if` before it can have.
-    fn with_step(alloc: Global, step: Step, mut steps: Vec<Step>) -> Result<Behind, AllocError>
-        ensures steps { IfOk result (λ b. view.steps (reverse b.steps.items)
-            ≡ resolved.step (view.line_and_statement step).0 (view.line_and_statement step).1
-            (view.steps (reverse steps.items))) }
-        ensures other { IfOk result (λ b. view.steps b.other.items ≡ no_steps) }
-        ensures branches { IfOk result (λ b. b.branches.items ≡ []) }
-    {
-        steps.push(step)?;
-        Ok(Behind {
-            branches: Vec::new(alloc),
-            other: Vec::new(alloc),
-            steps,
-        })
-    }
 }
 
 /// A statement, with its number.
@@ -112,19 +96,22 @@ fn numbered(line: usize, statement: Statement) -> Step
     Step { line, statement }
 }
 
-/// With the statement of a line before the others.
+/// With the statement of a line before the others, which ends what an `if` before it can have.
 fn begin(
     alloc: Global,
     line: usize,
     statement: Statement,
-    steps: Vec<Step>,
+    mut steps: Vec<Step>,
 ) -> Result<Behind, AllocError>
     ensures { IfOk result (λ b. behind_seen b ≡ begun
         (resolved.step line (view.statement statement) (view.steps (reverse steps.items)))) }
 {
-    let step = numbered(line, statement);
-    let behind = Behind::with_step(alloc, step, steps)?;
-    Ok(behind)
+    steps.push(numbered(line, statement))?;
+    Ok(Behind {
+        branches: Vec::new(alloc),
+        other: Vec::new(alloc),
+        steps,
+    })
 }
 
 fn branch(line: usize, test: Term, steps: Vec<Step>) -> Branch
@@ -132,20 +119,6 @@ fn branch(line: usize, test: Term, steps: Vec<Step>) -> Branch
         ≡ resolved.a_branch line (view.term test) (view.steps steps.items) r }
 {
     Branch { line, test, steps }
-}
-
-fn condition(branches: Vec<Branch>, other: Vec<Step>) -> Statement
-    ensures { view.statement result ≡ resolved.branch (view.branches branches.items)
-        (view.steps other.items) }
-{
-    Statement::If(branches, other)
-}
-
-fn repetition(names: Vec<Binding>, operand: Term, steps: Vec<Step>) -> Statement
-    ensures { view.statement result ≡ resolved.loop names.items (view.term operand)
-        (view.steps steps.items) }
-{
-    Statement::For(names, operand, steps)
 }
 
 /// A function, which gets its number later.
@@ -288,7 +261,8 @@ fn with_line(
         Head::If(test) => {
             let first = branch(line, test, inner.steps);
             let branches = all_branches(first, behind.branches)?;
-            begin(alloc, line, condition(branches, behind.other), behind.steps)
+            let made = Statement::If(branches, behind.other);
+            begin(alloc, line, made, behind.steps)
         }
         Head::Elif(test) => with_branch(branch(line, test, inner.steps), behind),
         Head::Else => Ok(Behind {
@@ -297,7 +271,7 @@ fn with_line(
             steps: behind.steps,
         }),
         Head::For(names, operand) => {
-            let made = repetition(names, operand, inner.steps);
+            let made = Statement::For(names, operand, inner.steps);
             begin(alloc, line, made, behind.steps)
         }
         Head::Def(binds, params, defaults) => {

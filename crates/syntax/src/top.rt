@@ -10,7 +10,7 @@ ghost use Rattle.grammar.specs.declared.statements.Line.{out-Line};
 ghost use Rattle.program_tree.specs.Names.{Scope as Around, among, file_scope, form_binds};
 ghost use Rattle.program_tree.specs.Names.{loads_bind, or_else};
 ghost use Rattle.syntax.specs.Resolves.{binds_anew};
-ghost use Rattle.file_syntax.specs.Scopes.{adds_to_name, lines_fault, top_fault};
+ghost use Rattle.file_syntax.specs.Scopes.{lines_fault, top_fault};
 
 use grammar::{Form, Line, Name};
 use indexmap::IndexSet;
@@ -45,12 +45,6 @@ pub(crate) fn count_loaded(alloc: Global, lines: &[Line<'_>]) -> Result<usize, A
     Ok(names.len())
 }
 
-fn adds_to_name(form: &Form<'_>) -> bool
-    ensures { result ≡ adds_to_name (form_of form.now) }
-{
-    matches!(form, Form::Add(_, _))
-}
-
 /// Binds what a line of the top level binds beside the names that were bound before, and tells
 /// whether it may.
 fn binds_anew<'t>(
@@ -66,7 +60,7 @@ fn binds_anew<'t>(
     if !bind_anew(before, names.as_slice())? {
         return Ok(false);
     }
-    Ok(!adds_to_name(form))
+    Ok(!matches!(form, Form::Add(_, _)))
 }
 
 /// The line at a place.

@@ -10,5 +10,5 @@ few_differ [] h = refl
 few_differ (k ∷ []) h = refl
 few_differ (k ∷ j ∷ ks) h = absurd (omega (arith, h))
 
-pub returns-in-empty : goal.returns-in-empty
-returns-in-empty c = few_differ c.args.named.now c.in-empty.len_below
+pub returns-then-named-lt2 : goal.returns-then-named-lt2
+returns-then-named-lt2 c = few_differ c.args.named.now c.if-named-lt2.true

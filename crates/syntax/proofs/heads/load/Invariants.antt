@@ -1,7 +1,7 @@
 use Rattle.std.proofs.Common.{◌≡◌, ◌++◌, drop, map}
 use Rattle.grammar.specs.LineView.{item_of}
 use Rattle.program_tree.specs.Resolved.{global_of}
-use Rattle.syntax.proofs.heads.loaded.Given as goal
+use Rattle.syntax.proofs.heads.load.Given as goal
 
 abbrev pub invariant-loop-item : goal.invariant-loop-item
 invariant-loop-item l =
