@@ -1,16 +1,15 @@
-//! What a file writes out and what the machine names, as values and kinds: numbers, functions,
-//! refusals.
+//! What a file writes out and what the machine names, as values: numbers and functions.
 ghost use Rattle.std.specs.Prelude.{◌≡◌, pos, Some, None, IfOk, IfSome, option_map};
 ghost use Rattle.values.specs.Seeing.{item_value};
 ghost use Rattle.operations.specs.Making.{number};
 ghost use Rattle.operations.specs.Names.{function_of};
-ghost use Rattle.language.specs.Language.{made_id, function_id, refusal_kind};
-ghost use Rattle.frames.specs.Answers.{id_seen, refusal_seen};
+ghost use Rattle.language.specs.Language.{made_id, function_id};
+ghost use Rattle.frames.specs.Answers.{id_seen};
 
-use frames::{FunctionId, Refusal};
+use frames::FunctionId;
 use language_calls::leaf_of;
 use std::alloc::AllocError;
-use values::{Item, Key, Kind, Leaf, MadeId, Value};
+use values::{Item, Key, Leaf, MadeId, Value};
 
 /// A number that a file writes out. One from 2^63 on, which no text that is read has, is answered
 /// as want of memory.
@@ -51,18 +50,5 @@ pub(crate) fn function_of(value: Item<'_>) -> Option<FunctionId>
     match leaf_of(value) {
         Some(Leaf::Function(function)) => Some(function_id(function.get().id)),
         _ => None,
-    }
-}
-
-/// The kind of a fault that evaluation finds.
-pub(crate) fn refusal_kind(refusal: Refusal) -> Kind
-    ensures { result ≡ refusal_kind (refusal_seen refusal) }
-{
-    match refusal {
-        Refusal::Unset => Kind::Unset,
-        Refusal::WrongType => Kind::Wrong,
-        Refusal::Arity => Kind::Arity,
-        Refusal::Recursion => Kind::Recursion,
-        Refusal::Deep => Kind::Deep,
     }
 }

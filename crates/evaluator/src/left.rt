@@ -1,9 +1,8 @@
 //! What walks have left.
-ghost use Rattle.std.specs.Prelude.{◌≡◌, ◌+◌, ◌<◌, ◌^◌, ◌∷◌, [], drop, map, IfOk, MatchOption};
+ghost use Rattle.std.specs.Prelude.{◌≡◌, ◌+◌, ◌<◌, ◌^◌, ◌∷◌, [], drop, IfOk, MatchOption};
 ghost use Rattle.std.specs.Prelude.{Some};
-ghost use Rattle.values.specs.Seeing.{seen, item_value, group_items, table_entries};
+ghost use Rattle.values.specs.Seeing.{seen, item_value, group_items};
 ghost use Rattle.values.specs.Shape.{shape};
-ghost use Rattle.values.specs.Visits.{keys_of};
 ghost use Rattle.values.specs.Walks.{walked_items, walked_values};
 ghost use Rattle.evaluator.specs.Walked.{Gives, left_seen, frozen_seen, held_items_seen};
 ghost use Rattle.evaluator.specs.Walked.{held_keys_seen, table_keys};
@@ -61,10 +60,10 @@ impl<'a> Left<'a> {
     pub(crate) fn lent(walked: &Seen<'a>) -> Left<'a>
         ensures { left_seen result ≡ walked_items (seen walked.now) }
     {
-        match walked {
-            Seen::List(items) => items_from_first(*items),
-            Seen::Tuple(items) => items_from_first(*items),
-            Seen::Dict(entries) => keys_from_first(*entries),
+        match *walked {
+            Seen::List(items) => Left::Items(items.into_iter()),
+            Seen::Tuple(items) => Left::Items(items.into_iter()),
+            Seen::Dict(entries) => Left::Keys(entries.into_iter()),
             _ => Left::Nothing,
         }
     }
@@ -122,20 +121,6 @@ fn held_from_first<'a>(walked: Walked) -> Left<'a>
         Walked::Entries(entries) => Left::HeldKeys(HeldKeysLeft { entries, place: 0 }),
         Walked::Nothing => Left::Nothing,
     }
-}
-
-/// All items.
-fn items_from_first<'a>(items: Group<'a>) -> Left<'a>
-    ensures { left_seen result ≡ group_items items.entry }
-{
-    Left::Items(items.into_iter())
-}
-
-/// All keys.
-fn keys_from_first<'a>(entries: Table<'a>) -> Left<'a>
-    ensures { left_seen result ≡ map Value.Key (keys_of (table_entries entries.entry)) }
-{
-    Left::Keys(entries.into_iter())
 }
 
 /// The item at a place, None from the end on.

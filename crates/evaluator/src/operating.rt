@@ -3,8 +3,6 @@ ghost use Rattle.std.specs.Prelude.{◌≡◌, Ok, Err, Some, None, MatchResult}
 ghost use Rattle.grammar.specs.TreeView.{operator_seen, sign_seen};
 ghost use Rattle.ticks.specs.Ticking.{FaultOr};
 ghost use Rattle.values.specs.Seeing.{item_value};
-ghost use Rattle.operations.specs.Operators.{add_in_place};
-ghost use Rattle.language.specs.Place.{of_state};
 ghost use Rattle.language.specs.Language.{target_of, with_target, binary_of, sign_of};
 ghost use Rattle.frames.specs.Answers.{Says};
 
@@ -12,9 +10,7 @@ use crate::world::World;
 use grammar::{Operator, Sign};
 use language::Whole;
 use language_calls::target_of;
-use operands::Operand;
 use places::{Link, Place};
-use std::alloc::Global;
 use values::{Broken, Item, Key, Value};
 
 /// An operator between two values, but `and` and `or`.
@@ -80,17 +76,4 @@ pub(crate) fn sign<'a, L: Link<'a>, P: Place<'a>>(
         }
         Sign::Minus => state::negate(&whole.state, value),
     }
-}
-
-/// What `x += y` assigns to `x`.
-pub(crate) fn increase<W>(
-    alloc: Global,
-    whole: &mut Whole<W>,
-    old: Operand<'_>,
-    more: Item<'_>,
-) -> Result<Value, Broken>
-    ensures { Says (of_state (add_in_place old.entry (item_value more.entry)) whole.old) result
-        whole.new }
-{
-    state::add_in_place(alloc, &mut whole.state, old, more)
 }

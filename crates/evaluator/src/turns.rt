@@ -1,12 +1,10 @@
-//! Ticks, walks, and sequences that are unpacked.
+//! Walks that begin, and sequences that are unpacked.
 ghost use Rattle.std.specs.Prelude.{◌≡◌, Ok, Err, MatchResult, IfOk};
 ghost use Rattle.ticks.specs.Ticking.{FaultOr};
-ghost use Rattle.values.specs.Seeing.{item_value};
-ghost use Rattle.operations.specs.States.{tick};
 ghost use Rattle.values.specs.Shape.{shape};
-ghost use Rattle.operations.specs.Walks.{begin, ended, parts, walked_items};
+ghost use Rattle.operations.specs.Walks.{begin, parts, walked_items};
 ghost use Rattle.language.specs.Place.{of_state};
-ghost use Rattle.frames.specs.Answers.{Says, SaysAs, Unpacks};
+ghost use Rattle.frames.specs.Answers.{SaysAs, Unpacks};
 ghost use Rattle.evaluator.specs.Walked.{left_seen};
 
 use crate::left::Left;
@@ -16,16 +14,7 @@ use heap::Heap;
 use language::Whole;
 use operands::{Operand, as_value};
 use std::alloc::AllocError;
-use values::{Broken, Item, Kind};
-
-/// One tick.
-#[inline(always)]
-pub(crate) fn tick<W>(whole: &mut Whole<W>) -> Result<(), Broken>
-    ensures { Says (of_state tick whole.old) result whole.new }
-{
-    state::tick(&mut whole.state)?;
-    Ok(())
-}
+use values::{Broken, Kind};
 
 /// A walk over a value begins, and gives the items that it goes over. Those of what is lent stay
 /// where they are.
@@ -55,15 +44,6 @@ fn left_of<'a>(heap: &mut Heap, walked: &Operand<'a>) -> Result<Left<'a>, AllocE
             Left::own(heap, walked.get())
         }
     }
-}
-
-/// A walk has ended.
-pub(crate) fn end<W>(whole: &mut Whole<W>, walked: Item<'_>)
-    ensures { whole.new ≡ record whole.old {
-      state = ended (item_value walked.entry) whole.old.state;
-    } }
-{
-    state::end(&mut whole.state, walked);
 }
 
 /// The items of a sequence that is unpacked go onto a stack, the first one at the top, where they

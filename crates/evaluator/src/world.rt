@@ -11,7 +11,7 @@ use frames::{Callee, Defaults, FunctionId, Operate, Refusal, Stack};
 use grammar::{Operator, Sign};
 use keys::TextKey;
 use language::Whole;
-use operands::Operand;
+use operands::{Operand, as_value};
 use operations::DefaultInfo;
 use places::{Link, Place};
 use plain::Text;
@@ -43,7 +43,13 @@ impl<'a, L: Link<'a>, P: Place<'a>> Operate<'a> for World<'a, L, P> {
 
     #[inline(always)]
     fn refusal(&self, refusal: Refusal) -> Kind {
-        functions::refusal_kind(refusal)
+        match refusal {
+            Refusal::Unset => Kind::Unset,
+            Refusal::WrongType => Kind::Wrong,
+            Refusal::Arity => Kind::Arity,
+            Refusal::Recursion => Kind::Recursion,
+            Refusal::Deep => Kind::Deep,
+        }
     }
 
     #[inline(always)]
@@ -73,7 +79,8 @@ impl<'a, L: Link<'a>, P: Place<'a>> Operate<'a> for World<'a, L, P> {
 
     #[inline(always)]
     fn tick(&self, state: &mut Whole<'a, P::Work>) -> Result<(), Broken> {
-        turns::tick(state)
+        state::tick(&mut state.state)?;
+        Ok(())
     }
 
     #[inline(always)]
@@ -103,7 +110,7 @@ impl<'a, L: Link<'a>, P: Place<'a>> Operate<'a> for World<'a, L, P> {
         old: Operand<'a>,
         more: Item<'_>,
     ) -> Result<Value, Broken> {
-        operating::increase(self.alloc, state, old, more)
+        state::add_in_place(self.alloc, &mut state.state, old, more)
     }
 
     #[inline(always)]
@@ -133,7 +140,8 @@ impl<'a, L: Link<'a>, P: Place<'a>> Operate<'a> for World<'a, L, P> {
         index: Item<'_>,
         value: Operand<'a>,
     ) -> Result<(), Broken> {
-        displays::set_item(state, base, index, value)
+        let base = as_value(base)?;
+        state::set_item(&mut state.state, base.get(), index, value.into_value()?)
     }
 
     fn new_list(
@@ -158,11 +166,12 @@ impl<'a, L: Link<'a>, P: Place<'a>> Operate<'a> for World<'a, L, P> {
         list: Item<'_>,
         item: Operand<'a>,
     ) -> Result<(), Broken> {
-        displays::collect(state, list, item)
+        let list = as_value(list)?;
+        state::collect(&mut state.state, list.get(), item.into_value()?)
     }
 
     fn new_dict(&self, state: &mut Whole<'a, P::Work>) -> Result<Value, Broken> {
-        displays::new_dict(self.alloc, state)
+        state::new_dict(self.alloc, &mut state.state)
     }
 
     fn enter(
@@ -172,7 +181,8 @@ impl<'a, L: Link<'a>, P: Place<'a>> Operate<'a> for World<'a, L, P> {
         key: Item<'_>,
         value: Operand<'a>,
     ) -> Result<(), Broken> {
-        displays::enter(state, dict, key, value)
+        let dict = as_value(dict)?;
+        state::enter(&mut state.state, dict.get(), key, value.into_value()?)
     }
 
     fn keep(
@@ -182,7 +192,8 @@ impl<'a, L: Link<'a>, P: Place<'a>> Operate<'a> for World<'a, L, P> {
         key: Item<'_>,
         value: Operand<'a>,
     ) -> Result<(), Broken> {
-        displays::keep(state, dict, key, value)
+        let dict = as_value(dict)?;
+        state::keep(&mut state.state, dict.get(), key, value.into_value()?)
     }
 
     fn begin(
@@ -199,7 +210,7 @@ impl<'a, L: Link<'a>, P: Place<'a>> Operate<'a> for World<'a, L, P> {
     }
 
     fn end(&self, state: &mut Whole<'a, P::Work>, walked: Item<'_>) {
-        turns::end(state, walked);
+        state::end(&mut state.state, walked);
     }
 
     fn unpack(
