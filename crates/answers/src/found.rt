@@ -73,7 +73,6 @@ where
     S: Shelf + Send,
     F: Shelving<S>,
     G: Gate,
-    requires workers { (0 < team.now.workers) × (team.now.workers < 65) }
     ensures nodes { IfOk result (λ g. g.nodes ≡ length graph.now.labels) }
     ensures outcomes { let w = evaluated targets.now.files targets.now.limit in
         (asked : List LabelParts) → IsGraphOf (dependencies w) asked graph.now
@@ -87,7 +86,7 @@ where
         graph,
     };
     let edges = graph.edges();
-    let Ok(ends) = team.shelving.ends(alloc, team.workers, edges.nodes()) else {
+    let Ok(ends) = team.shelving.ends(alloc, team.workers.get(), edges.nodes()) else {
         return Err(NoReport::NoMemory);
     };
     match run_on(rt, alloc, edges, &analysis, ends, team.gate) {

@@ -26,6 +26,7 @@ use lexer::FaultKind;
 use loader::LoadedFiles;
 use modules::FileFault;
 use packages::Targets;
+use parallel::Workers;
 use pool::{Gate, Gathered, Shelf, StealShelf};
 use reporting::{Node, Report, make_report};
 use std::alloc::{AllocError, Global};
@@ -195,7 +196,6 @@ where
     S: Shelf + Send,
     F: Shelving<S>,
     G: Gate,
-    requires workers { (0 < team.now.workers) × (team.now.workers < 65) }
     ensures report { let w = evaluated targets.files targets.limit in
         (workspace : List Pair) (asked : List LabelParts) → IsWorkspace workspace
         → AreFilesOf workspace targets.files → IsGraphOf (dependencies w) asked graph
@@ -210,7 +210,7 @@ where
         targets,
         graph,
         found,
-        team.workers,
+        team.workers.get(),
         team.leftovers,
     );
     Ok(report?)
@@ -231,11 +231,10 @@ pub fn report_on<R: Threads + Wait + Sync, G: Gate>(
     alloc: Global,
     workspace: &Workspace,
     labels: &[Label],
-    workers: usize,
+    workers: Workers,
     limit: u64,
     gate: &G,
 ) -> Result<Report, NoReport>
-    requires workers { (0 < workers) × (workers < 65) }
     ensures report { IfOk result (Reports workspace.now labels.now limit) }
     ensures many { result ≡ Err NoReport.TooMany
         → IsTooMany workspace.now labels.now limit NODE_LIMIT }
@@ -275,7 +274,6 @@ where
     S: Shelf + Send,
     F: Shelving<S>,
     G: Gate,
-    requires workers { (0 < team.now.workers) × (team.now.workers < 65) }
     ensures report { IfOk result (Reports workspace.now labels.now limit) }
     ensures many { result ≡ Err NoReport.TooMany
         → IsTooMany workspace.now labels.now limit NODE_LIMIT }
@@ -283,7 +281,7 @@ where
 {
     // The paths of a workspace are legal, so none of them is the text of a label.
     let _count = workspace.count();
-    let targets = targets_of(rt, alloc, workspace, limit, team.workers)?;
+    let targets = targets_of(rt, alloc, workspace, limit, team.workers.get())?;
     let graph = match graph_of(alloc, &targets, labels) {
         Ok(graph) => graph,
         Err(refused) => return Err(refused),

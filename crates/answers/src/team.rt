@@ -3,6 +3,7 @@ ghost use Rattle.std.specs.Prelude.{◌≡◌, ◌<◌, IfOk, vec_len};
 ghost use Rattle.pool.specs.Ends.{AreEnds};
 
 use crate::letting_go::Leftovers;
+use parallel::Workers;
 use pool::{LockShelf, NoMemory, Shelf, StealShelf};
 use std::alloc::Global;
 use std::sync::Wait;
@@ -56,8 +57,8 @@ impl<'r, R: Wait> Shelving<LockShelf<'r, R>> for OneQueue<'r, R> {
 /// Workers that analyse labels: one in the thread that calls, the others in threads of their own.
 #[derive(Clone, Copy)]
 pub struct Team<'a, F, G> {
-    /// How many, from 1 to 64.
-    pub workers: usize,
+    /// How many.
+    pub workers: Workers,
     /// What makes their shelf.
     pub shelving: &'a F,
     /// What is called round each label, by the worker that analyses it.

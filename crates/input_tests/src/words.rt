@@ -4,9 +4,9 @@ use std::alloc::{AllocError, Global};
 
 /// The number of workers, the limit of steps and how many labels the words ask for; nothing where they are refused,
 /// and zeros where memory is.
-fn asked_by(alloc: Global, words: &[&str]) -> Option<(u64, u64, usize)> {
+fn asked_by(alloc: Global, words: &[&str]) -> Option<(usize, u64, usize)> {
     match read_words(alloc, words) {
-        Ok(request) => Some((request.workers, request.steps, request.labels.len())),
+        Ok(request) => Some((request.workers.get(), request.steps, request.labels.len())),
         Err(WordsStop::Words) => None,
         Err(WordsStop::NoMemory) => Some((0, 0, 0)),
     }

@@ -22,5 +22,6 @@ pub use edges::{Edges, NodeId};
 pub use gate::{Gate, NoGate};
 pub use gathered::Gathered;
 pub use opening::open_board;
+pub use parallel::Workers;
 pub use running::{Refused, run, run_on};
 pub use shelves::{LockShelf, Shelf, StealShelf};

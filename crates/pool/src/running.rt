@@ -12,6 +12,7 @@ use crate::threads::in_threads;
 use crate::worker::Site;
 use board::{Board, Pass};
 use edges::Edges;
+use parallel::Workers;
 use shelves::{Shelf, StealShelf};
 use std::alloc::Global;
 use std::sync::Wait;
@@ -26,9 +27,8 @@ pub enum Refused {
     NoThread,
 }
 
-/// The outcome of every node of the graph, by so many workers, from 1 to 64, with a deque each. One
-/// of them runs in the thread that calls, whose stack should be as large as those of the others: 2
-/// MiB.
+/// The outcome of every node of the graph, by so many workers with a deque each. One of them runs
+/// in the thread that calls, whose stack should be as large as those of the others: 2 MiB.
 ///
 /// Whenever it answers `Ok`, the outcomes are those along edges: whatever the number of workers,
 /// whichever of them ran which node, and whatever the gate does. Cyclic nodes have theirs without a
@@ -45,7 +45,7 @@ pub fn run<V, A, G, R>(
     alloc: Global,
     graph: &Edges,
     analyse: &A,
-    workers: usize,
+    workers: Workers,
     gate: &G,
 ) -> Result<Gathered<V>, Refused>
 where
@@ -53,7 +53,6 @@ where
     A: Analyse<V>,
     G: Gate,
     R: Threads + Wait + Sync,
-    requires workers { (0 < workers) × (workers < 65) }
     requires nodes { A.nodes analyse.now ≡ length graph.now.deps }
     ensures nodes { IfOk result (λ g. g.nodes ≡ length graph.now.deps) }
     ensures closed { IfOk result (λ g. length g.closed.known ≡ graph.now.acyclic) }
@@ -61,7 +60,7 @@ where
         (HasOutcomes (A.cycle a) (A.step a) (A.fits a) graph.now.deps) }
     ensures threads { result ≡ Err Refused.NoThread → 1 < workers }
 {
-    let workers = useful_workers(workers, graph.acyclic());
+    let workers = useful_workers(workers.get(), graph.acyclic());
     match StealShelf::ends(alloc, workers, graph.nodes()) {
         Ok(ends) => run_on(rt, alloc, graph, analyse, ends, gate),
         Err(_) => Err(Refused::NoMemory),

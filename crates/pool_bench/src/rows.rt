@@ -4,7 +4,7 @@ ghost use Rattle.std.specs.Prelude.{◌≡◌, length, IfSome};
 use crate::work::Busy;
 use edges::{Edges, Numbered};
 use fakes::graphs::layers;
-use pool::{Gathered, LockShelf, NoGate, NodeId, open_board, run, run_on};
+use pool::{Gathered, LockShelf, NoGate, NodeId, Workers, open_board, run, run_on};
 use std::alloc::{AllocError, Global};
 use std::io;
 use std::rt::Clock;
@@ -109,9 +109,7 @@ fn run_by<R: Threads + Wait + Sync>(
     ensures { IfSome result (λ g. g.nodes ≡ length graph.now.deps) }
 {
     let (kind, workers) = by;
-    if workers == 0 || workers > 64 {
-        return None;
-    }
+    let workers = Workers::new(workers as u64)?;
     let busy = Busy {
         nodes: graph.nodes(),
         steps,
@@ -119,7 +117,7 @@ fn run_by<R: Threads + Wait + Sync>(
     match kind {
         Kind::Deques => run(rt, alloc, graph, &busy, workers, &NoGate).ok(),
         Kind::Queue => {
-            let ends = LockShelf::ends(rt, alloc, workers, graph.nodes()).ok()?;
+            let ends = LockShelf::ends(rt, alloc, workers.get(), graph.nodes()).ok()?;
             run_on(rt, alloc, graph, &busy, ends, &NoGate).ok()
         }
     }

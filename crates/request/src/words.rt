@@ -12,6 +12,7 @@ ghost use Rattle.request.specs.CommandLine.{number_within, steps_rule, workers_r
 use clap::builder::ValueParser;
 use clap::error::ErrorKind;
 use clap::{Arg, ArgMatches, Command, value_parser};
+use parallel::Workers;
 use std::alloc::{AllocError, Global};
 use std::convert::AsStr;
 use workspace::{Label, LabelRefused};
@@ -19,8 +20,8 @@ use workspace::{Label, LabelRefused};
 /// What the words ask for.
 #[derive(Drop)]
 pub struct Request {
-    /// The number of workers, from 1 to 64.
-    pub workers: u64,
+    /// The number of workers.
+    pub workers: Workers,
     /// The limit of steps for each evaluation, from 1 to 1,000,000,000; 1,000,000 where none is
     /// given.
     pub steps: u64,
@@ -214,9 +215,12 @@ pub fn read_words<S: AsStr>(alloc: Global, words: &[S]) -> Result<Request, Words
         Ok(taken) => taken,
         Err(stop) => return Err(stop),
     };
+    let Some(workers) = Workers::new(taken.workers) else {
+        unreachable!()
+    };
     match read_labels(alloc, taken.labels.as_slice()) {
         Ok(labels) => Ok(Request {
-            workers: taken.workers,
+            workers,
             steps: taken.steps,
             labels,
         }),

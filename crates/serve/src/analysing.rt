@@ -5,6 +5,7 @@ ghost use Rattle.answers.specs.Reports.{AnswersIn, IsTooMany};
 
 use crate::stops::AnalyseStop;
 use answers::{NODE_LIMIT, NoReport, report_on};
+use parallel::Workers;
 use pool::Gate;
 use std::alloc::Global;
 use std::sync::Wait;
@@ -40,10 +41,10 @@ pub fn analyse<R: Threads + Wait + Sync, G: Gate>(
         → IsTooMany workspace.now labels.now limit NODE_LIMIT }
     ensures threads { result ≡ Err AnalyseStop.NoThread → 1 < workers }
 {
-    if workers < 1 || workers > 64 {
+    let Some(workers) = Workers::new(workers) else {
         return Err(AnalyseStop::Workers);
-    }
-    match report_on(rt, alloc, workspace, labels, workers as usize, limit, gate) {
+    };
+    match report_on(rt, alloc, workspace, labels, workers, limit, gate) {
         Ok(report) => match report.to_bytes(alloc) {
             Ok(bytes) => Ok(bytes),
             Err(_) => Err(AnalyseStop::NoMemory),

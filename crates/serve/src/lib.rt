@@ -12,5 +12,6 @@ mod stops;
 
 pub use analysing::analyse;
 pub use answers::{Leftovers, OneQueue, Team, report_on_shelf};
+pub use parallel::Workers;
 pub use serving::serve;
 pub use stops::{AnalyseStop, ServeStop, closing};

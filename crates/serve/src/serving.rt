@@ -31,7 +31,6 @@ fn report_of<R: Threads + Wait + Sync, G: Gate>(
     gate: &G,
     leftovers: Leftovers,
 ) -> Result<Report, ServeStop>
-    requires workers { (1 ≤ request.now.workers) × (request.now.workers ≤ 64) }
     ensures ok { IfOk result (ReportsInput (asked_by request.now) input.items) }
     ensures input_only { result ≡ Err ServeStop.Input → SpellsNothing input.items }
     ensures many_only { result ≡ Err ServeStop.TooMany
@@ -45,7 +44,7 @@ fn report_of<R: Threads + Wait + Sync, G: Gate>(
         Err(InputRefused::NoMemory) => return Err(ServeStop::NoMemory),
     };
     let team = Team {
-        workers: request.workers as usize,
+        workers: request.workers,
         shelving: &Deques,
         gate,
         leftovers,

@@ -5,7 +5,7 @@ use made_workspaces::random_workspace;
 use pool::{LockShelf, NoGate};
 use reporting::Report;
 use request::read_workspace;
-use serve::{Leftovers, OneQueue, ServeStop, Team, report_on_shelf, serve};
+use serve::{Leftovers, OneQueue, ServeStop, Team, Workers, report_on_shelf, serve};
 use std::alloc::{AllocError, Global};
 use std::sync::Wait;
 use std::thread::Threads;
@@ -70,8 +70,11 @@ fn at_one_queue<R: Threads + Wait + Sync>(
     };
     let mut labels = Vec::new(alloc);
     labels.push(label)?;
+    let Some(workers) = Workers::new(8) else {
+        return Ok(None);
+    };
     let team = Team {
-        workers: 8,
+        workers,
         shelving: &OneQueue { rt },
         gate: &NoGate,
         leftovers: Leftovers::Free,
