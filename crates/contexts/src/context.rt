@@ -157,7 +157,7 @@ fn label_value(label: &Label) -> Result<Value, AllocError>
     Ok(Value::Leaf(Leaf::Label(text)))
 }
 
-/// The place of the attribute of a name, which is found by order.
+/// The place of the attribute of a name.
 pub(crate) fn attribute_place(target: &Target, name: &FieldName) -> Option<usize>
     ensures { result ≡ place_named name.now (names_of target.now.rule.attributes) }
 {

@@ -49,9 +49,10 @@ pub enum ListError {
 impl Depset {
     /// The listing of the depset in its own order.
     ///
-    /// It takes as many steps as there is work: 1, and over the distinct ids the direct elements
-    /// and the links to children. Items and steps are those of the walk; of a coherent depset, in
-    /// which any two parts with one id are the same tree, they are those of the whole tree.
+    /// Items and steps are those of the walk that goes into each id once. Of a coherent depset, in
+    /// which any two parts with one id are the same tree, the items are those of the whole tree,
+    /// and there are as many steps as there is work: 1, and over the distinct ids the direct
+    /// elements and the links to children.
     ///
     /// # Errors
     ///

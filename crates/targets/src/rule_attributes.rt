@@ -37,7 +37,8 @@ impl Model for RuleAttributes {
 }
 
 impl RuleAttributes {
-    /// These attributes. Their names are put in order once, and their defaults made.
+    /// These attributes. Where their names are many they are put in order here, once; and their
+    /// defaults are made.
     ///
     /// # Errors
     ///
