@@ -1,6 +1,5 @@
 -- Attributes that ask nothing of targets refuse none.
-use Rattle.std.proofs.Common.{◌≡◌, ◌∙◌, Bool, true, false, ◌&&◌, ◌||◌, List, [], ◌∷◌, length, Option, Some, None, if◌then◌else◌, ap, sym, refl, true≢false}
-use Rattle.std.specs.Prelude.{nat_eq}
+use Rattle.std.proofs.Common.{◌≡◌, Bool, true, false, ◌||◌, List, [], ◌∷◌, Option, Some, None, if◌then◌else◌, ap, sym, refl, true≢false}
 use Rattle.std.specs.List.{list_any}
 use Rattle.workspace.specs.Labels.{LabelParts}
 use Rattle.targets.specs.Attributes.{labels_in}

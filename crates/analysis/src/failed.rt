@@ -1,7 +1,7 @@
 //! Dependencies that failed.
 ghost use Rattle.std.specs.Prelude.{◌≡◌, ◌++◌, ◌∷◌, [], IfOk, OnOk};
 ghost use Rattle.targets.specs.Steps.{failed_labels};
-ghost use Rattle.analysis.specs.Seen.{dependency_seen, dependencies_seen};
+ghost use Rattle.analysis.specs.Seen.{dependencies_seen};
 
 use crate::dependency::Dependency;
 use plain::Shared;

@@ -1,7 +1,7 @@
 //! The outcome of a target from what its implementation gave.
 ghost use Rattle.std.specs.Prelude.{◌≡◌, ◌++◌, [], Ok, IfOk, OnOk};
 ghost use Rattle.values.specs.Tree.{branch};
-ghost use Rattle.targets.specs.Steps.{Implemented, finished, with_instances, branch_instances};
+ghost use Rattle.targets.specs.Steps.{Implemented, finished, with_instances};
 ghost use Rattle.targets.specs.Steps.{if_instances, first_unmade, made_whole, with_default_info};
 ghost use Rattle.targets.specs.Steps.{missing_default_info};
 ghost use Rattle.targets.specs.Sources.{first_depset};

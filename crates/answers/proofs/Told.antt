@@ -1,6 +1,5 @@
 -- What a report tells is the answer.
 use Rattle.std.proofs.Common.{◌≡◌, ◌∙◌, ◌↔◌, ℕ, List, map, All, Contains, Result, Ok, Err, IfOk, sym, ap, subst}
-use Rattle.std.specs.Prelude.{string_bytes}
 use Rattle.depsets.specs.Listed.{walked}
 use Rattle.lexer.specs.declared.fault.FaultKind.{FaultKind}
 use Rattle.ticks.specs.declared.ticks.Kind.{Kind}

@@ -1,5 +1,5 @@
 //! Why there is no report.
-ghost use Rattle.std.specs.Prelude.{◌≡◌, ◌≢◌, Err};
+ghost use Rattle.std.specs.Prelude.{◌≡◌, ◌≢◌};
 
 use graph::GraphRefused;
 use pool::Refused;

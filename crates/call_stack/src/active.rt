@@ -1,6 +1,6 @@
 //! The functions that are active.
 
-ghost use Rattle.std.specs.Prelude.{◌≡◌, [], ◌∷◌, length, map, IfOk};
+ghost use Rattle.std.specs.Prelude.{◌≡◌, [], ◌∷◌, length, IfOk};
 ghost use Rattle.std.specs.List.{list_any};
 ghost use Rattle.meaning.specs.Entry.{same_function};
 ghost use Rattle.meaning.specs.Machine.{outer};

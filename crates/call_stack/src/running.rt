@@ -2,7 +2,6 @@
 
 ghost use Rattle.std.specs.Prelude.{◌≡◌, ◌<◌, ◌≤◌, ◌^◌, [], ◌∷◌, List, Some, drop, suc, length};
 ghost use Rattle.std.specs.Prelude.{map, option_map, IfOk, IfSome};
-ghost use Rattle.values.specs.declared.value.Value as held;
 ghost use Rattle.meaning.specs.Entry.{called, paired};
 ghost use Rattle.meaning.specs.Instructions as instr;
 ghost use Rattle.meaning.specs.Instructions.{code_at};

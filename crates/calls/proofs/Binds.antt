@@ -5,7 +5,7 @@ use Rattle.values.specs.declared.value.Value.{Value}
 use Rattle.ticks.specs.declared.ticks.Kind.{Kind}
 use Rattle.ticks.specs.declared.ticks.Kind.TheVariants.{Arity}
 use Rattle.operations.specs.Arguments.{Given, Parameter, Bound, given_for, filled, put_first, named_or_missing, all_known, bound}
-use Rattle.calls.specs.Parameters.{placed_or_named, got_at, got_from, may_get, may_get_all}
+use Rattle.calls.specs.Parameters.{placed_or_named, got_from, may_get, may_get_all}
 
 abbrev Fits : Bool → Bound → Result Bound Kind
 Fits b os = if b then Ok os else Err Arity

@@ -1,5 +1,5 @@
 -- Tuples of keys and values, one after the other, and the heap that grows by them.
-use Rattle.std.proofs.Common.{◌≡◌, ℕ, zero, suc, ◌+◌, ◌≤◌, Bool, true, false, if◌then◌else◌, nat_lt, List, [], ◌∷◌, ◌++◌, map, length, take, drop, slice_get, Some, None, Result, Ok, Err, MatchResult, refl, sym, ap, ◌∙◌, subst, append_assoc, arith}
+use Rattle.std.proofs.Common.{◌≡◌, ℕ, zero, suc, ◌+◌, ◌≤◌, Bool, true, false, if◌then◌else◌, nat_lt, List, [], ◌∷◌, ◌++◌, map, length, take, drop, slice_get, Some, Result, Ok, Err, MatchResult, refl, sym, ap, ◌∙◌, subst, append_assoc, arith}
 use Rattle.depsets.proofs.Turns.{drop_at}
 use Rattle.values.specs.Visits.{keys_of}
 use Rattle.ticks.specs.Ticking.{FaultOr}
@@ -14,7 +14,7 @@ use Rattle.ticks.specs.declared.ticks.Kind.TheVariants.{Large}
 use Rattle.ticks.specs.declared.ticks.Broken.{Broken}
 use Rattle.ticks.specs.declared.ticks.Broken.TheVariants as broken
 use Rattle.operations.specs.declared.state.State.{State}
-use Rattle.operations.specs.States.{Op, Doing, Stays, Does, with_heap, then_do}
+use Rattle.operations.specs.States.{Doing, Stays, Does, with_heap, then_do}
 use Rattle.operations.specs.Making.{new_tuple, new_list}
 use Rattle.operations.specs.Methods.{pairs, pairs_behind}
 use Rattle.calls.specs.Pairs.{tuple_behind, tuples_behind, listed_tuples, Grown}

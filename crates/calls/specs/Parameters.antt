@@ -1,7 +1,7 @@
 -- Parameters as the definitions have them, and what each gets where the arguments fit: what stands
 -- at its place, or else what was given under its name. (Starlark's specification, "Function and
 -- method calls".)
-use Rattle.std.specs.Prelude.{◌≡◌, ℕ, ◌+◌, Bool, true, false, not, ◌&&◌, List, [], ◌∷◌, slice_get}
+use Rattle.std.specs.Prelude.{◌≡◌, ℕ, ◌+◌, Bool, true, not, ◌&&◌, List, [], ◌∷◌, slice_get}
 use Rattle.std.specs.Prelude.{Option, Some, None, is_some, Err}
 use Rattle.values.specs.declared.value.Value.{Value}
 use Rattle.operations.specs.Arguments.{Given, Parameter as Taken, Bound, given_for}

@@ -1,12 +1,11 @@
 //! What parameters get of arguments.
 ghost use Rattle.std.specs.Prelude.{◌≡◌, ◌∷◌, [], Ok, Err, Some, None, MatchResult, MatchOption};
-ghost use Rattle.std.specs.Prelude.{option_copied, slice_get};
+ghost use Rattle.std.specs.Prelude.{option_copied};
 ghost use Rattle.ticks.specs.Ticking.{FaultOr};
-ghost use Rattle.operations.specs.States.{then_give};
-ghost use Rattle.operations.specs.Arguments.{given, wanted, optional, named_only, bound, one};
-ghost use Rattle.operations.specs.Arguments.{all_known, given_for, positions, unless_named};
+ghost use Rattle.operations.specs.Arguments.{given, wanted, optional, named_only};
+ghost use Rattle.operations.specs.Arguments.{all_known, given_for, positions};
 ghost use Rattle.operations.specs.BuiltIns.{argument};
-ghost use Rattle.calls.specs.Parameters.{taken, got_at, placed_or_named, IsNotOne};
+ghost use Rattle.calls.specs.Parameters.{taken, got_at, IsNotOne};
 
 use making::given_for;
 use operands::Operand;

@@ -1,12 +1,12 @@
 //! `len`, `str`, `list` and `fail`.
-ghost use Rattle.std.specs.Prelude.{◌≡◌, ◌+◌, pos, Ok, Err, Some, None, MatchResult, IfOk};
-ghost use Rattle.ticks.specs.Ticking.{FaultOr, Says};
+ghost use Rattle.std.specs.Prelude.{◌≡◌, pos, Ok, Err, Some, None};
+ghost use Rattle.ticks.specs.Ticking.{Says};
 ghost use Rattle.values.specs.Seeing.{seen, item_value};
 ghost use Rattle.printing.specs.Repr.{repr_of};
-ghost use Rattle.operations.specs.States.{Does, Stays, Gives};
+ghost use Rattle.operations.specs.States.{Does, Gives};
 ghost use Rattle.operations.specs.Reading.{of_type};
 ghost use Rattle.operations.specs.Making.{number};
-ghost use Rattle.operations.specs.BuiltIns.{len, size_in, key_size, str, list, listed_in, fail};
+ghost use Rattle.operations.specs.BuiltIns.{len, size_in, str, list, listed_in, fail};
 ghost use Rattle.calls.specs.NumberTexts.{number_told};
 
 use crate::dicts::key_items;

@@ -1,12 +1,10 @@
 //! The built-in functions that every place has, and providers where they are called.
-ghost use Rattle.std.specs.Prelude.{◌≡◌, ◌∷◌, [], Ok, Err, Some, None, MatchResult, codes, map};
-ghost use Rattle.std.specs.Prelude.{option_copied};
-ghost use Rattle.ticks.specs.Ticking.{FaultOr};
-ghost use Rattle.operations.specs.States.{Op, Does, Stays};
+ghost use Rattle.std.specs.Prelude.{◌≡◌, Ok, Err, Some, None, codes, map};
+ghost use Rattle.operations.specs.States.{Does};
 ghost use Rattle.operations.specs.Arguments.{given};
 ghost use Rattle.operations.specs.BuiltIns.{argument, with_argument, len, str, list, fail};
 ghost use Rattle.operations.specs.Depsets.{depset, depset_parameters};
-ghost use Rattle.operations.specs.Instances.{new_default_info, default_info_parameters};
+ghost use Rattle.operations.specs.Instances.{new_default_info};
 ghost use Rattle.operations.specs.Calls.{built_in_call, instance_call};
 ghost use Rattle.calls.specs.Answered.{DoesSome};
 ghost use Rattle.calls.specs.Parameters.{taken};

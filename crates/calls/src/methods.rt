@@ -1,10 +1,8 @@
 //! The methods of lists, dicts, strings and depsets.
-ghost use Rattle.std.specs.Prelude.{◌≡◌, ◌∷◌, [], Ok, Err, Some, None, MatchResult, MatchOption};
-ghost use Rattle.std.specs.Prelude.{List, option_copied};
-ghost use Rattle.ticks.specs.Ticking.{FaultOr};
+ghost use Rattle.std.specs.Prelude.{Ok, Err, Some, None};
 ghost use Rattle.values.specs.Shape.{shape};
 ghost use Rattle.values.specs.Seeing.{item_value};
-ghost use Rattle.operations.specs.States.{Does, Stays};
+ghost use Rattle.operations.specs.States.{Does};
 ghost use Rattle.operations.specs.Reading.{string_in, depset_in};
 ghost use Rattle.operations.specs.Making.{entries_in};
 ghost use Rattle.operations.specs.Changes.{append, extend};
@@ -12,7 +10,7 @@ ghost use Rattle.operations.specs.Arguments.{given, positions};
 ghost use Rattle.operations.specs.Methods.{with_one, with_none, keys, values, pairs};
 ghost use Rattle.operations.specs.Depsets.{to_list};
 ghost use Rattle.operations.specs.Strings.{split, join, starts_with, ends_with};
-ghost use Rattle.operations.specs.Calls.{of_text, of_depset, method_of, method_with, method_call};
+ghost use Rattle.operations.specs.Calls.{of_text, of_depset, method_of, method_call};
 
 use crate::arguments::{only, positions};
 use crate::dicts::{get, keys, values};

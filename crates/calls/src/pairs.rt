@@ -4,7 +4,7 @@ ghost use Rattle.std.specs.Prelude.{OnOk, length, slice_get};
 ghost use Rattle.ticks.specs.Ticking.{FaultOr};
 ghost use Rattle.values.specs.Shape.{shape};
 ghost use Rattle.values.specs.Seeing.{item_value};
-ghost use Rattle.operations.specs.States.{Does, Stays, then_do};
+ghost use Rattle.operations.specs.States.{Does};
 ghost use Rattle.operations.specs.Making.{new_list, new_tuple, entries_in};
 ghost use Rattle.operations.specs.Methods.{pairs};
 ghost use Rattle.calls.specs.Pairs.{tuples_behind, tuple_behind, listed_tuples, Grown};

@@ -1,9 +1,8 @@
 //! `range`.
-ghost use Rattle.std.specs.Prelude.{◌≡◌, ◌++◌, ◌∷◌, [], Ok, Err, Some, None, MatchResult, IfOk};
+ghost use Rattle.std.specs.Prelude.{◌≡◌, ◌++◌, ◌∷◌, [], Ok, Err, Some, None, IfOk};
 ghost use Rattle.std.specs.Prelude.{OnOk, map};
 ghost use Rattle.numbers.specs.Ranges.{range_of};
-ghost use Rattle.ticks.specs.Ticking.{FaultOr};
-ghost use Rattle.operations.specs.States.{Does, Stays, Gives, then_give};
+ghost use Rattle.operations.specs.States.{Does, Gives, then_give};
 ghost use Rattle.operations.specs.Making.{number};
 ghost use Rattle.operations.specs.Arguments.{given, positions};
 ghost use Rattle.operations.specs.BuiltIns.{range, range_in, range_between, numbers};

@@ -2,7 +2,6 @@
 ghost use Rattle.std.specs.Prelude.{◌≡◌, Some, None, List, option_copied};
 ghost use Rattle.values.specs.Shape.{shape, value_of};
 ghost use Rattle.values.specs.Seeing.{item_value};
-ghost use Rattle.values.specs.View.{tree_of};
 ghost use Rattle.values.specs.declared.cells.Cell.{Cell as Kept};
 ghost use Rattle.operations.specs.Reading.{string_in, depset_in};
 

@@ -1,5 +1,5 @@
 //! Actions by the first that is equal to them.
-ghost use Rattle.std.specs.Prelude.{◌≡◌, IfOk, OnOk, map, slice_index_or};
+ghost use Rattle.std.specs.Prelude.{◌≡◌, IfOk, OnOk, map};
 ghost use Rattle.claims.specs.Buckets.{no_members, put_all, put_at};
 
 use crate::clashes::leader_at;

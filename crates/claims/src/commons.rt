@@ -1,7 +1,6 @@
 //! The paths that at least two actions declare.
 ghost use Rattle.std.specs.Prelude.{◌≡◌, ◌++◌, ◌∷◌, [], IfOk, OnOk, List};
-ghost use Rattle.claims.specs.Claims.{in_order};
-ghost use Rattle.claims.specs.Commons.{common_of, commons_of, gathered, member_of};
+ghost use Rattle.claims.specs.Commons.{common_of, commons_of, gathered};
 ghost use Rattle.claims.specs.declared.claiming.Claim.{Claim as Claimed};
 
 use crate::claiming::{Claim, all_claims, sort_claims};

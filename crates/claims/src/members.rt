@@ -1,5 +1,5 @@
 //! Actions by the labels of their owners and by their places in a list.
-ghost use Rattle.std.specs.Prelude.{◌≡◌, ◌++◌, ◌∷◌, [], IfOk, OnOk, OnErr, length, map};
+ghost use Rattle.std.specs.Prelude.{◌≡◌, ◌++◌, ◌∷◌, [], IfOk, OnOk, length, map};
 ghost use Rattle.claims.specs.Members.{label_of, place_of};
 ghost use Rattle.claims.specs.Sets.{IsSorting};
 

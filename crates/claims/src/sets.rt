@@ -1,5 +1,5 @@
 //! Sets of equal actions, no two of which have one owner.
-ghost use Rattle.std.specs.Prelude.{◌≡◌, ◌++◌, ◌<◌, [], None, IfOk, OnOk, length, option_copied};
+ghost use Rattle.std.specs.Prelude.{◌≡◌, ◌<◌, None, IfOk, OnOk, option_copied};
 ghost use Rattle.std.specs.List.{AllZip};
 ghost use Rattle.claims.specs.Sets.{AddsSetOf, AreSetsOf, IsSetOf, is_twin, set_from};
 ghost use Rattle.claims.specs.Sets.{some_twin};

@@ -1,14 +1,11 @@
 //! Fields of targets, of `ctx` and of its parts.
-ghost use Rattle.std.specs.Prelude.{◌≡◌, Ok, Err, Some, None, MatchResult, IfOk, option_map};
+ghost use Rattle.std.specs.Prelude.{◌≡◌, Ok, Err, Some, None, IfOk};
 ghost use Rattle.std.specs.Prelude.{slice_get};
-ghost use Rattle.ticks.specs.Ticking.{FaultOr};
 ghost use Rattle.operations.specs.Items.{or_fault};
 ghost use Rattle.operations.specs.States.{Gives};
-ghost use Rattle.analysis.specs.Seen.{dependency_seen};
-ghost use Rattle.contexts.specs.Fields.{field, object_field, attr_field, files_field};
-ghost use Rattle.contexts.specs.Fields.{files_or_name, labels_for, context_field, object_value};
-ghost use Rattle.contexts.specs.Fields.{target_field, dependency_field, depset_value, label_value};
-ghost use Rattle.contexts.specs.Offered.{files_of};
+ghost use Rattle.contexts.specs.Fields.{field, attr_field, files_field};
+ghost use Rattle.contexts.specs.Fields.{context_field, object_value};
+ghost use Rattle.contexts.specs.Fields.{target_field};
 
 use crate::context::{TargetContext, attribute_place};
 use crate::dependencies::Dependencies;

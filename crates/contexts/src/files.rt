@@ -1,9 +1,8 @@
 //! `files` of a target.
-ghost use Rattle.std.specs.Prelude.{◌≡◌, ◌∷◌, [], Some, None, option_map, option_copied, codes};
-ghost use Rattle.values.specs.Seeing.{item_value, option_value};
+ghost use Rattle.std.specs.Prelude.{◌≡◌, Some, None, option_map, option_copied, codes};
+ghost use Rattle.values.specs.Seeing.{item_value};
 ghost use Rattle.values.specs.Shape.{value_of};
 ghost use Rattle.values.specs.View.{tree_of};
-ghost use Rattle.operations.specs.Fields.{field_in};
 ghost use Rattle.operations.specs.Instances.{default_info};
 ghost use Rattle.operations.specs.Reading.{leaf_depset};
 ghost use Rattle.contexts.specs.Fields.{depset_value};

@@ -1,12 +1,12 @@
 //! `ctx.files`: the listings of the targets of labels.
 ghost use Rattle.std.specs.Prelude.{◌≡◌, ◌++◌, ◌∷◌, [], ◌<◌, Ok, Err, Some, None, MatchResult};
-ghost use Rattle.std.specs.Prelude.{IfOk, OnOk, map, length, slice_get};
+ghost use Rattle.std.specs.Prelude.{IfOk, OnOk, map, slice_get};
 ghost use Rattle.depsets.specs.Listed.{walked};
 ghost use Rattle.values.specs.Seeing.{item_value};
 ghost use Rattle.ticks.specs.Ticking.{FaultOr};
 ghost use Rattle.operations.specs.States.{Gives};
 ghost use Rattle.contexts.specs.Fields.{attribute_labels, files_listed, files_or_name, frozen_list};
-ghost use Rattle.contexts.specs.Fields.{listing, listed_files, element_tree, place_of};
+ghost use Rattle.contexts.specs.Fields.{listing, listed_files, element_tree};
 ghost use Rattle.contexts.specs.Fields.{unless_large};
 ghost use Rattle.contexts.specs.Offered.{value_depset};
 

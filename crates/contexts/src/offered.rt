@@ -1,12 +1,10 @@
 //! The instances of providers that targets offer.
-ghost use Rattle.std.specs.Prelude.{◌≡◌, Ok, Err, Some, None, MatchResult, option_map};
+ghost use Rattle.std.specs.Prelude.{◌≡◌, Ok, Err, Some, None, option_map};
 ghost use Rattle.std.specs.Prelude.{option_copied};
 ghost use Rattle.values.specs.Seeing.{seen, item_value};
-ghost use Rattle.values.specs.Shape.{shape, value_of};
-ghost use Rattle.ticks.specs.Ticking.{FaultOr};
+ghost use Rattle.values.specs.Shape.{value_of};
 ghost use Rattle.operations.specs.States.{Gives};
-ghost use Rattle.targets.specs.Checks.{offers as has_instance};
-ghost use Rattle.contexts.specs.Offered.{instances_at, instance_of, instance_at, provider_in, item};
+ghost use Rattle.contexts.specs.Offered.{instance_of, provider_in, item};
 ghost use Rattle.contexts.specs.Offered.{offers};
 
 use crate::dependencies::Dependencies;

@@ -1,5 +1,5 @@
 //! The calls of `attr.string` and its kin.
-ghost use Rattle.std.specs.Prelude.{◌≡◌, Ok, Err, Some, MatchResult, IfOk, codes, option_copied};
+ghost use Rattle.std.specs.Prelude.{◌≡◌, Ok, Err, Some, MatchResult, IfOk, option_copied};
 ghost use Rattle.std.specs.Prelude.{map};
 ghost use Rattle.ticks.specs.Ticking.{Changes, FaultOr};
 ghost use Rattle.operations.specs.Arguments.{given, bound};

@@ -1,10 +1,9 @@
 //! The attributes of a rule.
 ghost use Rattle.std.specs.Prelude.{◌≡◌, IfOk, option_copied, option_and_then};
-ghost use Rattle.std.specs.List.{list_all};
 ghost use Rattle.values.specs.Seeing.{seen, table_entries, item_value};
 ghost use Rattle.targets.specs.Attributes.{is_attribute, are_attributes};
 ghost use Rattle.targets.specs.RuleCalls.{each_of};
-ghost use Rattle.declaring.specs.RuleMaking.{reference_in, declaration, declaration_in};
+ghost use Rattle.declaring.specs.RuleMaking.{declaration, declaration_in};
 ghost use Rattle.declaring.specs.RuleMaking.{attribute_entry};
 ghost use Rattle.declaring.specs.RuleMaking.{attributes_shown, attributes_in, if_attributes};
 

@@ -1,8 +1,8 @@
 //! The call of `provider`.
-ghost use Rattle.std.specs.Prelude.{◌≡◌, true, Ok, Err, Some, IfOk, MatchResult, map};
+ghost use Rattle.std.specs.Prelude.{◌≡◌, true, Ok, Err, Some, IfOk, map};
 ghost use Rattle.std.specs.Prelude.{option_copied};
 ghost use Rattle.values.specs.Shape.{shape};
-ghost use Rattle.ticks.specs.Ticking.{Changes, FaultOr};
+ghost use Rattle.ticks.specs.Ticking.{Changes};
 ghost use Rattle.operations.specs.Arguments.{given};
 ghost use Rattle.calls.specs.Parameters.{taken};
 ghost use Rattle.declaring.specs.NewNames.{may_be_doc};

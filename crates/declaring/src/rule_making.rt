@@ -1,8 +1,8 @@
 //! The call of `rule`.
-ghost use Rattle.std.specs.Prelude.{◌≡◌, Ok, Err, IfOk, MatchResult, map, option_copied};
+ghost use Rattle.std.specs.Prelude.{◌≡◌, Ok, Err, IfOk, map, option_copied};
 ghost use Rattle.values.specs.Seeing.{seen};
 ghost use Rattle.values.specs.Shape.{shape};
-ghost use Rattle.ticks.specs.Ticking.{Changes, FaultOr};
+ghost use Rattle.ticks.specs.Ticking.{Changes};
 ghost use Rattle.operations.specs.Arguments.{given};
 ghost use Rattle.calls.specs.Parameters.{taken};
 ghost use Rattle.declaring.specs.NewNames.{may_be_doc};

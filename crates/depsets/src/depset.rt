@@ -4,7 +4,7 @@
 //! costs a count, and a depset over others costs its direct elements and its children. What the
 //! tests of a new depset ask of the whole tree below is kept in each node: its levels, and the type
 //! of the elements.
-ghost use Rattle.std.specs.Prelude.{◌≡◌, ◌<◌, ◌≤◌, ◌+◌, ◌↔◌, ◌⊎◌, Bool, true, false, None, Some};
+ghost use Rattle.std.specs.Prelude.{◌≡◌, ◌<◌, ◌≤◌, ◌+◌, ◌↔◌, ◌⊎◌, true, false, None, Some};
 ghost use Rattle.std.specs.Prelude.{[], IfOk, IsTrue, MatchResult};
 ghost use Rattle.depsets.specs.Rose.{children, label, node, roses, depth, depths};
 ghost use Rattle.depsets.specs.Orders.{fits, all_fit};

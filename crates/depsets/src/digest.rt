@@ -2,7 +2,7 @@
 //!
 //! A listing looks up each id and each element that it meets. Their texts are gone through once,
 //! when a depset is made, and not at each listing that comes by.
-ghost use Rattle.std.specs.Prelude.{◌≡◌, ◌++◌, fold};
+ghost use Rattle.std.specs.Prelude.{◌≡◌, fold};
 ghost use Rattle.std.specs.Hash as fed;
 ghost use Rattle.std.specs.Hash.FoldHasher as folding;
 ghost use Rattle.depsets.specs.Digests.{id_digest, element_digest, file_writes};

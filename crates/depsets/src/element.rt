@@ -1,6 +1,6 @@
 //! What a depset may hold: strings, whole numbers, bools, labels and Files, all plain data.
 ghost use Rattle.std.specs.Prelude.{◌≡◌, IfOk};
-ghost use Rattle.depsets.specs.Elements.{type_of, same_element};
+ghost use Rattle.depsets.specs.Elements.{type_of};
 
 use keys::TextKey;
 use plain::{Shared, Text};

@@ -6,9 +6,9 @@
 //! entered: then the ids that are marked and the items that were taken are both 'the first
 //! occurrences so far', and skipping adds nothing to either. Every link and element is read through
 //! a `Cursor`, which counts each read.
-ghost use Rattle.std.specs.Prelude.{◌≡◌, ◌+◌, ◌<◌, ◌≤◌, ℕ, List, IfOk, OnOk, IfSome, length};
+ghost use Rattle.std.specs.Prelude.{◌≡◌, ◌+◌, ◌<◌, ◌≤◌, IfOk, OnOk, IfSome, length};
 ghost use Rattle.std.specs.Prelude.{slice_get, Some, Err, false};
-ghost use Rattle.depsets.specs.Rose.{children, label, node, roses};
+ghost use Rattle.depsets.specs.Rose.{children, label};
 ghost use Rattle.depsets.specs.Walker.{walk_of};
 ghost use Rattle.depsets.specs.Keys.{has, keep};
 ghost use Rattle.depsets.specs.Elements.{same_element};

@@ -11,7 +11,7 @@
 //! deep; of an operator, a field, an index or a call the parts are read first, so that a tree of
 //! one level more is made and let go.
 
-ghost use Rattle.std.specs.Prelude.{◌≡◌, ◌≤◌, ◌<◌, Some};
+ghost use Rattle.std.specs.Prelude.{◌≤◌, ◌<◌, Some};
 ghost use Rattle.grammar.specs.Ahead.{Negates, Reads, behind_if, bracket_at};
 ghost use Rattle.grammar.specs.Front.{behind_close, behind_comma};
 ghost use Rattle.grammar.specs.Reading.{then_read};

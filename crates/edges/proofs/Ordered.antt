@@ -1,9 +1,8 @@
 -- In a graph that stands in order: what is the step at each node that is not cyclic, wherever that fits, is the outcome.
-use Rattle.std.proofs.Common.{◌≡◌, ℕ, zero, suc, ◌<◌, true, List, length, map, Contains, sym, ap, ◌∙◌, subst, arith}
+use Rattle.std.proofs.Common.{◌≡◌, ℕ, zero, suc, ◌<◌, true, List, length, map, sym, ap, ◌∙◌, subst, arith}
 use Rattle.std.specs.Prelude.{nat_eq}
 use Rattle.std.specs.List.{range_with_len}
 use Rattle.std.specs.Cmp.{unsigned_Decides}
-use Rattle.edges.specs.Walks.{Cyclic}
 use Rattle.edges.specs.Rows.{row, has}
 use Rattle.edges.specs.Outcomes.{AreOutcomes, AllFit, outcome_of}
 use Rattle.edges.proofs.Tests.{map_same}

@@ -1,7 +1,7 @@
 //! A graph whose nodes are numbered in an order that respects dependencies.
-ghost use Rattle.std.specs.Prelude.{◌≡◌, ◌↔◌, ◌<◌, length, take, IfOk, IsTrue};
+ghost use Rattle.std.specs.Prelude.{◌≡◌, ◌↔◌, ◌<◌, length, IfOk, IsTrue};
 ghost use Rattle.edges.specs.Walks.{Cyclic};
-ghost use Rattle.edges.specs.Rows.{row, lists, users_of, ready_of};
+ghost use Rattle.edges.specs.Rows.{row, users_of, ready_of};
 ghost use Rattle.edges.specs.Rows.{IsGraph, IsOrdered, IsRenumbered};
 
 use crate::adjacency::Adjacency;

@@ -1,8 +1,7 @@
 //! Whether rows are those of a graph.
-ghost use Rattle.std.specs.Prelude.{◌≡◌, ◌↔◌, ◌+◌, ◌<◌, ◌≤◌, ℕ, true, length, nat_eq, IfOk, IsTrue};
+ghost use Rattle.std.specs.Prelude.{◌≡◌, ◌↔◌, ◌+◌, ◌<◌, ◌≤◌, ℕ, true, length, IfOk, IsTrue};
 ghost use Rattle.std.specs.Prelude.{slice_index};
-ghost use Rattle.std.specs.List.{IsDistinct};
-ghost use Rattle.edges.specs.Rows.{has, IsGraph, IsRow};
+ghost use Rattle.edges.specs.Rows.{IsGraph, IsRow};
 
 use crate::adjacency::Adjacency;
 use crate::node::NodeId;

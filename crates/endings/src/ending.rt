@@ -1,6 +1,6 @@
 //! The end of a module's evaluation.
 ghost use Rattle.std.specs.Prelude.{◌≡◌, Ok, Err, IfOk, MatchOption};
-ghost use Rattle.evaluation.specs.Runs.{if_named, module_ended, module_of_frozen, naming_of};
+ghost use Rattle.evaluation.specs.Runs.{if_named, module_ended, naming_of};
 
 use crate::handing::{named_defaults, named_globals};
 use crate::naming::Naming;

@@ -1,6 +1,6 @@
 -- Worked modules, by computation.
 use Rattle.std.specs.Prelude.{◌≡◌, ℕ, pos, List, [], ◌∷◌, codes, Some, None, Result, Ok, Err, refl}
-use Rattle.program_tree.specs.Resolved.{Program, program, numeral, give_back, define, evaluate, step, no_steps}
+use Rattle.program_tree.specs.Resolved.{Program, program, numeral, give_back, define}
 use Rattle.meaning.specs.Names.{builtin}
 use Rattle.program_tree.specs.declared.names.Predeclared.TheVariants as predeclared
 use Rattle.program_tree.specs.Resolved as resolved
@@ -9,7 +9,7 @@ use Rattle.meaning.specs.Entry.{entry}
 use Rattle.meaning.specs.Expressions.{eval}
 use Rattle.meaning.specs.Statements.{exec}
 use Rattle.meaning.specs.Calls.{invoke}
-use Rattle.values.specs.Tree.{Trees, key, leaf, branch, none, more}
+use Rattle.values.specs.Tree.{key, leaf, branch, none, more}
 use Rattle.values.specs.Tree as tree
 use Rattle.values.specs.Shape.{value_of}
 use Rattle.values.specs.View.{FrozenTree}

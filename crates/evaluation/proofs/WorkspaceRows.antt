@@ -10,7 +10,7 @@ use Rattle.meaning.specs.Statements.{exec}
 use Rattle.meaning.specs.Calls.{invoke}
 use Rattle.meaning.specs.Functions.{Files}
 use Rattle.workspace.specs.Paths.{are_segments}
-use Rattle.values.specs.Tree.{key, leaf, branch, none, more}
+use Rattle.values.specs.Tree.{branch, none}
 use Rattle.values.specs.Tree as tree
 use Rattle.values.specs.declared.value.Value.TheVariants as value
 use Rattle.ticks.specs.declared.ticks.Kind.{Kind}

@@ -1,5 +1,5 @@
 //! What a module comes to.
-ghost use Rattle.std.specs.Prelude.{◌≡◌, bytes_eq, option_and_then, slice_get, option_copied};
+ghost use Rattle.std.specs.Prelude.{◌≡◌, bytes_eq, slice_get};
 ghost use Rattle.std.specs.List.{list_any};
 ghost use Rattle.values.specs.Seeing.{option_value};
 ghost use Rattle.operations.specs.Names.{listed};

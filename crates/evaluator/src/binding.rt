@@ -1,7 +1,5 @@
 //! Names of top levels, what loads ask for, and what a `def` makes.
-ghost use Rattle.std.specs.Prelude.{◌≡◌, Ok, Err, Some, None, MatchResult, IfOk, option_copied};
-ghost use Rattle.std.specs.Prelude.{nat_eq};
-ghost use Rattle.ticks.specs.Ticking.{FaultOr};
+ghost use Rattle.std.specs.Prelude.{◌≡◌, Ok, Err, Some, None, IfOk, option_copied};
 ghost use Rattle.values.specs.Seeing.{option_value};
 ghost use Rattle.operations.specs.States.{Gives};
 ghost use Rattle.operations.specs.Items.{or_fault};

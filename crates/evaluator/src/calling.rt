@@ -1,6 +1,5 @@
 //! Calls of what isn't written in Starlark.
-ghost use Rattle.std.specs.Prelude.{◌≡◌, Ok, Err, Some, None, MatchResult};
-ghost use Rattle.ticks.specs.Ticking.{FaultOr};
+ghost use Rattle.std.specs.Prelude.{◌≡◌, Err, Some, None};
 ghost use Rattle.values.specs.Seeing.{item_value};
 ghost use Rattle.leaves.specs.declared.leaf.Leaf.{Leaf as Plain};
 ghost use Rattle.operations.specs.Arguments.{given};

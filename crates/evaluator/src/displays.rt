@@ -1,6 +1,5 @@
 //! New lists and tuples.
-ghost use Rattle.std.specs.Prelude.{◌≡◌, Ok, Err, MatchResult};
-ghost use Rattle.ticks.specs.Ticking.{FaultOr};
+ghost use Rattle.std.specs.Prelude.{Err};
 ghost use Rattle.operations.specs.Making.{new_list, new_tuple};
 ghost use Rattle.language.specs.Place.{of_state};
 ghost use Rattle.frames.specs.Answers.{Says};

@@ -1,6 +1,5 @@
 //! What is called where a name of a value is called.
-ghost use Rattle.std.specs.Prelude.{◌≡◌, Ok, Err, Some, None, MatchResult};
-ghost use Rattle.ticks.specs.Ticking.{FaultOr};
+ghost use Rattle.std.specs.Prelude.{Ok, Err, Some, None};
 ghost use Rattle.language.specs.Language.{of_place, find_of};
 ghost use Rattle.frames.specs.Answers.{SaysAs, callee_seen};
 ghost use Rattle.evaluator.specs.Callees.{callee_found};

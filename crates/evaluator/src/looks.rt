@@ -1,6 +1,5 @@
 //! Fields and items.
-ghost use Rattle.std.specs.Prelude.{◌≡◌, Ok, Err, Some, None, MatchResult};
-ghost use Rattle.ticks.specs.Ticking.{FaultOr};
+ghost use Rattle.std.specs.Prelude.{Some, None};
 ghost use Rattle.values.specs.Seeing.{item_value};
 ghost use Rattle.language.specs.Language.{of_place, target_of, field_of, item_of};
 ghost use Rattle.frames.specs.Answers.{Says};

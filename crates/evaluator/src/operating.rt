@@ -1,9 +1,8 @@
 //! Operators.
-ghost use Rattle.std.specs.Prelude.{◌≡◌, Ok, Err, Some, None, MatchResult};
+ghost use Rattle.std.specs.Prelude.{Ok, Err, Some, None};
 ghost use Rattle.grammar.specs.TreeView.{operator_seen, sign_seen};
-ghost use Rattle.ticks.specs.Ticking.{FaultOr};
 ghost use Rattle.values.specs.Seeing.{item_value};
-ghost use Rattle.language.specs.Language.{target_of, with_target, binary_of, sign_of};
+ghost use Rattle.language.specs.Language.{target_of, with_target, sign_of};
 ghost use Rattle.frames.specs.Answers.{Says};
 
 use crate::world::World;

@@ -1,6 +1,5 @@
 //! Walks that begin, and sequences that are unpacked.
-ghost use Rattle.std.specs.Prelude.{◌≡◌, Ok, Err, MatchResult, IfOk};
-ghost use Rattle.ticks.specs.Ticking.{FaultOr};
+ghost use Rattle.std.specs.Prelude.{◌≡◌, Ok, Err, IfOk};
 ghost use Rattle.values.specs.Shape.{shape};
 ghost use Rattle.operations.specs.Walks.{begin, parts, walked_items};
 ghost use Rattle.language.specs.Place.{of_state};

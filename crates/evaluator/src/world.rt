@@ -1,6 +1,4 @@
 //! The world that the machine runs in.
-ghost use Rattle.std.specs.Prelude.{◌≡◌, List, [], ◌∷◌, IfOk, MatchOption, MatchResult};
-ghost use Rattle.values.specs.declared.value.Value as held;
 ghost use Rattle.language.specs.Language.{language};
 ghost use Rattle.evaluator.specs.Walked.{left_seen};
 

@@ -1,6 +1,5 @@
 //! What a `BUILD` file has while it runs.
-ghost use Rattle.std.specs.Prelude.{◌≡◌, Ok, Err, Some, None, Option, MatchResult, option_copied};
-ghost use Rattle.ticks.specs.Ticking.{FaultOr};
+ghost use Rattle.std.specs.Prelude.{◌≡◌, Ok, Err, Some, None, Option, option_copied};
 ghost use Rattle.leaves.specs.declared.leaf.MadeId.{MadeId as Id};
 ghost use Rattle.operations.specs.Arguments.{Given, given};
 ghost use Rattle.language.specs.declared.whole.Whole.{Whole as Held};

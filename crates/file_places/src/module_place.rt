@@ -1,6 +1,5 @@
 //! What a module has while its top level runs.
-ghost use Rattle.std.specs.Prelude.{◌≡◌, Ok, Err, Some, None, MatchResult};
-ghost use Rattle.ticks.specs.Ticking.{FaultOr};
+ghost use Rattle.std.specs.Prelude.{Err, Some, None};
 ghost use Rattle.operations.specs.Arguments.{given};
 ghost use Rattle.places.specs.Answers.{Says};
 ghost use Rattle.file_places.specs.ModulePlace.{declared, attribute_call, built_in_call};

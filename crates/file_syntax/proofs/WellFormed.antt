@@ -7,7 +7,7 @@ use Rattle.lexer.specs.declared.file_kind.FileKind.TheVariants.{Module, Build}
 use Rattle.lexer.specs.declared.layout.Bracket.TheVariants.{Round, Square, Curly}
 use Rattle.lexer.specs.Begins.{greatest_number}
 use Rattle.grammar.specs.Tree as expr
-use Rattle.grammar.specs.Tree.{Expr, Members, Member, Clauses}
+use Rattle.grammar.specs.Tree.{Expr, Members, Clauses}
 use Rattle.grammar.specs.Levels.{items, entries, arguments, starts_with_for, IsTree, AreMembers, AreClauses}
 use Rattle.grammar.specs.Statements as written
 use Rattle.grammar.specs.Statements.{Listed, AreListed, IsSimple, IsBody, AreParams, IsForm, Commas}

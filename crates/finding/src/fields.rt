@@ -1,9 +1,8 @@
 //! Fields.
-ghost use Rattle.std.specs.Prelude.{◌≡◌, Ok, Err, Some, None, MatchResult, IfOk};
-ghost use Rattle.ticks.specs.Ticking.{FaultOr};
+ghost use Rattle.std.specs.Prelude.{◌≡◌, Ok, Err, Some, None, IfOk};
 ghost use Rattle.values.specs.Seeing.{seen, slot_values};
 ghost use Rattle.values.specs.Shape.{shape};
-ghost use Rattle.operations.specs.States.{Does, Stays, Gives};
+ghost use Rattle.operations.specs.States.{Does, Gives};
 ghost use Rattle.operations.specs.Fields.{field, field_in, shape_field, leaf_field, label_field};
 ghost use Rattle.operations.specs.Fields.{file_field};
 

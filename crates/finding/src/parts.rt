@@ -1,6 +1,5 @@
 //! Parts of labels and of paths.
-ghost use Rattle.std.specs.Prelude.{◌≡◌, [], drop, Ok, Err, MatchResult, IfOk};
-ghost use Rattle.ticks.specs.Ticking.{FaultOr};
+ghost use Rattle.std.specs.Prelude.{◌≡◌, [], drop, Ok, Err, IfOk};
 ghost use Rattle.operations.specs.States.{Gives};
 ghost use Rattle.operations.specs.Fields.{before_colon, after_colon, last_part};
 

@@ -1,6 +1,6 @@
 //! What a file writes out, and what each file finds bound, onto a frame's stack.
 
-ghost use Rattle.std.specs.Prelude.{◌≡◌, ◌<◌, ◌^◌};
+ghost use Rattle.std.specs.Prelude.{◌<◌, ◌^◌};
 ghost use Rattle.meaning.specs.Instructions as instr;
 ghost use Rattle.frames.specs.Seen.{Performs};
 

@@ -13,7 +13,6 @@ use Rattle.grammar.specs.Statements.{Commas, none_more, last_one, and_more, same
 use Rattle.grammar.specs.BareLines.{optional, Item, without_commas, bare_param, bare_item}
 use Rattle.grammar.specs.Front.{next, name_at, behind_close, behind_comma}
 use Rattle.grammar.specs.Ahead as ahead
-use Rattle.grammar.specs.Ahead.{named_at}
 use Rattle.grammar.specs.Reading as R
 use Rattle.grammar.specs.Reading.{Parse, then_read}
 use Rattle.grammar.specs.FormReading as F

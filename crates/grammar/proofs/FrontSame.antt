@@ -1,14 +1,12 @@
 -- What the reading with a limit takes from the front of tokens is what the reading without one takes.
 use Rattle.std.proofs.Common.{◌≡◌, ℕ, List, ◌∷◌, Option, Some, None, refl}
-use Rattle.std.specs.Prelude.{◌==◌}
 use Rattle.lexer.specs.declared.token.Word.TheVariants.{And, If, In, Not, Or}
 use Rattle.lexer.specs.declared.token.Mark.TheVariants.{OpenParen, OpenBracket, Dot, Assign, Equal, NotEqual, Less, Greater, LessEqual, GreaterEqual, Plus, Minus, Star, FloorDivide, Percent}
 use Rattle.grammar.specs.declared.ahead.Suffix.{Suffix}
 use Rattle.grammar.specs.declared.ahead.Suffix.TheVariants as suffix
 use Rattle.lexer.specs.Tokens.{Token, name, word, mark}
-use Rattle.grammar.specs.Tree.{Operator, Sign, negation, opposite}
-use Rattle.grammar.specs.Levels.{operator_level}
-use Rattle.grammar.specs.Front.{Next, operator, dot_next, index_next, call_next, if_next, next, sign_at, keyword_step, keyword_at}
+use Rattle.grammar.specs.Tree.{Sign, negation, opposite}
+use Rattle.grammar.specs.Front.{Next, dot_next, index_next, call_next, if_next, next, sign_at, keyword_step, keyword_at}
 use Rattle.grammar.specs.Ahead.{behind_not, behind_minus, behind_if, suffix_at, named_at}
 use Rattle.grammar.specs.Descent.{}
 

@@ -8,7 +8,7 @@ use Rattle.grammar.specs.Tree.{Expr, identifier, integer, text, display, compreh
 use Rattle.grammar.specs.Bare.{bare}
 use Rattle.grammar.specs.Depth.{depth, listed_depth, simple_depth, body_depth}
 use Rattle.grammar.specs.Statements as W
-use Rattle.grammar.specs.Statements.{Listed, Simple, Body}
+use Rattle.grammar.specs.Statements.{Listed, Simple}
 use Rattle.grammar.specs.BareLines.{Form, passes, breaks, continues, returns, listed_tree, bare_simple}
 use Rattle.grammar.specs.Built.{body_made, statement}
 use Rattle.grammar.specs.Front.{behind_colon}

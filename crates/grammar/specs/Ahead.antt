@@ -37,7 +37,7 @@ abbrev pub PassesToken : Token → Bool → List Token → List Token → Type 0
 PassesToken t true old new = old ≡ t ∷ new
 PassesToken t false old new = ((ts : List Token) → old ≢ t ∷ ts) × (new ≡ old)
 
--- the same of something that is kept
+-- as of `Passes`, of something that is kept
 abbrev pub Takes : {X A : Type 0} → (X → A) → Option (A × List Token) → Option X → List Token
     → List Token → Type 0
 Takes view o (Some x) old new = o ≡ Some (view x, new)

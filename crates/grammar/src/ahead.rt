@@ -1,6 +1,6 @@
 //! What is left of a logical line, and what is taken from its front.
 
-ghost use Rattle.std.specs.Prelude.{◌≡◌, ℕ, List, length, IfSome, IfOk, map, true};
+ghost use Rattle.std.specs.Prelude.{◌≡◌, ℕ, List, length, IfSome, IfOk, true};
 ghost use Rattle.std.specs.Option.{option_map};
 ghost use Rattle.grammar.specs.Ahead.{is_done, Ends, Passes, Takes, tokens_seen, operator_at};
 ghost use Rattle.grammar.specs.Ahead.{operator_of, behind_not, behind_minus, behind_if, HasHead};

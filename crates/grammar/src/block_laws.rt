@@ -1,11 +1,11 @@
 //! Laws of the lines of files and of their blocks.
 
-ghost use Rattle.std.specs.Prelude.{◌≡◌, ◌≤◌, ◌↔◌, ◌∷◌, ℕ, List, [], map, Ok, Err};
+ghost use Rattle.std.specs.Prelude.{◌≡◌, ◌≤◌, ℕ, List, map, Ok};
 ghost use Rattle.lexer.specs.Tokens.{Placed};
 ghost use Rattle.lexer.specs.LaidOut.{IsReading};
 ghost use Rattle.grammar.specs.StatementFault.{RefusedAtFirst};
 ghost use Rattle.grammar.specs.Places.{Place};
-ghost use Rattle.grammar.specs.Blocks.{Block, Laid, SpellsFile, laid};
+ghost use Rattle.grammar.specs.Blocks.{Block, SpellsFile, laid};
 ghost use Rattle.grammar.specs.BlockReading.{file_reads};
 ghost use Rattle.grammar.specs.Tree.{Expr};
 ghost use Rattle.grammar.specs.Levels.{IsTree};

@@ -3,8 +3,8 @@
 //! A change is refused by the first of `type`, `frozen`, `iterating`, `index` and `large`, and a
 //! refused change leaves the heap as it was. Each change finds its cell, and has the one cell
 //! changed.
-ghost use Rattle.std.specs.Prelude.{◌≡◌, ◌+◌, ◌-◌, ◌++◌, ◌∷◌, [], ◌<◌, Result, Ok, Some, None};
-ghost use Rattle.std.specs.Prelude.{length, take, slice_get, option_copied, IfErr, IfOk, IfSome};
+ghost use Rattle.std.specs.Prelude.{◌≡◌, ◌+◌, ◌-◌, [], ◌<◌, Result, Ok, Some, None};
+ghost use Rattle.std.specs.Prelude.{length, take, slice_get, option_copied, IfErr, IfOk};
 ghost use Rattle.std.specs.Prelude.{MatchResult, ◌^◌, ◌≤◌};
 ghost use Rattle.ticks.specs.Ticking.{FaultOr};
 ghost use Rattle.heap.specs.Cells.{made, pushed_items, joined_items, indexed_items, keyed_entries};

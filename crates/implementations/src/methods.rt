@@ -1,9 +1,8 @@
 //! Which calls an implementation may make, and which methods its objects have.
-ghost use Rattle.std.specs.Prelude.{◌≡◌, codes, is_some, ◌∷◌, []};
+ghost use Rattle.std.specs.Prelude.{◌≡◌, is_some};
 ghost use Rattle.contexts.specs.Actions.{method_named};
-ghost use Rattle.implementations.specs.Implementations.{refused, built_in_refused, is_attr_method};
+ghost use Rattle.implementations.specs.Implementations.{refused, is_attr_method};
 ghost use Rattle.implementations.specs.Implementations.{attr_refused, has_method};
-ghost use Rattle.implementations.specs.Implementations.{object_has_method};
 
 use contexts::ActionMethod;
 use field_names::{FieldName, KnownName};

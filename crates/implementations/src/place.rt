@@ -1,11 +1,9 @@
 //! The place of an implementation.
-ghost use Rattle.std.specs.Prelude.{◌≡◌, Ok, Err, Some, None, MatchResult};
-ghost use Rattle.ticks.specs.Ticking.{FaultOr};
+ghost use Rattle.std.specs.Prelude.{Err, Some};
 ghost use Rattle.operations.specs.Arguments.{given};
-ghost use Rattle.places.specs.Answers.{Says, Reads};
-ghost use Rattle.contexts.specs.Actions.{method_named};
+ghost use Rattle.places.specs.Answers.{Says};
 ghost use Rattle.implementations.specs.Implementations.{implementation_place, call_method};
-ghost use Rattle.implementations.specs.Implementations.{object_method, action_call, worked};
+ghost use Rattle.implementations.specs.Implementations.{action_call};
 
 use crate::methods::{action_named, attr_refused, has_method, refused};
 use contexts::{ActionMethod, FileLists, TargetContext, Work, field, item, offers};

@@ -1,16 +1,16 @@
 -- What statements keep.
-use Rattle.std.proofs.Common.{◌≡◌, ℕ, suc, Bool, true, false, List, [], ◌∷◌, if◌then◌else◌}
+use Rattle.std.proofs.Common.{ℕ, List, [], ◌∷◌, if◌then◌else◌}
 use Rattle.std.specs.Prelude.{Option, Some, None}
 use Rattle.program_tree.specs.Resolved.{Term, Statement, load, assign, assign_item, add_to, add_to_item, evaluate, pass, break_loop, continue_loop, give_back, branch, loop, define, Branches, no_branches, a_branch, Steps, no_steps, step}
-use Rattle.meaning.specs.Names.{Loaded, Binding}
-use Rattle.meaning.specs.Operations.{FunctionId, Operations}
-use Rattle.meaning.specs.Outcome.{Slots, Effect, ◌>>=◌, pure, act, change, Here}
+use Rattle.meaning.specs.Names.{Loaded}
+use Rattle.meaning.specs.Operations.{Operations}
+use Rattle.meaning.specs.Outcome.{Effect, ◌>>=◌, pure, act, change, Here}
 use Rattle.meaning.specs.Functions.{Files, function_name}
 use Rattle.meaning.specs.Expressions.{Invoke, truth, read, set, assigned, walking, eval, evals}
 use Rattle.meaning.specs.Statements.{End, next, breaks, continues, returns, Doing, after_step, after_turn, loop_turns, imports, given_back, makes_function, exec, branches, block}
-use Rattle.keeping.specs.Kept.{Kept, goods, anything, Gives}
+use Rattle.keeping.specs.Kept.{Kept, goods, anything}
 use Rattle.keeping.specs.Owed.{EachKeeps}
-use Rattle.keeping.proofs.Effects.{goods_stay, From, then_from, pure_from, unit_from, act_from, change_from, if_from, later_from}
+use Rattle.keeping.proofs.Effects.{goods_stay, From, then_from, pure_from, unit_from, act_from, change_from, if_from}
 use Rattle.keeping.proofs.Terms.{truth_from, read_from, set_from, assigned_from, walking_from, InvokeKeeps, eval_from, evals_from}
 
 module _ {S V K : Type 0} (r : Kept S V) (ops : Operations S V K) (owed : EachKeeps r ops) where

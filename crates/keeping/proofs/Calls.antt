@@ -1,18 +1,17 @@
 -- What calls and top levels keep.
-use Rattle.std.proofs.Common.{◌≡◌, ℕ, zero, suc, Bool, true, false, List, [], ◌∷◌, if◌then◌else◌}
+use Rattle.std.proofs.Common.{ℕ, zero, suc, Bool, true, false, if◌then◌else◌}
 use Rattle.std.specs.Prelude.{Option, Some, None, Result, Ok, Err, replicate}
 use Rattle.std.specs.List.{list_any}
-use Rattle.meaning.specs.Operations.{FunctionId, Callee, Arguments, wrong_type, arity, recursion, deep, Operations}
-use Rattle.meaning.specs.Outcome.{Slots, Final, located, refused, final_of, ◌>>=◌, pure, act, Here}
+use Rattle.meaning.specs.Operations.{FunctionId, Callee, Arguments, recursion, deep, Operations}
+use Rattle.meaning.specs.Outcome.{Slots, Final, located, refused, ◌>>=◌, pure, act, Here}
 use Rattle.meaning.specs.Entry.{same_function, called, entry}
 use Rattle.meaning.specs.Functions.{Function, Files, function_at, def_line}
 use Rattle.meaning.specs.Expressions.{Invoke}
 use Rattle.meaning.specs.Statements.{End, next, breaks, continues, returns, block}
 use Rattle.meaning.specs.Calls.{inside, outside, Going, value_of, tested, written, chosen, running, invoke, defined_at, function_meaning, top, top_meaning}
-use Rattle.keeping.specs.Kept.{Kept, goods, good_slot, good_slots, good_callee, good_arguments, Gives, anything}
+use Rattle.keeping.specs.Kept.{Kept, good_slots, good_callee, good_arguments, Gives, anything}
 use Rattle.keeping.specs.Owed.{EachKeeps}
-use Rattle.keeping.specs.Laws.{CallsKeep, TopLevelsKeep}
-use Rattle.keeping.proofs.Effects.{From, then_from, pure_from, unit_from, act_from, final_gives}
+use Rattle.keeping.proofs.Effects.{From, then_from, pure_from, act_from, final_gives}
 use Rattle.keeping.proofs.Terms.{InvokeKeeps}
 use Rattle.keeping.proofs.Blocks.{good_end, block_from}
 use Rattle.keeping.proofs.Entering.{good_entry, entry_good}

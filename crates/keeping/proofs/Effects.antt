@@ -2,9 +2,9 @@
 use Rattle.std.proofs.Common.{◌≡◌, ℕ, zero, suc, Bool, true, false, List, [], ◌∷◌, ◌++◌, if◌then◌else◌, subst, refl}
 use Rattle.std.specs.Prelude.{Option, Some, None, Result, Ok, Err, slice_get}
 use Rattle.program_tree.specs.Names.{Name}
-use Rattle.meaning.specs.Operations.{Operation, Callee, plain, method, Arguments, unset, Operations}
+use Rattle.meaning.specs.Operations.{Operation, Callee, plain, method, Operations}
 use Rattle.meaning.specs.Outcome.{Slots, Outcome, done, fault, Effect, then_do, ◌>>=◌, pure, raise, acted, act, change, Here, put, cleared, found, slot_value, set_slot, Final, final_of, resumed}
-use Rattle.keeping.specs.Kept.{Kept, goods, named_goods, good_slot, good_slots, good_callee, good_arguments, Gives, anything}
+use Rattle.keeping.specs.Kept.{Kept, goods, named_goods, good_slot, good_slots, good_callee, Gives, anything}
 
 module _ {S V : Type 0} (r : Kept S V) where
   -- ---- what is good stays good

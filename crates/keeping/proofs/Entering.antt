@@ -1,5 +1,5 @@
 -- What stands in the slots of a function that is entered.
-use Rattle.std.proofs.Common.{◌≡◌, ℕ, zero, suc, Bool, true, false, List, [], ◌∷◌, ◌++◌, length, map, if◌then◌else◌, bytes_eq}
+use Rattle.std.proofs.Common.{ℕ, zero, suc, Bool, true, false, List, [], ◌∷◌, ◌++◌, length, map, if◌then◌else◌, bytes_eq}
 use Rattle.std.specs.Prelude.{◌-◌, Option, Some, None, option_map, replicate}
 use Rattle.std.specs.Map.{lookup}
 use Rattle.program_tree.specs.Names.{Name, or_else}

@@ -1,5 +1,5 @@
 -- What an expression keeps.
-use Rattle.std.proofs.Common.{◌≡◌, ℕ, suc, Bool, true, false, List, [], ◌∷◌, ◌++◌, length, if◌then◌else◌, nat_eq}
+use Rattle.std.proofs.Common.{List, [], ◌∷◌, ◌++◌, length, if◌then◌else◌, nat_eq}
 use Rattle.std.specs.Prelude.{◌-◌, Option, Some, None}
 use Rattle.grammar.specs.Tree.{Operator}
 use Rattle.program_tree.specs.Names.{Name}
@@ -7,12 +7,12 @@ use Rattle.program_tree.specs.Resolved as tree
 use Rattle.program_tree.specs.Resolved.{Term, named, numeral, quoted, tuple, listing, dict, choice, operates, turned, selects, subscript, invokes, each, each_pair, Terms, no_terms, more_terms, Pairs, no_pairs, more_pairs, Keywords, no_keywords, more_keywords, Rounds, for_each, only_if}
 use Rattle.meaning.specs.Names.{OwnSlots, Binding, slot, global, builtin}
 use Rattle.meaning.specs.Operations.{Callee, plain, Arguments, arity, Operations}
-use Rattle.meaning.specs.Outcome.{Slots, Effect, ◌>>=◌, pure, raise, act, change, Here, cleared, resumed}
+use Rattle.meaning.specs.Outcome.{Effect, ◌>>=◌, pure, raise, act, change, Here, resumed}
 use Rattle.meaning.specs.Entry.{paired}
 use Rattle.meaning.specs.Expressions.{Invoke, Way, while_true, while_false, always, way, names_of, truth, read, set, set_each, unpacked, assigned, forget, joined, walking, turns, calling, eval, evals, values, entries, rounds}
 use Rattle.keeping.specs.Kept.{Kept, goods, named_goods, good_callee, good_arguments, Gives, anything}
 use Rattle.keeping.specs.Owed.{EachKeeps}
-use Rattle.keeping.proofs.Effects.{goods_stay, named_stay, callee_stays, goods_behind, cleared_keeps, From, then_from, pure_from, unit_from, raise_from, act_from, change_from, if_from, later_from, slot_from, set_slot_from, resumed_after}
+use Rattle.keeping.proofs.Effects.{goods_stay, callee_stays, goods_behind, cleared_keeps, From, then_from, pure_from, unit_from, raise_from, act_from, change_from, if_from, later_from, slot_from, set_slot_from, resumed_after}
 
 module _ {S V K : Type 0} (r : Kept S V) (ops : Operations S V K) (owed : EachKeeps r ops) where
   -- ---- names

@@ -3,7 +3,7 @@ use Rattle.std.specs.Prelude.{ℕ}
 use Rattle.meaning.specs.Operations.{FunctionId, Arguments, Operations}
 use Rattle.meaning.specs.Functions.{Files}
 use Rattle.meaning.specs.Calls.{function_meaning, top_meaning}
-use Rattle.keeping.specs.Kept.{Kept, good_arguments, Gives, anything}
+use Rattle.keeping.specs.Kept.{Kept, good_arguments, Gives}
 use Rattle.keeping.specs.Owed.{EachKeeps}
 
 -- A function that is called from outside gives a good value, where its arguments are good and the

@@ -1,9 +1,8 @@
 //! The operators of two values, where the right side is no target.
-ghost use Rattle.std.specs.Prelude.{◌≡◌, Ok, Err, MatchResult};
+ghost use Rattle.std.specs.Prelude.{Ok, Err};
 ghost use Rattle.grammar.specs.TreeView.{operator_seen};
-ghost use Rattle.ticks.specs.Ticking.{FaultOr};
 ghost use Rattle.values.specs.Seeing.{item_value};
-ghost use Rattle.operations.specs.States.{Does, Stays};
+ghost use Rattle.operations.specs.States.{Does};
 ghost use Rattle.operations.specs.Equality.{equals};
 ghost use Rattle.operations.specs.Strings.{member};
 ghost use Rattle.operations.specs.Operators.{calculate, compare};

@@ -2,7 +2,6 @@
 ghost use Rattle.std.specs.Prelude.{◌≡◌, Some, None, option_copied};
 ghost use Rattle.values.specs.Seeing.{item_value};
 ghost use Rattle.values.specs.Shape.{value_of};
-ghost use Rattle.values.specs.View.{tree_of};
 ghost use Rattle.language.specs.Language.{leaf_of, target_of, of_place};
 
 use values::{Frozen, Held, Item, Leaf, Value};

@@ -64,8 +64,8 @@ abbrev pub number_token : ℕ → Option ℕ → Begins
 number_token more None = nothing
 number_token more (Some value) = token (number value) more
 
--- a number: `0`, or a digit 1 to 9 and more digits; all letters, digits and `_` that follow belong
--- to it
+-- a number: `0`, or a digit 1 to 9 and more digits; no letter, digit or `_` may follow it, so all
+-- of these that follow are to be its further digits, or nothing begins
 abbrev pub number_at : ℕ → List ℕ → Begins
 number_at b bs =
     let more = run_length is_word_byte bs in number_token more (number_of b (take more bs))

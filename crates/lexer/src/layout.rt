@@ -8,8 +8,8 @@ ghost use Rattle.std.specs.Prelude.{◌≡◌, ◌+◌, List, ℕ, [], ◌∷◌
 ghost use Rattle.std.specs.Prelude.{Some, None, IfOk, IfErr, if◌then◌else◌};
 ghost use Rattle.std.specs.Bool.{MatchBool};
 ghost use Rattle.lexer.specs.Layout.{opening, closing, opened, closed, after_mark, back_to};
-ghost use Rattle.lexer.specs.Layout.{block_opened, columns_at, nothing_open, starts, begun, turn};
-ghost use Rattle.lexer.specs.Layout.{ended, at_start, mark_of, line_starts};
+ghost use Rattle.lexer.specs.Layout.{block_opened, columns_at, starts, begun, turn};
+ghost use Rattle.lexer.specs.Layout.{ended, at_start, line_starts};
 ghost use Rattle.lexer.specs.Scan.{preceded};
 ghost use Rattle.lexer.specs.Seen.{seen};
 ghost use Rattle.lexer.specs.Tokens.{Placed};

@@ -1,7 +1,7 @@
 //! The logical lines of a text: the three lower passes, one after the other.
 
 ghost use Rattle.std.specs.Prelude.{◌≡◌, ◌<◌, ℕ, Ok, Err, IfOk, List, length, map, slice_get};
-ghost use Rattle.std.specs.Prelude.{slice_index, slice_range, Some};
+ghost use Rattle.std.specs.Prelude.{slice_range, Some};
 ghost use Rattle.std.specs.Str.{IsAscii};
 ghost use Rattle.lexer.specs.LaidOut.{IsReading};
 ghost use Rattle.lexer.specs.Lines.{lines_at, reading};

@@ -1,6 +1,6 @@
 //! The second pass: the tokens of a text, from its first byte to its last.
 
-ghost use Rattle.std.specs.Prelude.{◌≡◌, ◌≤◌, ◌<◌, length, map, Ok, IfOk};
+ghost use Rattle.std.specs.Prelude.{◌≡◌, ◌<◌, length, map, Ok, IfOk};
 ghost use Rattle.lexer.specs.Scan.{tokens_of};
 ghost use Rattle.lexer.specs.Seen.{seen};
 ghost use Rattle.lexer.specs.Cursor.{IsCursor, left};

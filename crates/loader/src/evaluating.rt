@@ -1,5 +1,4 @@
 //! How the files of a workspace are read and evaluated.
-ghost use Rattle.std.specs.Prelude.{◌≡◌, [], IfOk};
 
 use crate::Before;
 use crate::modular::run_module;

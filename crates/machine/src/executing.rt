@@ -1,8 +1,6 @@
 //! Runs, from their start to their end.
 
 ghost use Rattle.std.specs.Prelude.{◌≡◌, [], IfOk};
-ghost use Rattle.values.specs.declared.value.Value as held;
-ghost use Rattle.ticks.specs.declared.ticks.Kind as kinds;
 ghost use Rattle.meaning.specs.Correct.{call_start, function_start, top_start};
 ghost use Rattle.meaning.specs.Functions.{Files};
 ghost use Rattle.meaning.specs.StatementCode.{code_of};

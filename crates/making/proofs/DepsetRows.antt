@@ -1,5 +1,5 @@
 -- Depsets of many levels where the last serial is taken, by computation: `deep` is told before `large`.
-use Rattle.std.specs.Prelude.{◌≡◌, ℕ, zero, suc, ◌-◌, ◌^◌, List, [], ◌∷◌, Err, refl}
+use Rattle.std.specs.Prelude.{◌≡◌, ℕ, zero, suc, ◌-◌, ◌^◌, [], ◌∷◌, Err, refl}
 use Rattle.depsets.specs.Rose.{Rose}
 use Rattle.depsets.specs.Own.{Own}
 use Rattle.depsets.specs.declared.depset.Order.TheVariants as order

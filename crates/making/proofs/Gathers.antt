@@ -1,5 +1,5 @@
 -- One turn of gathering, whatever is gathered.
-use Rattle.std.proofs.Common.{◌≡◌, List, ◌∷◌, Ok, Err, Result, ap, ◌∙◌}
+use Rattle.std.proofs.Common.{◌≡◌, List, ◌∷◌, Ok, Result, ap, ◌∙◌}
 use Rattle.ticks.specs.Ticking.{FaultOr}
 use Rattle.values.specs.declared.value.Value.{Value}
 use Rattle.ticks.specs.declared.ticks.Kind.{Kind}

@@ -2,12 +2,11 @@
 ghost use Rattle.std.specs.Prelude.{◌≡◌, Ok, Err, Some, None, MatchResult, option_copied};
 ghost use Rattle.ticks.specs.Ticking.{FaultOr};
 ghost use Rattle.values.specs.Seeing.{seen};
-ghost use Rattle.values.specs.Shape.{shape};
-ghost use Rattle.operations.specs.Reading.{depset_in, of_type};
-ghost use Rattle.operations.specs.States.{Does, Stays, Gives};
+ghost use Rattle.operations.specs.Reading.{depset_in};
+ghost use Rattle.operations.specs.States.{Does, Gives};
 ghost use Rattle.printing.specs.Repr.{string_in};
 ghost use Rattle.operations.specs.Depsets.{new_depset, order_named, order_text, order_in, parts_in};
-ghost use Rattle.operations.specs.Depsets.{element_in, parts_of, made_of, depset_of};
+ghost use Rattle.operations.specs.Depsets.{element_in, parts_of, depset_of};
 
 use crate::parts::{children, elements};
 use heap::Heap;

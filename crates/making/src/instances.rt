@@ -1,19 +1,18 @@
 //! Instances of providers, and their fields.
-ghost use Rattle.std.specs.Prelude.{◌≡◌, ◌++◌, ◌∷◌, [], Ok, Err, Some, None, MatchResult};
-ghost use Rattle.std.specs.Prelude.{MatchOption, IfOk, OnOk, map, length, slice_get, option_copied};
+ghost use Rattle.std.specs.Prelude.{◌≡◌, ◌++◌, ◌∷◌, [], Ok, Err, Some, None};
+ghost use Rattle.std.specs.Prelude.{IfOk, OnOk, slice_get, option_copied};
 ghost use Rattle.std.specs.Prelude.{is_ok};
 ghost use Rattle.depsets.specs.Elements.{elements, all_of_type};
-ghost use Rattle.ticks.specs.Ticking.{FaultOr};
 ghost use Rattle.values.specs.Seeing.{seen, option_value, slot_values};
-ghost use Rattle.operations.specs.States.{Does, Stays};
+ghost use Rattle.operations.specs.States.{Does};
 ghost use Rattle.operations.specs.Items.{at_place};
 ghost use Rattle.first_places.specs.Places.{place_named};
 ghost use Rattle.operations.specs.Arguments.{given, given_for};
 ghost use Rattle.operations.specs.Fields.{field_in};
 ghost use Rattle.operations.specs.Names.{in_slot};
 ghost use Rattle.operations.specs.Instances.{are_fields, given_fields, new_instance, with_fields};
-ghost use Rattle.operations.specs.Instances.{constructed, unless_placed, with_files};
-ghost use Rattle.operations.specs.Instances.{with_new_files, info_with, files_in, only_files};
+ghost use Rattle.operations.specs.Instances.{constructed, with_files};
+ghost use Rattle.operations.specs.Instances.{with_new_files, info_with, files_in};
 
 use crate::depset_calls::new_depset;
 use first_places::{FirstPlaces, PlacedNames, place_named};

@@ -1,9 +1,7 @@
 //! The listing of a depset, as a list of the language.
-ghost use Rattle.std.specs.Prelude.{◌≡◌, ◌++◌, ◌∷◌, [], Ok, Err, MatchResult, IfOk, OnOk, map};
-ghost use Rattle.std.specs.Prelude.{length};
+ghost use Rattle.std.specs.Prelude.{◌≡◌, ◌++◌, ◌∷◌, [], Ok, IfOk, OnOk, map};
 ghost use Rattle.depsets.specs.Listed.{IsCoherent, walked, flat};
-ghost use Rattle.ticks.specs.Ticking.{FaultOr};
-ghost use Rattle.operations.specs.States.{Does, Stays};
+ghost use Rattle.operations.specs.States.{Does};
 ghost use Rattle.operations.specs.Making.{new_list};
 ghost use Rattle.operations.specs.Depsets.{element_value, to_list};
 

@@ -1,11 +1,9 @@
 //! Names of the top level, and functions.
-ghost use Rattle.std.specs.Prelude.{◌≡◌, Ok, Err, Some, None, MatchResult, option_copied};
-ghost use Rattle.std.specs.Prelude.{option_map, slice_get, nat_eq, length};
-ghost use Rattle.ticks.specs.Ticking.{FaultOr};
+ghost use Rattle.std.specs.Prelude.{◌≡◌, Ok, Some, None, option_copied};
+ghost use Rattle.std.specs.Prelude.{option_map, slice_get};
 ghost use Rattle.operands.specs.Lying.{stored_value};
-ghost use Rattle.operations.specs.States.{Does, Stays};
+ghost use Rattle.operations.specs.States.{Does};
 ghost use Rattle.operations.specs.Names.{name_value, set_global, set_loaded, define, in_slot};
-ghost use Rattle.operations.specs.Names.{or_loaded};
 
 use operands::{Bindings, Operand, Stored};
 use operations::State;

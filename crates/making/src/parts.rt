@@ -1,5 +1,5 @@
 //! Elements and depsets, out of the items of a sequence.
-ghost use Rattle.std.specs.Prelude.{◌≡◌, ◌++◌, ◌∷◌, [], Ok, Err, Some, None, IfOk, MatchResult};
+ghost use Rattle.std.specs.Prelude.{◌≡◌, Ok, Err, Some, None, IfOk, MatchResult};
 ghost use Rattle.ticks.specs.Ticking.{FaultOr};
 ghost use Rattle.values.specs.Seeing.{seen, group_items};
 ghost use Rattle.operations.specs.Depsets.{element_in, all_in, put_last};

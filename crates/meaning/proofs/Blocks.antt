@@ -8,7 +8,7 @@ use Rattle.meaning.specs.Outcome.{Slots, Outcome, ◌>>=◌, pure, act, change, 
 use Rattle.meaning.specs.Functions.{Files, function_name}
 use Rattle.meaning.specs.Expressions.{Invoke, set, read, assigned, eval, evals}
 use Rattle.meaning.specs.Statements.{Doing, End, next, after_step, loop_turns, imports, given_back, exec, branches, block}
-use Rattle.meaning.specs.Instructions.{Instruction, Codes, code_name}
+use Rattle.meaning.specs.Instructions.{Instruction, code_name}
 use Rattle.meaning.specs.Machine.{Walk, Next, doing, returning, outer, all_ended}
 use Rattle.meaning.specs.Performing.{performs}
 use Rattle.meaning.specs.ExpressionCode.{Lines, turn_code, count, set_code, expr_code, exprs_code}

@@ -14,7 +14,7 @@ use Rattle.meaning.specs.Functions.{Function, Files, functions, function_at, its
 use Rattle.meaning.specs.Expressions.{Invoke}
 use Rattle.meaning.specs.Statements.{End, next, breaks, continues, returns, block}
 use Rattle.meaning.specs.Calls.{Going, inside, value_of, tested, written, chosen, running, invoke}
-use Rattle.meaning.specs.Instructions.{Instruction, FunctionCode, Codes, code_at, code_line, code_name}
+use Rattle.meaning.specs.Instructions.{FunctionCode, Codes, code_at, code_line, code_name}
 use Rattle.meaning.specs.Machine.{Frame, Next, more, doing, choose, faults, returning, outer, finishing, frame_of, starting, starts, calls}
 use Rattle.meaning.specs.Performing.{line_of}
 use Rattle.meaning.specs.ExpressionCode.{Lines}

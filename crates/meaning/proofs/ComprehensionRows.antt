@@ -3,7 +3,7 @@ use Rattle.std.proofs.Common.{◌≡◌, [], ◌∷◌, Some, refl}
 use Rattle.std.specs.Prelude.{Ok, codes}
 use Rattle.grammar.specs.Tree.{equal}
 use Rattle.program_tree.specs.Resolved as tree
-use Rattle.program_tree.specs.Resolved.{Term, named, numeral, choice, operates, each, each_pair, Rounds, for_each, only_if, give_back, step, Program}
+use Rattle.program_tree.specs.Resolved.{Term, numeral, choice, operates, each, each_pair, only_if, give_back, step, Program}
 use Rattle.meaning.specs.Operations.{unset}
 use Rattle.meaning.specs.Outcome.{put, slot_value}
 use Rattle.meaning.specs.Entry.{entry}

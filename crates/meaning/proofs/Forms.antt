@@ -6,7 +6,7 @@ use Rattle.meaning.specs.Names.{Binding, slot, global, builtin}
 use Rattle.meaning.specs.Operations.{Callee}
 use Rattle.meaning.specs.Outcome.{Slots, Outcome, done, fault, Effect, then_do, put, ◌>>=◌, pure, act}
 use Rattle.meaning.specs.Expressions.{Way, while_true, while_false, always, joined, turns, assigned}
-use Rattle.meaning.specs.Instructions.{Source, Instruction, Codes}
+use Rattle.meaning.specs.Instructions.{Source}
 use Rattle.meaning.specs.Machine.{Walk, Next}
 use Rattle.meaning.specs.Performing.{place, fetch}
 use Rattle.meaning.specs.ExpressionCode.{Lines, operate_code, joined_code, either_code, assign_code, turn_code}

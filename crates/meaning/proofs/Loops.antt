@@ -5,7 +5,6 @@ use Rattle.meaning.specs.Names.{Binding}
 use Rattle.meaning.specs.Outcome.{Slots, Outcome, ◌>>=◌, act}
 use Rattle.meaning.specs.Expressions.{assigned}
 use Rattle.meaning.specs.Statements.{End, next, breaks, continues, returns, Doing, after_step, after_turn, loop_turns}
-use Rattle.meaning.specs.Instructions.{Instruction, Codes}
 use Rattle.meaning.specs.Machine.{Walk, Next, returning, outer, all_ended}
 use Rattle.meaning.specs.Performing.{place}
 use Rattle.meaning.specs.ExpressionCode.{turn_code}

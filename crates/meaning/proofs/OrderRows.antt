@@ -3,7 +3,7 @@ use Rattle.std.proofs.Common.{◌≡◌, ℕ, zero, suc, ◌+◌, List, [], ◌�
 use Rattle.std.specs.Prelude.{Ok, Err, slice_get, codes}
 use Rattle.grammar.specs.Tree.{add, both, either}
 use Rattle.program_tree.specs.Resolved as tree
-use Rattle.program_tree.specs.Resolved.{Term, named, numeral, choice, dict, more_pairs, no_pairs, operates, subscript, invokes, each_pair, Statement, assign, assign_item, add_to_item, evaluate, give_back, step, Program}
+use Rattle.program_tree.specs.Resolved.{Term, numeral, choice, dict, more_pairs, no_pairs, operates, subscript, invokes, each_pair, Statement, assign, assign_item, add_to_item, evaluate, give_back, Program}
 use Rattle.meaning.specs.Names.{slot}
 use Rattle.meaning.specs.Outcome.{Final, put, slot_value}
 use Rattle.meaning.specs.Entry.{entry}

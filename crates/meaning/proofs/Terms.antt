@@ -7,7 +7,6 @@ use Rattle.meaning.specs.Names.{OwnSlots, slot, global, builtin}
 use Rattle.meaning.specs.Operations.{Callee, plain}
 use Rattle.meaning.specs.Outcome.{Slots, Outcome, done, Effect, ◌>>=◌, pure, act, Here}
 use Rattle.meaning.specs.Expressions.{Invoke, way, names_of, calling, forget, assigned, turns, eval, evals, values, entries, rounds}
-use Rattle.meaning.specs.Instructions.{Instruction, Codes}
 use Rattle.meaning.specs.Machine.{Walk, Next}
 use Rattle.meaning.specs.ExpressionCode.{Lines, source_of, turn_code, count, forget_code, call_code, expr_code, exprs_code, values_code, entries_code, rounds_code}
 use Rattle.meaning.proofs.Leads.{Leads, Gives, stays, gives_then, gives_all, gives_if}

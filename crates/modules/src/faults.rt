@@ -1,5 +1,5 @@
 //! Why a load statement fails.
-ghost use Rattle.std.specs.Prelude.{◌≡◌, None, Some, IfOk, MatchOption};
+ghost use Rattle.std.specs.Prelude.{◌≡◌, None, Some, IfOk};
 ghost use Rattle.loading.specs.Loads.{is_private, names_fault, module_fault, loads_fault};
 ghost use Rattle.modules.specs.Found.{found_seen, without_fault, named_by};
 

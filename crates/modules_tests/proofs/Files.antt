@@ -1,5 +1,5 @@
 -- Files that are found by path.
-use Rattle.std.proofs.Common.{◌≡◌, ◌∙◌, ℕ, ◌<◌, false, List, length, get_or, Err, sym, ap, arith}
+use Rattle.std.proofs.Common.{◌≡◌, ◌∙◌, ℕ, false, List, length, get_or, Err, sym, ap, arith}
 use Rattle.std.proofs.lemmas.List.{get_or_default}
 use Rattle.loading.specs.Loads.{Path}
 use Rattle.load_graph.specs.Paths.{ArePaths, IsAt, listed}

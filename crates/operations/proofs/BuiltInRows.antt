@@ -1,5 +1,5 @@
 -- Worked calls of built-in functions and methods, by computation.
-use Rattle.std.specs.Prelude.{◌≡◌, ℕ, ◌-◌, ◌^◌, pos, negsuc, List, [], ◌∷◌, Ok, Err, refl, codes, true, false}
+use Rattle.std.specs.Prelude.{◌≡◌, ◌-◌, ◌^◌, pos, negsuc, List, [], ◌∷◌, Ok, Err, refl, codes, true}
 use Rattle.leaves.specs.declared.leaf.Leaf.TheVariants as plain
 use Rattle.leaves.specs.declared.leaf.BuiltIn.TheVariants as built_in
 use Rattle.keys.specs.declared.key.Key.TheVariants as index
@@ -11,7 +11,7 @@ use Rattle.printing.specs.Repr.{print_at}
 use Rattle.operations.specs.Making.{none, truth, number, text}
 use Rattle.operations.specs.Arguments.{Given}
 use Rattle.operations.specs.BuiltIns.{argument, len, str, range, list, fail}
-use Rattle.operations.specs.Methods.{get, keys, pairs}
+use Rattle.operations.specs.Methods.{get, pairs}
 use Rattle.operations.proofs.Rows.{with_cells, one, two, list_at}
 
 abbrev at : List Value → Given

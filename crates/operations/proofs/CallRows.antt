@@ -1,5 +1,5 @@
 -- Worked calls, by computation: their arguments, depsets and instances.
-use Rattle.std.specs.Prelude.{◌≡◌, ℕ, ◌-◌, ◌^◌, pos, List, [], ◌∷◌, Option, Some, None, Ok, Err, refl, codes, true, false}
+use Rattle.std.specs.Prelude.{◌≡◌, ◌-◌, ◌^◌, pos, List, [], ◌∷◌, Some, None, Ok, Err, refl, codes, true}
 use Rattle.depsets.specs.declared.depset.Order.TheVariants as order
 use Rattle.depsets.specs.declared.element.Element.TheVariants as element
 use Rattle.leaves.specs.declared.leaf.Leaf.TheVariants as plain
@@ -11,7 +11,6 @@ use Rattle.values.specs.declared.value.Value.TheVariants as value
 use Rattle.values.specs.declared.cells.Cell.{Cell}
 use Rattle.values.specs.declared.cells.Cell.TheVariants as cell
 use Rattle.ticks.specs.declared.ticks.Kind.TheVariants as kind
-use Rattle.operations.specs.declared.state.State.{State}
 use Rattle.operations.specs.Making.{none, truth, number, text}
 use Rattle.operations.specs.Arguments.{Given, Parameter, wanted, optional, named_only, bound}
 use Rattle.operations.specs.Depsets.{depset, next_depset, to_list}

@@ -1,5 +1,5 @@
 -- Worked sums, products, quotients and comparisons, by computation.
-use Rattle.std.specs.Prelude.{◌≡◌, ℕ, ◌-◌, ◌^◌, pos, negsuc, List, [], ◌∷◌, Ok, Err, refl, codes, true, false}
+use Rattle.std.specs.Prelude.{◌≡◌, ◌-◌, ◌^◌, pos, negsuc, List, [], ◌∷◌, Ok, Err, refl, codes, true, false}
 use Rattle.values.specs.Tree.{list, tuple, none as no_trees}
 use Rattle.values.specs.declared.value.Value.{Value}
 use Rattle.values.specs.declared.value.Value.TheVariants as value

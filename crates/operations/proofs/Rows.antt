@@ -1,12 +1,7 @@
 -- Worked values of the operations, by computation, on a state of an evaluation that has seen nothing yet.
-use Rattle.std.specs.Prelude.{◌≡◌, ℕ, ◌++◌, ◌-◌, ◌^◌, pos, negsuc, List, [], ◌∷◌, Option, Some, None, Ok, Err, refl, codes, true, false}
-use Rattle.depsets.specs.declared.depset.Order.TheVariants as order
-use Rattle.depsets.specs.declared.element.Element.TheVariants as element
+use Rattle.std.specs.Prelude.{◌≡◌, ℕ, pos, negsuc, List, [], ◌∷◌, Ok, Err, refl, codes, true, false}
 use Rattle.values.specs.Tree.{list, tuple, none as no_trees}
 use Rattle.leaves.specs.declared.leaf.Leaf.TheVariants as plain
-use Rattle.leaves.specs.declared.leaf.Provider.{Provider}
-use Rattle.leaves.specs.declared.leaf.ProviderRef.TheVariants as provider
-use Rattle.leaves.specs.declared.leaf.ExportName.TheVariants as export
 use Rattle.keys.specs.declared.key.Key.TheVariants as index
 use Rattle.values.specs.declared.value.Value.{Value}
 use Rattle.values.specs.declared.value.Value.TheVariants as value
@@ -16,7 +11,7 @@ use Rattle.ticks.specs.declared.ticks.Kind.TheVariants as kind
 use Rattle.visits.specs.Equal.{equal_at}
 use Rattle.operations.specs.declared.state.State.{State}
 use Rattle.operations.specs.States.{tick}
-use Rattle.operations.specs.Making.{none, truth, number, text, new_list, new_dict, enter, keep, collect}
+use Rattle.operations.specs.Making.{none, truth, number, text, new_list, enter, keep}
 use Rattle.operations.specs.Truth.{truth_of}
 use Rattle.operations.specs.Equality.{equals}
 use Rattle.operations.specs.Items.{item}

@@ -1,5 +1,5 @@
 -- Worked calls on strings, membership, and methods with their arguments, by computation.
-use Rattle.std.specs.Prelude.{◌≡◌, ℕ, pos, negsuc, List, [], ◌∷◌, Ok, Err, refl, codes, true, false}
+use Rattle.std.specs.Prelude.{◌≡◌, pos, List, [], ◌∷◌, Ok, Err, refl, codes, true, false}
 use Rattle.values.specs.Tree.{list, none as no_trees}
 use Rattle.leaves.specs.declared.leaf.Leaf.TheVariants as plain
 use Rattle.leaves.specs.declared.leaf.BuiltIn.TheVariants as built_in
@@ -11,7 +11,7 @@ use Rattle.values.specs.declared.cells.Cell.TheVariants as cell
 use Rattle.ticks.specs.declared.ticks.Kind.TheVariants as kind
 use Rattle.visits.specs.Equal.{equal_at}
 use Rattle.operations.specs.declared.method.Method.TheVariants as method
-use Rattle.operations.specs.Making.{none, truth, number, text}
+use Rattle.operations.specs.Making.{truth, number, text}
 use Rattle.operations.specs.Arguments.{Given}
 use Rattle.operations.specs.Strings.{member, split, join, starts_with, ends_with}
 use Rattle.operations.specs.Calls.{method_call}

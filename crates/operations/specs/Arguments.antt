@@ -1,6 +1,6 @@
 -- The arguments of a call of what isn't written in Starlark, and what each parameter gets of them.
 -- (Starlark's specification, "Function and method calls".)
-use Rattle.std.specs.Prelude.{ℕ, Bool, true, false, not, ◌||◌, List, [], ◌∷◌, Option, Some}
+use Rattle.std.specs.Prelude.{ℕ, Bool, true, false, List, [], ◌∷◌, Option, Some}
 use Rattle.std.specs.Prelude.{None, Result, Ok, Err, bytes_eq, is_some, if◌then◌else◌}
 use Rattle.std.specs.List.{list_any, list_all}
 use Rattle.values.specs.declared.value.Value.{Value}

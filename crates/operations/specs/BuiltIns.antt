@@ -3,10 +3,10 @@
 -- (Starlark's specification, "Built-in constants and functions"; which values each takes is this
 -- project's own; docs/PROFILE.md, "Calls of the language".)
 use Rattle.std.specs.Prelude.{ℕ, ℤ, pos, List, [], ◌∷◌, length, map, Option, Some, None, Result, Ok}
-use Rattle.std.specs.Prelude.{Err, codes}
+use Rattle.std.specs.Prelude.{Err}
 use Rattle.numbers.specs.Ranges.{range_of}
 use Rattle.ticks.specs.Ticking.{Count}
-use Rattle.values.specs.Shape.{Shape, key, atom, items, entries, fields, nothing, shape}
+use Rattle.values.specs.Shape.{Shape, key, items, entries, shape}
 use Rattle.values.specs.Visits.{keys_of}
 use Rattle.keys.specs.declared.key.Key.{Key}
 use Rattle.keys.specs.declared.key.Key.TheVariants as index
@@ -19,10 +19,10 @@ use Rattle.printing.specs.Repr.{repr_of}
 use Rattle.operations.specs.declared.state.State.{State}
 use Rattle.operations.specs.declared.made.Made.{Made}
 use Rattle.operations.specs.declared.made.Made.TheVariants as new
-use Rattle.operations.specs.States.{Op, Doing, keeping, with_ticks, then_do, then_give}
+use Rattle.operations.specs.States.{Op, Doing, keeping, then_give}
 use Rattle.operations.specs.Reading.{string_in, number_in, of_type}
 use Rattle.operations.specs.Making.{number, text, make}
-use Rattle.operations.specs.Arguments.{Given, Parameter, Bound, wanted, bound, one, positions}
+use Rattle.operations.specs.Arguments.{Given, wanted, bound, one, positions}
 
 -- a call of one parameter, by position or by name
 abbrev pub argument : List ℕ → Given → Result Value Kind

@@ -1,9 +1,9 @@
 -- Calls of what isn't written in Starlark, but for what only one place has: `provider`, `rule`,
 -- `attr`, rules, and the methods of `ctx.actions`.
-use Rattle.std.specs.Prelude.{ℕ, List, [], ◌∷◌, Option, Some, None, Result, Ok, Err, codes}
+use Rattle.std.specs.Prelude.{ℕ, List, Option, Some, None, Result, Ok, Err, codes}
 use Rattle.depsets.specs.Rose.{Rose}
 use Rattle.depsets.specs.Own.{Own}
-use Rattle.values.specs.Shape.{Shape, key, atom, items, entries, fields, nothing, shape}
+use Rattle.values.specs.Shape.{shape}
 use Rattle.leaves.specs.declared.leaf.BuiltIn.{BuiltIn}
 use Rattle.leaves.specs.declared.leaf.BuiltIn.TheVariants as built_in
 use Rattle.leaves.specs.declared.leaf.MadeId.{MadeId}
@@ -13,7 +13,7 @@ use Rattle.ticks.specs.declared.ticks.Kind.{Kind}
 use Rattle.ticks.specs.declared.ticks.Kind.TheVariants as kind
 use Rattle.operations.specs.declared.method.Method.{Method}
 use Rattle.operations.specs.declared.method.Method.TheVariants as method
-use Rattle.operations.specs.States.{Op, Doing}
+use Rattle.operations.specs.States.{Op}
 use Rattle.operations.specs.Reading.{string_in, depset_in}
 use Rattle.operations.specs.Making.{entries_in}
 use Rattle.operations.specs.Changes.{append, extend}

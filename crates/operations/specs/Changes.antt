@@ -2,7 +2,7 @@
 -- `type`, `frozen`, `iterating`, `index` and `large`. (Starlark's specification, "Augmented
 -- assignments", "list·append" and "list·extend"; that `x += y` extends a list by a tuple too, and
 -- that `extend` takes nothing but lists and tuples, is this project's own.)
-use Rattle.std.specs.Prelude.{true, List, Option, Some, None, Result, Ok, Err}
+use Rattle.std.specs.Prelude.{true, List, Option, Some, None, Result, Err}
 use Rattle.heap.specs.Cells.{list_changed, dict_changed, joined, pushed, indexed, keyed}
 use Rattle.values.specs.Shape.{Shape, key, atom, items, entries, fields, nothing, shape}
 use Rattle.values.specs.declared.value.Value.{Value}

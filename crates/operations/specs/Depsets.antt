@@ -13,7 +13,7 @@ use Rattle.depsets.specs.declared.depset.DepsetError.{DepsetError}
 use Rattle.depsets.specs.declared.depset.DepsetError.TheVariants as refused
 use Rattle.depsets.specs.declared.element.Element.{Element}
 use Rattle.depsets.specs.declared.element.Element.TheVariants as element
-use Rattle.values.specs.Shape.{Shape, key, atom, items, entries, fields, nothing, shape}
+use Rattle.values.specs.Shape.{Shape, key, atom, shape}
 use Rattle.leaves.specs.declared.leaf.Leaf.{Leaf}
 use Rattle.leaves.specs.declared.leaf.Leaf.TheVariants as plain
 use Rattle.keys.specs.declared.key.Key.{Key}
@@ -24,7 +24,7 @@ use Rattle.values.specs.declared.cells.Cell.{Cell}
 use Rattle.ticks.specs.declared.ticks.Kind.{Kind}
 use Rattle.ticks.specs.declared.ticks.Kind.TheVariants as kind
 use Rattle.operations.specs.declared.state.State.{State}
-use Rattle.operations.specs.States.{Op, Doing, then_give}
+use Rattle.operations.specs.States.{Op, then_give}
 use Rattle.operations.specs.Reading.{string_in, sequence_in, depset_in, of_type}
 use Rattle.operations.specs.Making.{new_list, truth, number, text}
 use Rattle.operations.specs.Arguments.{Given, Parameter, Bound, optional, named_only, bound}

@@ -1,19 +1,14 @@
 -- Equality and membership. (Starlark's specification, "Comparisons" and "Membership tests"; ticks,
 -- and which values can't be compared, are this project's own.)
-use Rattle.std.specs.Prelude.{Bool, true, false, List, [], ◌∷◌, Result, Ok, Err, if◌then◌else◌}
-use Rattle.ticks.specs.Ticking.{Count, Ticking, then_on, with_count}
+use Rattle.std.specs.Prelude.{Bool, true, false, List, [], ◌∷◌, Result, Ok, if◌then◌else◌}
+use Rattle.ticks.specs.Ticking.{Count, Ticking, then_on}
 use Rattle.values.specs.Keyed.{has_key}
-use Rattle.values.specs.Shape.{Shape, key, atom, items, entries, fields, nothing, shape}
 use Rattle.ticks.specs.declared.ticks.TheConstants.{VISITED_LEVELS}
 use Rattle.keys.specs.declared.key.Key.{Key}
 use Rattle.values.specs.declared.value.Value.{Value}
-use Rattle.values.specs.declared.cells.Cell.{Cell}
 use Rattle.ticks.specs.declared.ticks.Kind.{Kind}
-use Rattle.ticks.specs.declared.ticks.Kind.TheVariants.{Wrong}
 use Rattle.visits.specs.Equal.{equal_at}
 use Rattle.operations.specs.States.{Op, with_ticks}
-use Rattle.operations.specs.Reading.{key_in, of_type}
-use Rattle.operations.specs.declared.state.State.{State}
 
 -- `x == y`: a tick for each pair that is visited
 abbrev pub equals : Value → Value → Op Bool

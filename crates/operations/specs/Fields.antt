@@ -1,10 +1,10 @@
 -- Fields, and methods where they are called. (Starlark's specification, "Dot expressions"; Bazel's
 -- documentation of `File`, `Label` and providers. Fields of targets and of `ctx` are said where
 -- there are targets.)
-use Rattle.std.specs.Prelude.{ℕ, Bool, true, false, List, [], ◌∷◌, ◌++◌, drop, Option, Some, None}
+use Rattle.std.specs.Prelude.{ℕ, true, List, [], ◌∷◌, ◌++◌, drop, Option, Some, None}
 use Rattle.std.specs.Prelude.{Result, Ok, Err, bytes_eq, codes, nat_eq, if◌then◌else◌}
 use Rattle.depsets.specs.declared.element.FileRef.{FileRef}
-use Rattle.values.specs.Shape.{Shape, key, atom, items, entries, fields, nothing, shape}
+use Rattle.values.specs.Shape.{Shape, key, atom, items, entries, fields, shape}
 use Rattle.leaves.specs.declared.leaf.Leaf.{Leaf}
 use Rattle.leaves.specs.declared.leaf.Leaf.TheVariants as plain
 use Rattle.keys.specs.declared.key.Key.{Key}

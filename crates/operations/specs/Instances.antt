@@ -1,6 +1,6 @@
 -- Instances of providers. (Bazel's documentation of providers and of `DefaultInfo`; that every
 -- provider has `fields`, and what is refused, is this project's own.)
-use Rattle.std.specs.Prelude.{ℕ, Bool, true, false, List, [], ◌∷◌, map, Option, Some, None, Result}
+use Rattle.std.specs.Prelude.{ℕ, Bool, List, [], ◌∷◌, map, Option, Some, None, Result}
 use Rattle.std.specs.Prelude.{Ok, Err, bytes_eq, codes, if◌then◌else◌}
 use Rattle.std.specs.List.{list_any, list_all}
 use Rattle.depsets.specs.Rose.{Rose}
@@ -13,11 +13,10 @@ use Rattle.values.specs.Shape.{Shape, shape}
 use Rattle.leaves.specs.declared.leaf.Provider.{Provider}
 use Rattle.leaves.specs.declared.leaf.ProviderRef.TheVariants as provider
 use Rattle.values.specs.declared.value.Value.{Value}
-use Rattle.values.specs.declared.cells.Cell.{Cell}
 use Rattle.values.specs.declared.cells.Cell.TheVariants as cell
 use Rattle.ticks.specs.declared.ticks.Kind.{Kind}
 use Rattle.ticks.specs.declared.ticks.Kind.TheVariants as kind
-use Rattle.operations.specs.States.{Op, Doing, with_heap, then_do, then_give}
+use Rattle.operations.specs.States.{Op, with_heap, then_do, then_give}
 use Rattle.operations.specs.Reading.{depset_in, of_type}
 use Rattle.operations.specs.Arguments.{Given, Parameter, Bound, named_only, bound, given_for}
 use Rattle.operations.specs.Depsets.{new_depset}

@@ -4,7 +4,7 @@ use Rattle.std.specs.Prelude.{ℕ, ℤ, Bool, true, false, List, [], length, Opt
 use Rattle.std.specs.Prelude.{Ok, Err}
 use Rattle.heap.specs.Cells.{made, list_changed, dict_changed, pushed, keyed}
 use Rattle.values.specs.Keyed.{has_key}
-use Rattle.values.specs.Shape.{Shape, key, atom, items, entries, fields, nothing, shape}
+use Rattle.values.specs.Shape.{Shape, entries, shape}
 use Rattle.leaves.specs.declared.leaf.Leaf.TheVariants as plain
 use Rattle.keys.specs.declared.key.Key.{Key}
 use Rattle.keys.specs.declared.key.Key.TheVariants as index
@@ -16,9 +16,8 @@ use Rattle.ticks.specs.declared.ticks.Kind.{Kind}
 use Rattle.ticks.specs.declared.ticks.Kind.TheVariants as kind
 use Rattle.operations.specs.declared.made.Made.{Made}
 use Rattle.operations.specs.declared.made.Made.TheVariants as new
-use Rattle.operations.specs.States.{Op, Doing, with_heap, changed}
+use Rattle.operations.specs.States.{Op, with_heap, changed}
 use Rattle.operations.specs.Reading.{key_in, of_type}
-use Rattle.operations.specs.declared.state.State.{State}
 
 -- values without parts: `None`, a bool, a whole number, a string
 abbrev pub none : Value

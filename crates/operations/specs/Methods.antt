@@ -1,19 +1,15 @@
 -- Methods of lists, dicts and depsets. They take positions alone, and `arity` comes before all
 -- else. (Starlark's specification, "Built-in methods"; Bazel's documentation of depsets.)
-use Rattle.std.specs.Prelude.{ℕ, List, [], ◌∷◌, ◌++◌, map, Option, Some, None, Result, Ok, Err}
-use Rattle.values.specs.Shape.{Shape, key, atom, items, entries, fields, nothing, shape}
+use Rattle.std.specs.Prelude.{List, [], ◌∷◌, ◌++◌, map, Ok, Err}
+use Rattle.values.specs.Shape.{shape}
 use Rattle.values.specs.Visits.{keys_of}
 use Rattle.keys.specs.declared.key.Key.{Key}
 use Rattle.values.specs.declared.value.Value.{Value}
 use Rattle.values.specs.declared.value.Value.TheVariants as value
-use Rattle.ticks.specs.declared.ticks.Kind.{Kind}
 use Rattle.ticks.specs.declared.ticks.Kind.TheVariants.{Arity}
-use Rattle.operations.specs.States.{Op, Doing, keeping, then_do}
+use Rattle.operations.specs.States.{Op, keeping, then_do}
 use Rattle.operations.specs.Making.{none, new_list, new_tuple}
 use Rattle.operations.specs.Items.{got}
-use Rattle.operations.specs.Changes.{append, extend}
-use Rattle.operations.specs.Reading.{depset_in, of_type}
-use Rattle.operations.specs.Depsets.{to_list}
 
 -- exactly one position
 abbrev pub with_one : (Value → Op Value) → List Value → Op Value

@@ -1,7 +1,7 @@
 -- Arithmetic, sums and order. (Starlark's specification, "Arithmetic operations", "Concatenation"
 -- and "Comparisons"; that nothing else has an order, and the bound of numbers, are this project's
 -- own.)
-use Rattle.std.specs.Prelude.{ℕ, ℤ, Bool, true, List, ◌++◌, Option, Some, None, Result, Ok, Err}
+use Rattle.std.specs.Prelude.{ℕ, ℤ, Bool, List, ◌++◌, Option, Some, None, Result, Ok, Err}
 use Rattle.std.specs.Prelude.{if◌then◌else◌}
 use Rattle.std.specs.Ordering.{nat_cmp}
 use Rattle.std.specs.declared.cmp.Ordering.{Ordering}
@@ -13,11 +13,10 @@ use Rattle.numbers.specs.declared.arithmetic.NumberError.{NumberError}
 use Rattle.numbers.specs.declared.arithmetic.NumberError.TheVariants as refused
 use Rattle.numbers.specs.declared.order.Comparison.{Comparison}
 use Rattle.depsets.specs.Elements.{same_truth}
-use Rattle.values.specs.Shape.{Shape, key, atom, items, entries, fields, nothing, shape}
+use Rattle.values.specs.Shape.{Shape, key, items, shape}
 use Rattle.keys.specs.declared.key.Key.{Key}
 use Rattle.keys.specs.declared.key.Key.TheVariants as index
 use Rattle.values.specs.declared.value.Value.{Value}
-use Rattle.values.specs.declared.cells.Cell.{Cell}
 use Rattle.ticks.specs.declared.ticks.Kind.{Kind}
 use Rattle.ticks.specs.declared.ticks.Kind.TheVariants as kind
 use Rattle.printing.specs.Repr.{fits}

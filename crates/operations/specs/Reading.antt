@@ -1,8 +1,8 @@
 -- What a value is, where an operation asks for one type.
-use Rattle.std.specs.Prelude.{ℕ, ℤ, List, Option, Some, None, Result, Err}
+use Rattle.std.specs.Prelude.{ℤ, List, Option, Some, None, Result, Err}
 use Rattle.depsets.specs.Rose.{Rose}
 use Rattle.depsets.specs.Own.{Own}
-use Rattle.values.specs.Shape.{Shape, key, atom, items, entries, fields, nothing}
+use Rattle.values.specs.Shape.{Shape, key, atom, items}
 use Rattle.leaves.specs.declared.leaf.Leaf.{Leaf}
 use Rattle.leaves.specs.declared.leaf.Leaf.TheVariants as plain
 use Rattle.keys.specs.declared.key.Key.{Key}

@@ -1,6 +1,6 @@
 -- What is asked of strings, and of what else has members. (Starlark's specification, "Membership
 -- tests" and "Built-in methods"; ticks, and which values have members, are this project's own.)
-use Rattle.std.specs.Prelude.{ℕ, Bool, List, [], ◌∷◌, map, Option, Some, None, Result, Ok, Err}
+use Rattle.std.specs.Prelude.{ℕ, Bool, List, map, Result, Ok, Err}
 use Rattle.strings.specs.Affixes.{begins, ends}
 use Rattle.strings.specs.Parts.{is_part}
 use Rattle.strings.specs.Splitting.{split_of}
@@ -17,7 +17,6 @@ use Rattle.values.specs.declared.cells.Cell.{Cell}
 use Rattle.ticks.specs.declared.ticks.Kind.{Kind}
 use Rattle.ticks.specs.declared.ticks.Kind.TheVariants as kind
 use Rattle.visits.specs.Equal.{equal_at}
-use Rattle.operations.specs.declared.made.Made.{Made}
 use Rattle.operations.specs.declared.made.Made.TheVariants as new
 use Rattle.operations.specs.States.{Op, keeping, with_ticks, then_give}
 use Rattle.operations.specs.Reading.{string_in, key_in, sequence_in, of_type}

@@ -1,6 +1,6 @@
 -- Which values count as true. (Starlark's specification, "Booleans"; of a depset this project's
 -- own.)
-use Rattle.std.specs.Prelude.{Bool, true, false, not, List, [], ◌∷◌, pos, Result, Ok}
+use Rattle.std.specs.Prelude.{Bool, true, false, not, List, [], ◌∷◌, pos}
 use Rattle.std.specs.Ordering.{int_eq}
 use Rattle.depsets.specs.Elements.{elements}
 use Rattle.values.specs.Shape.{Shape, key, atom, items, entries, fields, nothing, shape}

@@ -1,5 +1,5 @@
 //! The state of an evaluation: all that its operations read and change.
-ghost use Rattle.std.specs.Prelude.{◌≡◌, ◌++◌, ◌∷◌, [], ◌<◌, IfOk, OnOk, OnErr, length, slice_set};
+ghost use Rattle.std.specs.Prelude.{◌≡◌, ◌++◌, ◌∷◌, [], ◌<◌, OnOk, OnErr, length, slice_set};
 ghost use Rattle.std.specs.Prelude.{option_copied, slice_get};
 
 use heap::Heap;

@@ -1,6 +1,6 @@
 //! Folders that are walked.
 
-ghost use Rattle.std.specs.Prelude.{◌≡◌, ◌≤◌, ℕ, List, IfOk, Err, vec_len};
+ghost use Rattle.std.specs.Prelude.{◌≡◌, ◌≤◌, IfOk, Err, vec_len};
 ghost use Rattle.packing.specs.Folders.{At, HasBytes, HasKind, HasNames, IsLonger, below};
 
 use plain::Text;

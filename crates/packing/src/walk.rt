@@ -2,7 +2,7 @@
 //!
 //! Folders that wait stand in a list, so that nothing recurses by their depth.
 
-ghost use Rattle.std.specs.Prelude.{◌≡◌, ◌∷◌, ◌++◌, ℕ, List, [], Contains, IfOk, OnOk};
+ghost use Rattle.std.specs.Prelude.{◌≡◌, ◌∷◌, ℕ, List, [], Contains, IfOk, OnOk};
 ghost use Rattle.packing.specs.Folders.{At, Comes, IsFile, Reaches, is_hidden, is_output};
 ghost use Rattle.packing.specs.Packs.{Holds};
 ghost use Rattle.packing.specs.Walks.{ComesBy, CoversFrom, CoversName, Grows, IsWalked, Stays};

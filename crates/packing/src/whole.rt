@@ -1,12 +1,11 @@
 //! A whole folder packed: from its walk to the input that is written.
 
-ghost use Rattle.std.specs.Prelude.{◌≡◌, ◌≢◌, ◌++◌, ◌∷◌, [], Bool, true, Err, IfErr, IfOk, OnErr};
+ghost use Rattle.std.specs.Prelude.{◌≡◌, ◌≢◌, ◌++◌, ◌∷◌, [], Bool, true, Err, IfErr, IfOk};
 ghost use Rattle.std.specs.Prelude.{OnOk};
 ghost use Rattle.std.specs.Io.KnownBytes.{Appends};
 ghost use Rattle.devices.specs.Devices.{Failed};
 ghost use Rattle.packing.specs.Packs.{Packs};
 ghost use Rattle.packing.specs.Refusals.{BeginsInput, Refuses};
-ghost use Rattle.packing.specs.Writing.{Written};
 
 use crate::folders::{Folder, Unread};
 use crate::leaving::LeftOut;

@@ -2,14 +2,14 @@
 //!
 //! A text is read, written and let go before the next one is read.
 
-ghost use Rattle.std.specs.Prelude.{◌≡◌, ◌≤◌, ◌++◌, [], ◌∷◌, Err, IfErr, IfOk, OnOk, All, Contains};
-ghost use Rattle.std.specs.Prelude.{List, ℕ, length, ◌<◌, IsUtf8, string_bytes, string_len, true};
-ghost use Rattle.packing.specs.Folders.{At, IsFile};
+ghost use Rattle.std.specs.Prelude.{◌≡◌, ◌≤◌, ◌++◌, [], ◌∷◌, Err, IfErr, IfOk, OnOk, All};
+ghost use Rattle.std.specs.Prelude.{length, ◌<◌, IsUtf8, string_bytes, string_len, true};
+ghost use Rattle.packing.specs.Folders.{IsFile};
 ghost use Rattle.packing.specs.Inputs.{begun_text, comma, pair_text};
-ghost use Rattle.packing.specs.Packs.{AreAscending, HasCause, Holds, IsOf, counts_of};
+ghost use Rattle.packing.specs.Packs.{HasCause, Holds, IsOf, counts_of};
 ghost use Rattle.packing.specs.Packs.{is_bazel_file, is_used};
 ghost use Rattle.request.specs.Input.{input_limit};
-ghost use Rattle.packing.specs.Writing.{Exceeds, IsTooMuch, Stops, Takes, Written, counted_too};
+ghost use Rattle.packing.specs.Writing.{Exceeds, Stops, Takes, Written, counted_too};
 ghost use Rattle.packing.specs.Writing.{one_more};
 ghost use Rattle.workspace.specs.Workspaces.{is_file, text_limit};
 

@@ -1,5 +1,5 @@
 //! What each thread makes: places that it took in turn, each with what was made there.
-ghost use Rattle.std.specs.Prelude.{◌≡◌, ℕ, ◌<◌, IfOk};
+ghost use Rattle.std.specs.Prelude.{ℕ, ◌<◌, IfOk};
 ghost use Rattle.parallel.specs.Made.{AreMade};
 
 use std::alloc::{AllocError, Global};

@@ -1,5 +1,5 @@
 //! No linked files, and no place.
-ghost use Rattle.std.specs.Prelude.{◌≡◌, Err, None, false, MatchResult};
+ghost use Rattle.std.specs.Prelude.{Err, None, false};
 ghost use Rattle.places.specs.Nothing.{no_files, no_place};
 
 use crate::{Link, Place, Works};

@@ -1,14 +1,14 @@
 -- The text of a value, part by part. A text that has too many bytes for a string already stays one.
-use Rattle.std.proofs.Common.{◌≡◌, ℕ, zero, suc, ◌+◌, ◌-◌, ◌≤◌, Bool, true, false, List, [], ◌∷◌, ◌++◌, length, drop, slice_get, Some, None, Result, Ok, Err, refl, sym, ap, ◌∙◌, arith, append_assoc, append-nil, drop_of_length-le, if◌then◌else◌, nat_lt}
+use Rattle.std.proofs.Common.{◌≡◌, ℕ, zero, suc, ◌+◌, ◌-◌, ◌≤◌, Bool, true, false, List, ◌∷◌, ◌++◌, length, drop, slice_get, Some, None, Result, Ok, Err, refl, sym, ap, ◌∙◌, arith, append_assoc, append-nil, drop_of_length-le, if◌then◌else◌, nat_lt}
 use Rattle.std.proofs.lemmas.Bool.{ltb-true, lt-ltb}
 use Rattle.std.proofs.lemmas.List.{length-append}
 use Rattle.depsets.proofs.Turns.{drop_at}
 use Rattle.depsets.specs.Listed.{walked, flat}
-use Rattle.ticks.specs.Ticking.{Count, Ticking, ticked, then_on, after_tick, with_count, entered, FaultOr}
+use Rattle.ticks.specs.Ticking.{Count, Ticking, ticked, then_on, after_tick, entered, FaultOr}
 use Rattle.values.specs.Visits.{all_of}
 use Rattle.values.specs.Shape.{Shape, key, shape}
 use Rattle.leaf_texts.specs.Texts.{separator, joined_from, quoted, leaf_text}
-use Rattle.printing.specs.Repr.{has_text, commas, enclosed, printed, printed_entry, print_at, fits, appended, itself, string_key, string_in, whole_at}
+use Rattle.printing.specs.Repr.{has_text, enclosed, printed, print_at, fits, appended, itself, string_key, string_in, whole_at}
 use Rattle.leaves.specs.declared.leaf.Leaf.{Leaf}
 use Rattle.leaves.specs.declared.leaf.Leaf.TheVariants as plain
 use Rattle.keys.specs.declared.key.Key.{Key}
@@ -19,7 +19,7 @@ use Rattle.printing.specs.declared.reprs.TheConstants.{LARGEST_TEXT}
 use Rattle.ticks.specs.declared.ticks.Broken.{Broken}
 use Rattle.ticks.specs.declared.ticks.Broken.TheVariants as broken
 use Rattle.ticks.specs.declared.ticks.Kind.{Kind}
-use Rattle.ticks.specs.declared.ticks.Kind.TheVariants.{Deep, Large}
+use Rattle.ticks.specs.declared.ticks.Kind.TheVariants.{Large}
 use Rattle.values.proofs.VisitLemmas.{too-deep}
 
 -- a leaf with a text has no listing

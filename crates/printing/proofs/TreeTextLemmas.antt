@@ -8,7 +8,7 @@ use Rattle.depsets.specs.Rose.{Rose, label}
 use Rattle.depsets.specs.Own.{Own}
 use Rattle.depsets.specs.Listed.{walked, flat}
 use Rattle.depsets.specs.declared.element.Element.{Element}
-use Rattle.values.specs.Tree.{Trees, Pairs, Slots, key as key_tree, leaf, branch, list, tuple, dict, instance, none, more, stop, pair, end, missing, given, trees, pairs, slots, weight, weights, pair_weights, slot_weights}
+use Rattle.values.specs.Tree.{Trees, Pairs, Slots, key as key_tree, leaf, branch, list, tuple, dict, instance, none, more, stop, pair, end, missing, given, trees, pairs, slots, weight, weights}
 use Rattle.values.specs.View.{FrozenTree, FrozenBranch}
 use Rattle.leaf_texts.specs.Texts.{separator, joined_from, joined, tuple_end, entry_head, field_head, provider_text, leaf_text, depset_text}
 use Rattle.printing.specs.TreeTexts.{how_many, text_by, branch_text_by, texts_by, pair_texts_by, field_texts_by, text_of, IsCoherentLeaf, IsCoherentTree, IsCoherentBranch, AreCoherent, AreCoherentPairs, AreCoherentSlots}

@@ -2,7 +2,7 @@
 ghost use Rattle.std.specs.Prelude.{◌≡◌, ◌++◌, string_bytes, IfOk, OnOk};
 ghost use Rattle.depsets.specs.Listed.{walked};
 ghost use Rattle.values.specs.Tree.{trees, pairs, slots};
-ghost use Rattle.values.specs.View.{tree_of, node_branch};
+ghost use Rattle.values.specs.View.{node_branch};
 ghost use Rattle.leaf_texts.specs.Texts.{joined, entry_head};
 ghost use Rattle.printing.specs.TreeTexts.{text_by, branch_text_by, texts_by, pair_texts_by};
 ghost use Rattle.printing.specs.TreeTexts.{field_texts_by, text_of, IsCoherentTree};

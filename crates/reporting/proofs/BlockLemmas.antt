@@ -1,6 +1,5 @@
 -- Nodes with how their actions are told: one turn of each loop, and what they come to.
-use Rattle.std.proofs.Common.{◌≡◌, ◌∙◌, ◌+◌, ◌||◌, ◌<◌, ℕ, zero, suc, Bool, List, [], ◌∷◌, ◌++◌, length, map, take, drop, get_or, flat_map, ap, sym, refl, subst, append_assoc, add-one, arith}
-use Rattle.std.specs.Prelude.{slice_index_or}
+use Rattle.std.proofs.Common.{◌≡◌, ◌∙◌, ◌+◌, ◌||◌, ◌<◌, ℕ, zero, suc, Bool, List, [], ◌∷◌, ◌++◌, length, map, take, drop, get_or, flat_map, ap, sym, refl, append_assoc, add-one}
 use Rattle.std.specs.List.{list_any}
 use Rattle.std.proofs.lemmas.Grind.{flat_map-append}
 use Rattle.std.proofs.lemmas.List.{map-append, append-nil, take_more, at_drop_more}
@@ -13,7 +12,6 @@ use Rattle.actions.specs.declared.action.Action.{Action}
 use Rattle.claims.specs.Owned.{Owned}
 use Rattle.claims.specs.Telling.{telling}
 use Rattle.claims.specs.declared.telling.Telling.{Telling}
-use Rattle.claims.specs.declared.telling.Telling.TheVariants.{Alone}
 use Rattle.workspace.specs.Labels.{label_text}
 use Rattle.reporting.specs.Answers.{Node as Told, actions_of, node_actions, node_tellings, node_text, owned_actions, owned_by}
 use Rattle.reporting.specs.Lines.{action_line, action_lines, outcome_text, telling_at}

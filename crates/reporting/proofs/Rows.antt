@@ -1,9 +1,8 @@
 -- Worked reports, by computation.
-use Rattle.std.specs.Prelude.{◌≡◌, ℕ, true, false, List, [], ◌∷◌, ◌++◌, None, Some, refl, codes}
+use Rattle.std.specs.Prelude.{◌≡◌, ℕ, true, false, List, [], ◌∷◌, ◌++◌, Some, refl, codes}
 use Rattle.depsets.specs.Listed.{flat}
 use Rattle.actions.specs.declared.action.Action.{Action}
 use Rattle.actions.specs.declared.action.Inputs.TheVariants as inputs
-use Rattle.workspace.specs.Labels.{LabelParts}
 use Rattle.targets.specs.declared.outcome.Outcome.TheVariants.{Done}
 use Rattle.reporting.specs.Answers.{Node, report_text, is_loud}
 

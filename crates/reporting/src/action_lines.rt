@@ -1,5 +1,5 @@
 //! The lines of actions.
-ghost use Rattle.std.specs.Prelude.{◌≡◌, ◌++◌, codes, string_bytes, OnOk, option_copied};
+ghost use Rattle.std.specs.Prelude.{◌≡◌, ◌++◌, string_bytes, OnOk};
 ghost use Rattle.depsets.specs.Listed.{walked};
 ghost use Rattle.claims.specs.Same.{input_paths};
 ghost use Rattle.reporting.specs.Lines.{action_line, action_lines, action_text, content_text};

@@ -1,5 +1,5 @@
 //! Nodes, each with how its actions are told.
-ghost use Rattle.std.specs.Prelude.{◌≡◌, IfOk, OnOk, drop, map, take, length};
+ghost use Rattle.std.specs.Prelude.{◌≡◌, IfOk, OnOk, drop, map, take};
 ghost use Rattle.depsets.specs.Listed.{walked};
 ghost use Rattle.claims.specs.Conflicts.{conflicts_of};
 ghost use Rattle.claims.specs.Telling.{telling};

@@ -1,5 +1,5 @@
 //! A report as a whole.
-ghost use Rattle.std.specs.Prelude.{◌≡◌, ◌++◌, ◌||◌, map, string_bytes, IfOk, OnOk};
+ghost use Rattle.std.specs.Prelude.{◌≡◌, ◌++◌, ◌||◌, string_bytes, IfOk, OnOk};
 ghost use Rattle.std.specs.List.{flat_map, list_any};
 ghost use Rattle.depsets.specs.Listed.{walked};
 ghost use Rattle.targets.specs.Steps.{is_failed};

@@ -1,5 +1,5 @@
 //! The lines of labels, written by several threads.
-ghost use Rattle.std.specs.Prelude.{◌≡◌, ◌++◌, ◌<◌, drop, length, string_bytes, IfOk, OnOk};
+ghost use Rattle.std.specs.Prelude.{◌≡◌, ◌++◌, ◌<◌, drop, string_bytes, IfOk, OnOk};
 ghost use Rattle.std.specs.Fork.{slice_chunk};
 ghost use Rattle.depsets.specs.Listed.{walked};
 ghost use Rattle.reporting.specs.Seen.{AreParts, block_seen, block_text, lines_of, text_of};

@@ -1,17 +1,17 @@
 -- An input's tokens and the value that it is as JSON.
-use Rattle.std.proofs.Common.{◌≡◌, ◌≢◌, ◌∙◌, ◌<◌, ◌≤◌, ◌-◌, ℕ, zero, suc, Bool, List, [], ◌∷◌, ◌++◌, length, Option, Some, None, option_map, option_and_then, refl, ap, ap₂, sym, subst, arith, lit<}
+use Rattle.std.proofs.Common.{◌≡◌, ◌∙◌, ◌<◌, ◌≤◌, ◌-◌, ℕ, zero, suc, List, [], ◌∷◌, length, Option, Some, None, option_map, option_and_then, refl, ap, ap₂, sym, subst, arith, lit<}
 use Rattle.std.specs.Prelude.{⊤}
 use Rattle.json.specs.Lex.{tokens}
 use Rattle.json.specs.Token.{Token, begin_object, end_object, begin_array, end_array, key, string, number, boolean, null, bad}
 use Rattle.json.specs.Json as json
-use Rattle.json.specs.Json.{Json, Parse, parse_map, after_end_array, items, items_step, members, if_last, value, value_with}
+use Rattle.json.specs.Json.{Json, parse_map, after_end_array, items, items_step, members, if_last, value}
 use Rattle.json.proofs.Found.{Some_inj, not_found}
 use Rattle.json.proofs.Grammar.{closed_array, items_end, items_more, value-begin_array, value_is}
 use Rattle.serde_json.specs.Data as tree
 use Rattle.serde_json.specs.Data.{Data}
 use Rattle.serde_json.specs.Find.{as_str}
 use Rattle.serde_json.specs.Read.{of_items, of_json, of_members, number_of, read}
-use Rattle.request.specs.Input.{pair_of, pair_of_items, pair_with, pairs_after, pairs_of, pairs_of_items}
+use Rattle.request.specs.Input.{pair_of, pair_with, pairs_after, pairs_of, pairs_of_items}
 use Rattle.request.specs.InputTokens.{input_tokens, pair_before, pairs_before}
 use Rattle.workspace.specs.Workspaces.{Pair}
 

@@ -1,9 +1,9 @@
 -- The tokens of an array of pairs, as they are taken one pair after another.
-use Rattle.std.proofs.Common.{◌≡◌, ◌∙◌, ℕ, Bool, true, false, List, [], ◌∷◌, ◌++◌, Option, Some, None, drop, refl, ap, ap₂, sym}
+use Rattle.std.proofs.Common.{◌≡◌, ◌∙◌, ℕ, true, false, List, [], ◌∷◌, ◌++◌, Some, None, drop, refl, ap, ap₂, sym}
 use Rattle.std.proofs.lemmas.Bool.{and_parts, both_ways}
 use Rattle.std.proofs.lemmas.List.Folds.{list_all-append}
 use Rattle.std.specs.List.{list_all}
-use Rattle.json.specs.Token.{Token, begin_array, end_array, string}
+use Rattle.json.specs.Token.{Token, begin_array, end_array}
 use Rattle.json.specs.Json.{after_end_array}
 use Rattle.request.specs.InputTokens.{BeginsPair, input_tokens, pair_before, pairs_before}
 use Rattle.workspace.specs.Workspaces.{Pair, is_file}

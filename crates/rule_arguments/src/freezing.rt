@@ -1,6 +1,6 @@
 //! Freezing what a call of a rule gives.
-ghost use Rattle.std.specs.Prelude.{◌≡◌, Ok, Err, MatchResult, option_copied};
-ghost use Rattle.ticks.specs.Ticking.{Says, FaultOr};
+ghost use Rattle.std.specs.Prelude.{Ok, Err, option_copied};
+ghost use Rattle.ticks.specs.Ticking.{Says};
 ghost use Rattle.targets.specs.RuleCalls.{given_as};
 ghost use Rattle.rule_arguments.specs.Freezing.{frozen_option, frozen_for};
 

@@ -1,5 +1,5 @@
 -- Labels of targets that the package has declared.
-use Rattle.std.proofs.Common.{◌≡◌, ◌∙◌, ℕ, true, List, Option, Some, None, if◌then◌else◌, ap, sym, refl}
+use Rattle.std.proofs.Common.{◌≡◌, ◌∙◌, ℕ, true, List, Some, None, if◌then◌else◌, ap, sym, refl}
 use Rattle.std.specs.Prelude.{map, option_and_then}
 use Rattle.std.specs.Map.{lookup}
 use Rattle.std.specs.Str.{bytes_eq}

@@ -1,8 +1,7 @@
 //! The call of a rule.
-ghost use Rattle.std.specs.Prelude.{◌≡◌, Ok, Err, Some, MatchResult};
-ghost use Rattle.ticks.specs.Ticking.{FaultOr};
+ghost use Rattle.std.specs.Prelude.{Ok, Err, Some};
 ghost use Rattle.operations.specs.Arguments.{given};
-ghost use Rattle.operations.specs.States.{Does, Stays, Gives};
+ghost use Rattle.operations.specs.States.{Does, Gives};
 ghost use Rattle.targets.specs.RuleCalls.{declares};
 ghost use Rattle.rule_calls.specs.Called.{target_of, target_read, call, Calls};
 

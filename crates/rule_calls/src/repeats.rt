@@ -1,6 +1,5 @@
 //! Labels that stand twice in a list that is given.
 ghost use Rattle.std.specs.Prelude.{◌≡◌, ◌&&◌, IfOk, true, false};
-ghost use Rattle.std.specs.List.{list_any};
 ghost use Rattle.targets.specs.RuleCalls.{is_given, repeats, repeats_label, repeats_given};
 
 use analysis::label_key;

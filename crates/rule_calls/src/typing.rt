@@ -1,8 +1,7 @@
 //! Values of attributes, out of what is given for them.
-ghost use Rattle.std.specs.Prelude.{◌≡◌, ℕ, List, Ok, Err, MatchResult};
+ghost use Rattle.std.specs.Prelude.{ℕ, List, Ok, Err};
 ghost use Rattle.values.specs.Seeing.{seen};
 ghost use Rattle.values.specs.Shape.{shape};
-ghost use Rattle.ticks.specs.Ticking.{FaultOr};
 ghost use Rattle.values.specs.declared.cells.Cell.{Cell};
 ghost use Rattle.operations.specs.Items.{or_fault};
 ghost use Rattle.operations.specs.States.{Gives};

@@ -1,6 +1,5 @@
 -- What a run begins with.
 use Rattle.std.specs.Prelude.{◌≡◌, ℕ, List, [], length, replicate, None}
-use Rattle.program_tree.specs.Resolved.{Program}
 use Rattle.meaning.specs.Functions.{Files, functions}
 use Rattle.operations.specs.declared.state.State.{State}
 use Rattle.loading.specs.Loads.{Path, Name}

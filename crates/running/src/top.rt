@@ -1,5 +1,5 @@
 //! Runs, and what they come to.
-ghost use Rattle.std.specs.Prelude.{◌≡◌, Ok, Err, IfOk, MatchResult, slice_index_or, []};
+ghost use Rattle.std.specs.Prelude.{◌≡◌, Ok, Err, IfOk, MatchResult};
 ghost use Rattle.meaning.specs.Functions.{Files};
 ghost use Rattle.meaning.specs.Calls.{top_meaning};
 ghost use Rattle.meaning.specs.StatementCode.{code_of};

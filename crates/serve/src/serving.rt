@@ -1,9 +1,8 @@
 //! A whole request: from the words and the input to the report that is written.
 
-ghost use Rattle.std.specs.Prelude.{◌≡◌, ◌≢◌, ◌⊎◌, ◌<◌, ◌≤◌, IfErr, IfOk, IfSome, OnOk, Err, None};
+ghost use Rattle.std.specs.Prelude.{◌≡◌, ◌≢◌, ◌⊎◌, ◌<◌, IfErr, IfOk, IfSome, OnOk, Err, None};
 ghost use Rattle.std.specs.Prelude.{map};
 ghost use Rattle.std.specs.Prelude.{true};
-ghost use Rattle.std.specs.Io.KnownBytes.{IsAtEnd};
 ghost use Rattle.devices.specs.Devices.{Failed};
 ghost use Rattle.request.specs.Asked.{Asked, asked, asked_by};
 ghost use Rattle.serve.specs.Requests.{AsksFor, AsksForOthers, AsksTooMany, BeginsAnswer};

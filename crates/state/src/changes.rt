@@ -2,12 +2,12 @@
 //! `index` and `large`.
 ghost use Rattle.std.specs.Prelude.{◌≡◌, ◌++◌, Ok, Err, Some, None, MatchResult, IfOk, OnOk};
 ghost use Rattle.ticks.specs.Ticking.{FaultOr};
-ghost use Rattle.heap.specs.Cells.{list_changed, dict_changed, indexed, keyed, joined};
+ghost use Rattle.heap.specs.Cells.{list_changed, dict_changed, indexed, keyed};
 ghost use Rattle.values.specs.Shape.{shape};
-ghost use Rattle.values.specs.Seeing.{seen, item_value, group_items};
-ghost use Rattle.operations.specs.States.{Does, Stays, changed};
+ghost use Rattle.values.specs.Seeing.{item_value, group_items};
+ghost use Rattle.operations.specs.States.{Does, changed};
 ghost use Rattle.operations.specs.Reading.{number_in, key_in, sequence_in, of_type};
-ghost use Rattle.operations.specs.Changes.{append, extend, set_item, set_in, extended};
+ghost use Rattle.operations.specs.Changes.{append, extend, set_item};
 
 use crate::reading::{key_of, number_of, sequence_of};
 use crate::rooms::room;

@@ -1,9 +1,9 @@
 //! Equality, and membership of lists and tuples.
-ghost use Rattle.std.specs.Prelude.{◌≡◌, Ok, Err, MatchResult};
+ghost use Rattle.std.specs.Prelude.{Ok, Err};
 ghost use Rattle.ticks.specs.Ticking.{SaysKind};
 ghost use Rattle.values.specs.Seeing.{item_value, group_items};
 ghost use Rattle.visits.specs.Equal.{equal_at};
-ghost use Rattle.operations.specs.States.{DoesKind, Stays};
+ghost use Rattle.operations.specs.States.{DoesKind};
 ghost use Rattle.operations.specs.Equality.{equals, among};
 
 use heap::Heap;

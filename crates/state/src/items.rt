@@ -1,10 +1,9 @@
 //! Items of strings, lists, tuples and dicts.
-ghost use Rattle.std.specs.Prelude.{◌≡◌, ◌<◌, ◌∷◌, [], Ok, Err, Some, None, MatchResult, IfOk};
+ghost use Rattle.std.specs.Prelude.{◌≡◌, ◌<◌, ◌∷◌, [], Ok, Err, Some, None, IfOk};
 ghost use Rattle.std.specs.Prelude.{option_copied};
-ghost use Rattle.ticks.specs.Ticking.{FaultOr};
-ghost use Rattle.values.specs.Seeing.{seen, item_value, group_items, table_entries, option_value};
-ghost use Rattle.operations.specs.States.{Does, Stays, Gives};
-ghost use Rattle.operations.specs.Reading.{number_in, key_in, of_type};
+ghost use Rattle.values.specs.Seeing.{seen, item_value, group_items, table_entries};
+ghost use Rattle.operations.specs.States.{Does, Gives};
+ghost use Rattle.operations.specs.Reading.{of_type};
 ghost use Rattle.operations.specs.Making.{text};
 ghost use Rattle.operations.specs.Items.{item, item_in, item_at, value_at, key_item, byte_at};
 ghost use Rattle.operations.specs.Items.{byte_text, found};

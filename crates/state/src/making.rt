@@ -1,13 +1,12 @@
 //! New lists, tuples and dicts, and what comprehensions and displays put into them.
-ghost use Rattle.std.specs.Prelude.{◌≡◌, Ok, Err, MatchResult};
-ghost use Rattle.ticks.specs.Ticking.{FaultOr};
+ghost use Rattle.std.specs.Prelude.{◌≡◌, Ok, Err};
 ghost use Rattle.values.specs.Shape.{shape};
-ghost use Rattle.values.specs.Seeing.{seen, item_value, table_entries, option_value};
+ghost use Rattle.values.specs.Seeing.{seen, item_value};
 ghost use Rattle.values.specs.Keyed.{has_key};
-ghost use Rattle.operations.specs.Reading.{key_in, of_type};
-ghost use Rattle.operations.specs.States.{Does, Stays};
+ghost use Rattle.operations.specs.Reading.{key_in};
+ghost use Rattle.operations.specs.States.{Does};
 ghost use Rattle.operations.specs.Making.{new_list, new_tuple, new_dict, placed, collect, keep};
-ghost use Rattle.operations.specs.Making.{enter, entries_in, unless_there, is_held};
+ghost use Rattle.operations.specs.Making.{enter, entries_in, is_held};
 
 use crate::changes::set_key;
 use heap::Heap;

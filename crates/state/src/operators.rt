@@ -5,13 +5,11 @@ ghost use Rattle.ticks.specs.Ticking.{FaultOr};
 ghost use Rattle.values.specs.Shape.{shape};
 ghost use Rattle.values.specs.Seeing.{seen, item_value, group_items};
 ghost use Rattle.printing.specs.Repr.{fits};
-ghost use Rattle.operations.specs.States.{Does, Stays, Gives};
-ghost use Rattle.operations.specs.Reading.{number_in, of_type};
-ghost use Rattle.operations.specs.Making.{placed, make};
+ghost use Rattle.operations.specs.States.{Does, Gives};
 ghost use Rattle.operations.specs.Changes.{extension, extended};
-ghost use Rattle.heap.specs.Cells.{after, joined_items};
-ghost use Rattle.operations.specs.Operators.{number_fault, new_number, key_sum, plus, add_in_place};
-ghost use Rattle.operations.specs.Operators.{extended_or_sum, calculated, calculate, number_value};
+ghost use Rattle.heap.specs.Cells.{joined_items};
+ghost use Rattle.operations.specs.Operators.{new_number, key_sum, plus, add_in_place};
+ghost use Rattle.operations.specs.Operators.{calculated, calculate, number_value};
 ghost use Rattle.operations.specs.Operators.{negative, key_order, order_in, compare};
 ghost use Rattle.state.specs.Sizes.{sum_within};
 

@@ -1,6 +1,6 @@
 //! What a value is, where an operation asks for one type.
 ghost use Rattle.std.specs.Prelude.{◌≡◌, option_copied, Some, None, MatchOption};
-ghost use Rattle.values.specs.Seeing.{seen, group_items, table_entries};
+ghost use Rattle.values.specs.Seeing.{seen, group_items};
 ghost use Rattle.operations.specs.Reading.{number_in, key_in, string_in, sequence_in};
 
 use plain::Text;

@@ -1,6 +1,5 @@
 //! Whether a list may be extended, which is known before anything is copied.
-ghost use Rattle.std.specs.Prelude.{◌≡◌, Ok, Err, Some, None, List, Result, MatchResult};
-ghost use Rattle.ticks.specs.Ticking.{FaultOr};
+ghost use Rattle.std.specs.Prelude.{◌≡◌, Ok, Err, Some, None, List, Result};
 ghost use Rattle.heap.specs.Cells.{list_changed, list_refusal, joined};
 ghost use Rattle.values.specs.Shape.{value_of};
 ghost use Rattle.values.specs.Seeing.{item_value, group_items};

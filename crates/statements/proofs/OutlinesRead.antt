@@ -4,13 +4,13 @@ use Rattle.std.proofs.lemmas.Bool.Decides.{nat_tests}
 use Rattle.statements.specs.declared.outline.Open.{Open}
 use Rattle.grammar.specs.Tree.{text}
 use Rattle.lexer.specs.Layout.{◌>>=◌}
-use Rattle.grammar.specs.Statements.{Simple, assigns, assigns_at, increases, increases_at, evaluates, passes, breaks, continues, returns, returns_list, Body, block, inline, Form, loads, simple, defines, if_head, elif_head, else_head, for_head}
+use Rattle.grammar.specs.Statements.{Simple, evaluates, Body, block, inline, Form, loads, simple, defines, if_head, elif_head, else_head, for_head}
 use Rattle.grammar.specs.FormReading.{form_reads}
 use Rattle.grammar.specs.Depth.{form_depth}
 use Rattle.grammar.specs.Places.{Place, top_of_module, top_of_build, in_function, in_loop, stands, simple_stands, inside_of, body_stands, follows, takes_else, early_enough, still_early, opens}
 use Rattle.grammar.specs.Blocks.{Block, Laid}
 use Rattle.grammar.specs.BlockReading as reading
-use Rattle.grammar.specs.BlockReading.{Around, if_fits, form_there, ended, with_line, with_head, headed, formed, in_block, read_lines, outermost, file_reads}
+use Rattle.grammar.specs.BlockReading.{Around, if_fits, ended, with_line, with_head, headed, formed, in_block, read_lines, outermost, file_reads}
 use Rattle.statements.specs.Outlines as outline
 use Rattle.statements.specs.Outlines.{simple_shape, body_of, formed_of, form_outline, outline_of, place_of, down_to, pass, first_of, stepped}
 use Rattle.grammar.proofs.FilesRead.{block_here, outer_block}

@@ -1,5 +1,5 @@
 //! The texts of one byte, made once.
-ghost use Rattle.std.specs.Prelude.{◌≡◌, ◌<◌, ◌∷◌, [], string_bytes, IfOk};
+ghost use Rattle.std.specs.Prelude.{◌≡◌, ◌<◌, ◌∷◌, [], IfOk};
 ghost use Rattle.strings.specs.Indexes.{byte_texts};
 
 use crate::text::AsciiText;

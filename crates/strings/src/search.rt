@@ -1,5 +1,5 @@
 //! Whether and where bytes stand in a text: of the language's texts, and of any `str`.
-ghost use Rattle.std.specs.Prelude.{◌≡◌, ◌↔◌, IsTrue};
+ghost use Rattle.std.specs.Prelude.{◌≡◌};
 ghost use Rattle.strings.specs.Affixes.{begins, ends};
 ghost use Rattle.strings.specs.Parts.{is_part, first_place};
 

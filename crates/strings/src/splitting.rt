@@ -1,6 +1,6 @@
 //! The parts of a text between occurrences of a separator.
-ghost use Rattle.std.specs.Prelude.{◌≡◌, ◌<◌, ◌≤◌, ◌+◌, ◌∷◌, [], true, length, IfOk, MatchOption};
-ghost use Rattle.std.specs.Prelude.{Some, None, nat_lt, if◌then◌else◌};
+ghost use Rattle.std.specs.Prelude.{◌≡◌, ◌<◌, ◌+◌, ◌∷◌, [], length, IfOk, MatchOption};
+ghost use Rattle.std.specs.Prelude.{Some, None};
 ghost use Rattle.strings.specs.Answers.{Answers};
 ghost use Rattle.strings.specs.Splitting.{parts, split_of, count_within};
 

@@ -2,7 +2,7 @@
 ghost use Rattle.std.specs.Prelude.{◌≡◌, Ok, MatchResult};
 ghost use Rattle.ticks.specs.Ticking.{FaultOr};
 ghost use Rattle.operations.specs.Arguments.{given};
-ghost use Rattle.contexts.specs.Actions.{method_call, declare_file, write, run, run_shell, run_of};
+ghost use Rattle.contexts.specs.Actions.{method_call, declare_file, write, run};
 
 use crate::declaring::declare_file;
 use crate::mnemonics::Mnemonics;

@@ -2,8 +2,8 @@
 ghost use Rattle.std.specs.Prelude.{◌≡◌, Ok, Err, Some, MatchResult, IfOk};
 ghost use Rattle.ticks.specs.Ticking.{FaultOr};
 ghost use Rattle.operations.specs.Arguments.{given};
-ghost use Rattle.workspace.specs.Labels.{LabelParts, label_path};
-ghost use Rattle.contexts.specs.Actions.{declare_file, declared, below, file_named};
+ghost use Rattle.workspace.specs.Labels.{label_path};
+ghost use Rattle.contexts.specs.Actions.{declare_file, declared, file_named};
 
 use calls::argument;
 use contexts::Work;

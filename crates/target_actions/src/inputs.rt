@@ -1,14 +1,10 @@
 //! What else an action is given: inputs, words and a mnemonic.
-ghost use Rattle.std.specs.Prelude.{◌≡◌, ◌∷◌, [], Ok, Err, Some, None, MatchResult, option_copied};
-ghost use Rattle.std.specs.Prelude.{option_and_then};
+ghost use Rattle.std.specs.Prelude.{◌≡◌, Ok, Err, Some, option_copied};
 ghost use Rattle.std.specs.List.{list_all};
-ghost use Rattle.values.specs.Seeing.{seen, group_items};
-ghost use Rattle.values.specs.Shape.{shape};
-ghost use Rattle.ticks.specs.Ticking.{FaultOr};
-ghost use Rattle.operations.specs.Reading.{string_in, sequence_in};
+ghost use Rattle.values.specs.Seeing.{group_items};
 ghost use Rattle.operations.specs.States.{Gives};
-ghost use Rattle.contexts.specs.Actions.{inputs_in, shown_inputs, leaf_inputs, words_in};
-ghost use Rattle.contexts.specs.Actions.{mnemonic_in, if_mnemonic, is_mnemonic, is_letter, file_in};
+ghost use Rattle.contexts.specs.Actions.{inputs_in, leaf_inputs, words_in};
+ghost use Rattle.contexts.specs.Actions.{mnemonic_in, is_mnemonic, is_letter, file_in};
 ghost use Rattle.contexts.specs.Actions.{files_from, depset_from};
 ghost use Rattle.operations.specs.Depsets.{all_in};
 ghost use Rattle.operations.specs.Instances.{only_files};

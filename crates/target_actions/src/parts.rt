@@ -1,8 +1,7 @@
 //! Files and strings out of values.
-ghost use Rattle.std.specs.Prelude.{◌≡◌, ◌++◌, ◌∷◌, [], Ok, Err, Some, None, MatchResult};
+ghost use Rattle.std.specs.Prelude.{◌≡◌, Ok, Err, Some, None, MatchResult};
 ghost use Rattle.std.specs.Prelude.{option_copied};
 ghost use Rattle.values.specs.Seeing.{seen, group_items};
-ghost use Rattle.values.specs.Shape.{shape};
 ghost use Rattle.ticks.specs.Ticking.{FaultOr};
 ghost use Rattle.operations.specs.Depsets.{all_in, put_last};
 ghost use Rattle.operations.specs.Reading.{string_in};

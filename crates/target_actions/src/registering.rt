@@ -1,12 +1,11 @@
 //! Actions that are registered, and `ctx.actions.write`.
-ghost use Rattle.std.specs.Prelude.{◌≡◌, ◌∷◌, [], Ok, Err, Some, None, MatchResult, IfOk, map};
-ghost use Rattle.std.specs.Prelude.{option_copied};
+ghost use Rattle.std.specs.Prelude.{◌≡◌, Ok, Err, Some, None, MatchResult, IfOk, map};
 ghost use Rattle.std.specs.List.{list_all};
 ghost use Rattle.ticks.specs.Ticking.{FaultOr};
 ghost use Rattle.operations.specs.Arguments.{given};
 ghost use Rattle.calls.specs.Parameters.{taken};
 ghost use Rattle.contexts.specs.Works.{is_among, repeats};
-ghost use Rattle.contexts.specs.Actions.{registered, write, write_with, written, write_parameters};
+ghost use Rattle.contexts.specs.Actions.{registered, write, written, write_parameters};
 ghost use Rattle.contexts.specs.Actions.{file_write, file_in};
 ghost use Rattle.operations.specs.Reading.{string_in};
 ghost use Rattle.values.specs.Shape.{shape};

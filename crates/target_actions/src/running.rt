@@ -1,12 +1,11 @@
 //! `ctx.actions.run` and `ctx.actions.run_shell`.
-ghost use Rattle.std.specs.Prelude.{◌≡◌, ◌∷◌, [], Ok, Err, Some, None, MatchResult, map};
+ghost use Rattle.std.specs.Prelude.{◌≡◌, Ok, Err, Some, None, MatchResult, map};
 ghost use Rattle.std.specs.Prelude.{option_copied, codes};
 ghost use Rattle.values.specs.Seeing.{seen, group_items};
-ghost use Rattle.values.specs.Shape.{shape};
 ghost use Rattle.ticks.specs.Ticking.{FaultOr};
 ghost use Rattle.operations.specs.Arguments.{given};
 ghost use Rattle.operations.specs.Reading.{sequence_in};
-ghost use Rattle.operations.specs.States.{Gives, then_give};
+ghost use Rattle.operations.specs.States.{Gives};
 ghost use Rattle.calls.specs.Parameters.{taken, got_at};
 ghost use Rattle.contexts.specs.Actions.{run_of, run_with, run_parameters, some_outputs, action_of};
 ghost use Rattle.contexts.specs.Actions.{needed};

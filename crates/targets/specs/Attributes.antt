@@ -1,6 +1,6 @@
 -- Attributes of rules, and what a target has for them (Bazel documentation, "Rules", "Attributes"
 -- and the module `attr`; docs/PROFILE.md, "Attributes").
-use Rattle.std.specs.Prelude.{ℕ, Bool, false, not, ◌&&◌, ◌||◌, nat_eq, List, [], ◌∷◌, Option, Some}
+use Rattle.std.specs.Prelude.{ℕ, Bool, false, not, ◌&&◌, ◌||◌, nat_eq, List, [], ◌∷◌, Some}
 use Rattle.std.specs.Prelude.{None, is_some, codes, bytes_eq}
 use Rattle.std.specs.List.{flat_map, list_all}
 use Rattle.workspace.specs.Labels.{LabelParts}

@@ -1,7 +1,6 @@
 //! How a string begins and ends.
-ghost use Rattle.std.specs.Prelude.{◌≡◌, Ok, Err, Some, None, MatchResult};
-ghost use Rattle.ticks.specs.Ticking.{FaultOr};
-ghost use Rattle.operations.specs.States.{Does, Stays};
+ghost use Rattle.std.specs.Prelude.{Ok, Err, Some};
+ghost use Rattle.operations.specs.States.{Does};
 ghost use Rattle.operations.specs.Strings.{starts_with, ends_with};
 
 use operands::Operand;

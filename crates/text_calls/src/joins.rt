@@ -1,9 +1,9 @@
 //! Strings joined.
-ghost use Rattle.std.specs.Prelude.{◌≡◌, ◌++◌, ◌∷◌, [], Ok, Err, Some, None, MatchResult, map};
+ghost use Rattle.std.specs.Prelude.{◌≡◌, Ok, Err, Some, None, MatchResult, map};
 ghost use Rattle.strings.specs.Joining.{join_of};
 ghost use Rattle.ticks.specs.Ticking.{FaultOr};
 ghost use Rattle.values.specs.Seeing.{seen, group_items};
-ghost use Rattle.operations.specs.States.{Does, Stays, Gives, then_give};
+ghost use Rattle.operations.specs.States.{Does, Gives, then_give};
 ghost use Rattle.operations.specs.Reading.{string_in};
 ghost use Rattle.operations.specs.Making.{text};
 ghost use Rattle.operations.specs.Depsets.{all_in, put_last};

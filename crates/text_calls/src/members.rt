@@ -1,8 +1,8 @@
 //! Membership.
-ghost use Rattle.std.specs.Prelude.{◌≡◌, Ok, Err, Some, None, MatchResult, is_some};
+ghost use Rattle.std.specs.Prelude.{Ok, Err, Some, None, is_some};
 ghost use Rattle.ticks.specs.Ticking.{SaysKind};
 ghost use Rattle.values.specs.Seeing.{seen, item_value, table_entries};
-ghost use Rattle.operations.specs.States.{DoesKind, GivesKind, Stays};
+ghost use Rattle.operations.specs.States.{DoesKind, GivesKind};
 ghost use Rattle.operations.specs.Reading.{key_in, of_type};
 ghost use Rattle.operations.specs.Equality.{is_key_of};
 ghost use Rattle.operations.specs.Strings.{member, held_in, part_of};

@@ -1,10 +1,9 @@
 //! The parts of a string, as a list of the language.
-ghost use Rattle.std.specs.Prelude.{◌≡◌, ◌++◌, ◌∷◌, [], Ok, Err, Some, None, MatchResult, IfOk};
+ghost use Rattle.std.specs.Prelude.{◌≡◌, ◌++◌, ◌∷◌, [], Ok, Err, Some, None, IfOk};
 ghost use Rattle.std.specs.Prelude.{OnOk, map};
 ghost use Rattle.strings.specs.Splitting.{split_of};
-ghost use Rattle.ticks.specs.Ticking.{FaultOr};
 ghost use Rattle.values.specs.Seeing.{seen};
-ghost use Rattle.operations.specs.States.{Does, Stays, Gives, then_give};
+ghost use Rattle.operations.specs.States.{Does, Gives, then_give};
 ghost use Rattle.operations.specs.Reading.{string_in, of_type};
 ghost use Rattle.operations.specs.Making.{text};
 ghost use Rattle.operations.specs.Strings.{split, or_string_fault, string_fault};

@@ -2,12 +2,12 @@
 //! count. Where what was noted of a value fits in the levels and the ticks that are left, its visit
 //! is one comparison; else it is walked, which finds the first fault.
 ghost use Rattle.std.specs.Prelude.{◌≡◌, Ok, MatchResult, true, false};
-ghost use Rattle.ticks.specs.Ticking.{Says, FaultOr, after_tick, entered};
+ghost use Rattle.ticks.specs.Ticking.{Says, after_tick, entered};
 ghost use Rattle.values.specs.Tree.{branch, trees, pairs};
 ghost use Rattle.values.specs.View.{tree_of, node_branch};
 ghost use Rattle.leaves.specs.Leaves.{can_freeze};
 ghost use Rattle.visits.specs.Revisit.{AtOnce, Goes, visit_at, visited, branch_visited};
-ghost use Rattle.visits.specs.Revisit.{all_visited, entry_visited, slot_visited, leaf_visited};
+ghost use Rattle.visits.specs.Revisit.{all_visited, entry_visited, slot_visited};
 ghost use Rattle.visits.specs.Revisit.{values_in};
 
 use indexmap::IndexSet;

@@ -1,4 +1,4 @@
-use Rattle.std.proofs.Common.{◌≡◌, length, take}
+use Rattle.std.proofs.Common.{length, take}
 use Rattle.edges.specs.Rows.{IsRow}
 use Rattle.edges.proofs.Marks.{Marked}
 use Rattle.edges.proofs.graph_test.mark_row.Given as goal
