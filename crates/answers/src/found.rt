@@ -86,7 +86,7 @@ where
         graph,
     };
     let edges = graph.edges();
-    let Ok(ends) = team.shelving.ends(alloc, team.workers.get(), edges.nodes()) else {
+    let Ok(ends) = team.shelving.ends(alloc, team.workers, edges.nodes()) else {
         return Err(NoReport::NoMemory);
     };
     match run_on(rt, alloc, edges, &analysis, ends, team.gate) {

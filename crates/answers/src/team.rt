@@ -10,14 +10,14 @@ use std::sync::Wait;
 
 /// Makes a shelf, from which workers take the labels whose dependencies are done.
 pub trait Shelving<S: Shelf> {
-    /// So many ends of one shelf, for a graph of so many nodes.
+    /// As many ends of one shelf as there are workers, for a graph of so many nodes.
     ///
     /// # Errors
     ///
     /// `NoMemory` where memory was refused; nothing is kept then.
-    fn ends(&self, alloc: Global, workers: usize, nodes: usize) -> Result<Vec<S>, NoMemory>
-        requires workers { workers < 65 }
+    fn ends(&self, alloc: Global, workers: Workers, nodes: usize) -> Result<Vec<S>, NoMemory>
         ensures count { IfOk result (λ v. vec_len v ≡ workers) }
+        ensures within { IfOk result (λ v. (0 < vec_len v) × (vec_len v < 65)) }
         ensures nodes { IfOk result (λ v. AreEnds S.nodes nodes v.items) };
 }
 
@@ -29,7 +29,7 @@ impl Shelving<StealShelf> for Deques {
     fn ends(
         &self,
         alloc: Global,
-        workers: usize,
+        workers: Workers,
         nodes: usize,
     ) -> Result<Vec<StealShelf>, NoMemory> {
         StealShelf::ends(alloc, workers, nodes)
@@ -47,7 +47,7 @@ impl<'r, R: Wait> Shelving<LockShelf<'r, R>> for OneQueue<'r, R> {
     fn ends(
         &self,
         alloc: Global,
-        workers: usize,
+        workers: Workers,
         nodes: usize,
     ) -> Result<Vec<LockShelf<'r, R>>, NoMemory> {
         LockShelf::ends(self.rt, alloc, workers, nodes)

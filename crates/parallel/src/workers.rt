@@ -1,5 +1,5 @@
 //! How many threads work.
-ghost use Rattle.std.specs.Prelude.{◌≡◌, ◌≤◌, ◌<◌, ◌⊎◌, ◌↔◌, IfSome, None};
+ghost use Rattle.std.specs.Prelude.{◌≡◌, ◌≤◌, ◌<◌, ◌⊎◌, ◌↔◌, max, min, IfSome, None};
 
 use std::marker::Model;
 
@@ -36,9 +36,18 @@ impl Workers {
     /// How many.
     pub fn get(self) -> usize
         ensures value { result ≡ self }
-        ensures some { 1 ≤ result }
+        ensures least { 1 ≤ result }
         ensures most { result ≤ 64 }
     {
         self.count as usize
+    }
+
+    /// As many of them as can be of use for so many places: no more than there are places, but one
+    /// at least.
+    pub fn useful(self, places: usize) -> Workers
+        ensures value { result ≡ max 1 (min self places) }
+    {
+        let count = self.count.min(places as u64).max(1);
+        Workers { count }
     }
 }

@@ -60,7 +60,7 @@ where
         (HasOutcomes (A.cycle a) (A.step a) (A.fits a) graph.now.deps) }
     ensures threads { result ≡ Err Refused.NoThread → 1 < workers }
 {
-    let workers = useful_workers(workers.get(), graph.acyclic());
+    let workers = workers.useful(graph.acyclic());
     match StealShelf::ends(alloc, workers, graph.nodes()) {
         Ok(ends) => run_on(rt, alloc, graph, analyse, ends, gate),
         Err(_) => Err(Refused::NoMemory),
@@ -112,17 +112,6 @@ where
     Ok(gather(board, graph, analyse, passes, cycle))
 }
 
-/// How many of so many workers can be of use for so many nodes: no more than there are nodes, but
-/// one at least.
-fn useful_workers(workers: usize, nodes: usize) -> usize
-    requires { 0 < workers }
-    ensures some { 0 < result }
-    ensures most { result ≤ workers }
-    ensures few { result ≤ max 1 nodes }
-{
-    workers.min(nodes.max(1))
-}
-
 /// Lets the ends go that are more than there are nodes that are not cyclic, but keeps one.
 fn keep_useful<S: Shelf>(graph: &Edges, ends: &mut Vec<S>)
     requires some { 0 < vec_len ends.old }
@@ -132,7 +121,7 @@ fn keep_useful<S: Shelf>(graph: &Edges, ends: &mut Vec<S>)
     ensures few { vec_len ends.new ≤ max 1 graph.now.acyclic }
     ensures shelves { AreEnds S.nodes (length graph.now.deps) ends.new.items }
 {
-    ends.truncate(useful_workers(ends.len(), graph.acyclic()));
+    ends.truncate(graph.acyclic().max(1));
 }
 
 /// All passes of the board, after workers at these ends have ended.

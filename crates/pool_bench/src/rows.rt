@@ -117,7 +117,7 @@ fn run_by<R: Threads + Wait + Sync>(
     match kind {
         Kind::Deques => run(rt, alloc, graph, &busy, workers, &NoGate).ok(),
         Kind::Queue => {
-            let ends = LockShelf::ends(rt, alloc, workers.get(), graph.nodes()).ok()?;
+            let ends = LockShelf::ends(rt, alloc, workers, graph.nodes()).ok()?;
             run_on(rt, alloc, graph, &busy, ends, &NoGate).ok()
         }
     }

@@ -6,7 +6,7 @@ ghost use Rattle.pool_tests.specs.Examples.{bracketed};
 use crate::analysers::{Nesting, Text};
 use crate::runs::run_at;
 use edges::Adjacency;
-use pool::{Edges, Gathered, NoGate, NodeId, StealShelf};
+use pool::{Edges, Gathered, NoGate, NodeId, StealShelf, Workers};
 use std::alloc::{AllocError, Global};
 use std::sync::Wait;
 use std::test::Fail;
@@ -30,7 +30,8 @@ fn texts<R: Threads + Wait + Sync>(rt: &R, alloc: Global, graph: &Edges) -> Opti
 {
     let nodes = graph.nodes();
     let nesting = Nesting { nodes };
-    let ends = StealShelf::ends(alloc, 2, nodes).ok()?;
+    let workers = Workers::new(2)?;
+    let ends = StealShelf::ends(alloc, workers, nodes).ok()?;
     let ran = run_at(rt, alloc, graph, &nesting, ends, &NoGate)?;
     match ran {
         Ok(gathered) => Some(gathered),

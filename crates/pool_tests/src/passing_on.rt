@@ -3,9 +3,33 @@ ghost use Rattle.std.specs.Prelude.{◌≡◌, ◌<◌, IfOk, IfSome, vec_len};
 ghost use Rattle.std.specs.List.{All};
 
 use board::NoMemory;
-use pool::{LockShelf, NodeId, Shelf, StealShelf};
+use pool::{LockShelf, NodeId, Shelf, StealShelf, Workers};
 use std::alloc::{AllocError, Global};
+use std::sync::Wait;
 use std::test::Fail;
+
+/// So many ends of one queue, from 1 to 64, for a graph with so many nodes.
+fn queue<R: Wait>(
+    rt: &R,
+    alloc: Global,
+    workers: u64,
+    nodes: usize,
+) -> Option<Vec<LockShelf<'_, R>>>
+    ensures some { IfSome result (λ v. 0 < vec_len v) }
+    ensures nodes { IfSome result (λ v. All (λ e. e ≡ nodes) v.items) }
+{
+    let workers = Workers::new(workers)?;
+    LockShelf::ends(rt, alloc, workers, nodes).ok()
+}
+
+/// So many deques, from 1 to 64, for a graph with so many nodes.
+fn deques(alloc: Global, workers: u64, nodes: usize) -> Option<Vec<StealShelf>>
+    ensures some { IfSome result (λ v. 0 < vec_len v) }
+    ensures nodes { IfSome result (λ v. All (λ e. e ≡ nodes) v.items) }
+{
+    let workers = Workers::new(workers)?;
+    StealShelf::ends(alloc, workers, nodes).ok()
+}
 
 /// One of the ends.
 fn pop_end<S: Shelf>(ends: &mut Vec<S>, nodes: usize) -> Option<S>
@@ -40,7 +64,7 @@ fn are_passed_on<S: Shelf>(mut ends: Vec<S>, nodes: usize) -> Result<bool, NoMem
 
 #[test]
 fn what_one_end_of_a_queue_was_given_another_gives(rt: HostRuntime) -> Result<(), Fail> {
-    let Ok(ends) = LockShelf::ends(&rt, rt.alloc(), 2, 4) else {
+    let Some(ends) = queue(&rt, rt.alloc(), 2, 4) else {
         panic!(rt; "no memory")
     };
     assert!(rt; matches!(are_passed_on(ends, 4), Ok(true)));
@@ -49,7 +73,7 @@ fn what_one_end_of_a_queue_was_given_another_gives(rt: HostRuntime) -> Result<()
 
 #[test]
 fn what_one_deque_was_given_another_steals(rt: HostRuntime) -> Result<(), Fail> {
-    let Ok(ends) = StealShelf::ends(rt.alloc(), 2, 4) else {
+    let Some(ends) = deques(rt.alloc(), 2, 4) else {
         panic!(rt; "no memory")
     };
     assert!(rt; matches!(are_passed_on(ends, 4), Ok(true)));
@@ -83,7 +107,7 @@ fn are_taken_in_order<S: Shelf>(mut ends: Vec<S>, nodes: usize) -> Result<bool, 
 
 #[test]
 fn a_worker_steals_from_the_next_one_first(rt: HostRuntime) -> Result<(), Fail> {
-    let Ok(ends) = StealShelf::ends(rt.alloc(), 3, 4) else {
+    let Some(ends) = deques(rt.alloc(), 3, 4) else {
         panic!(rt; "no memory")
     };
     assert!(rt; matches!(are_taken_in_order(ends, 4), Ok(true)));
@@ -116,7 +140,7 @@ fn are_kept_in_order<S: Shelf>(mut ends: Vec<S>, nodes: usize) -> Result<bool, N
 
 #[test]
 fn a_worker_keeps_what_it_puts_on_an_empty_deque(rt: HostRuntime) -> Result<(), Fail> {
-    let Ok(ends) = StealShelf::ends(rt.alloc(), 2, 4) else {
+    let Some(ends) = deques(rt.alloc(), 2, 4) else {
         panic!(rt; "no memory")
     };
     assert!(rt; matches!(are_kept_in_order(ends, 4), Ok(true)));
@@ -145,7 +169,7 @@ fn are_spread<S: Shelf>(mut ends: Vec<S>, first: &[NodeId], nodes: usize) -> Res
 
 #[test]
 fn ends_of_a_queue_give_each_first_node_once(rt: HostRuntime) -> Result<(), Fail> {
-    let Ok(ends) = LockShelf::ends(&rt, rt.alloc(), 2, 4) else {
+    let Some(ends) = queue(&rt, rt.alloc(), 2, 4) else {
         panic!(rt; "no memory")
     };
     let first = [NodeId::of(2), NodeId::of(0), NodeId::of(3)];
@@ -155,7 +179,7 @@ fn ends_of_a_queue_give_each_first_node_once(rt: HostRuntime) -> Result<(), Fail
 
 #[test]
 fn deques_give_each_first_node_once(rt: HostRuntime) -> Result<(), Fail> {
-    let Ok(ends) = StealShelf::ends(rt.alloc(), 2, 4) else {
+    let Some(ends) = deques(rt.alloc(), 2, 4) else {
         panic!(rt; "no memory")
     };
     let first = [NodeId::of(2), NodeId::of(0), NodeId::of(3)];
@@ -175,11 +199,8 @@ fn first_nodes(alloc: Global, nodes: usize) -> Result<Vec<NodeId>, AllocError>
 }
 
 /// So many deques, from 1 to 64, that give so many first nodes together.
-fn spread_deques(alloc: Global, workers: usize, nodes: usize) -> Option<Vec<StealShelf>> {
-    if workers == 0 || workers > 64 {
-        return None;
-    }
-    let mut ends = StealShelf::ends(alloc, workers, nodes).ok()?;
+fn spread_deques(alloc: Global, workers: u64, nodes: usize) -> Option<Vec<StealShelf>> {
+    let mut ends = deques(alloc, workers, nodes)?;
     let first = first_nodes(alloc, nodes).ok()?;
     StealShelf::spread(&mut ends, &first, nodes).ok()?;
     Some(ends)
@@ -202,7 +223,7 @@ fn times_given(alloc: Global, mut ends: Vec<StealShelf>, nodes: usize) -> Option
 }
 
 /// Whether so many deques give each of so many first nodes once.
-fn is_each_given_once(alloc: Global, workers: usize, nodes: usize) -> bool {
+fn is_each_given_once(alloc: Global, workers: u64, nodes: usize) -> bool {
     let Some(ends) = spread_deques(alloc, workers, nodes) else {
         return false;
     };
@@ -226,7 +247,7 @@ fn few_and_many_deques_give_each_first_node_once(rt: HostRuntime) -> Result<(), 
 }
 
 /// How many of so many deques give a node, each asked once, where there are so many first nodes.
-fn givers(alloc: Global, workers: usize, nodes: usize) -> Option<usize> {
+fn givers(alloc: Global, workers: u64, nodes: usize) -> Option<usize> {
     let mut ends = spread_deques(alloc, workers, nodes)?;
     let mut givers: usize = 0;
     for end in ends.iter_mut() {

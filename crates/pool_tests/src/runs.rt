@@ -10,7 +10,8 @@ use fakes::ends::{Fault, Watch, all_faulty, all_twice, all_watched};
 use fakes::gates::{Both, Counting, Meeting};
 use fakes::graphs::{apart, chain, diamond, small};
 use pool::{
-    Analyse, Edges, Gate, Gathered, LockShelf, NoGate, NodeId, Refused, Shelf, StealShelf, run_on,
+    Analyse, Edges, Gate, Gathered, LockShelf, NoGate, NodeId, Refused, Shelf, StealShelf, Workers,
+    run_on,
 };
 use std::alloc::{AllocError, Global};
 use std::sync::Wait;
@@ -81,9 +82,7 @@ where
     ensures { IfSome result (λ a. IfOk a (λ g. g.nodes ≡ length graph.now.deps)) }
 {
     let (kind, workers) = by;
-    if workers == 0 || workers > 64 {
-        return None;
-    }
+    let workers = Workers::new(workers as u64)?;
     let nodes = graph.nodes();
     match kind {
         Kind::Lock => {
@@ -471,7 +470,8 @@ fn ends_in_use<R: Threads + Wait + Sync>(rt: &R, alloc: Global, graph: Made) -> 
         return None;
     }
     let watch = Watch::of(alloc, nodes).ok()?;
-    let ends = LockShelf::ends(rt, alloc, 64, nodes).ok()?;
+    let workers = Workers::new(64)?;
+    let ends = LockShelf::ends(rt, alloc, workers, nodes).ok()?;
     let ends = all_watched(alloc, ends, nodes, &watch).ok()?;
     let answer = run_on(rt, alloc, &graph.edges, &mixing, ends, &NoGate);
     if answer.is_ok() {
@@ -517,7 +517,8 @@ fn with_fault<R: Threads + Wait + Sync>(
         Fault::Loses => Watch::with_turns(alloc, nodes, 10_000).ok()?,
         Fault::Refuses => Watch::of(alloc, nodes).ok()?,
     };
-    let ends = StealShelf::ends(alloc, 2, nodes).ok()?;
+    let workers = Workers::new(2)?;
+    let ends = StealShelf::ends(alloc, workers, nodes).ok()?;
     let ends = all_faulty(alloc, ends, nodes, at, fault).ok()?;
     let ends = all_watched(alloc, ends, nodes, &watch).ok()?;
     let refused = run_on(rt, alloc, &graph.edges, &mixing, ends, &watch).err();

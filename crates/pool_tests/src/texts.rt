@@ -2,21 +2,17 @@
 use crate::analysers::Nesting;
 use crate::runs::run_at;
 use fakes::graphs::diamond;
-use pool::{NoGate, NodeId, StealShelf};
+use pool::{NoGate, NodeId, StealShelf, Workers};
 use std::alloc::Global;
 use std::sync::Wait;
 use std::test::Fail;
 use std::thread::Threads;
 
 /// Whether the last node of the diamond has its text, by so many workers.
-fn is_nested<R: Threads + Wait + Sync>(
-    rt: &R,
-    alloc: Global,
-    workers: usize,
-) -> Result<bool, Fail> {
-    if workers == 0 || workers > 64 {
+fn is_nested<R: Threads + Wait + Sync>(rt: &R, alloc: Global, workers: u64) -> Result<bool, Fail> {
+    let Some(workers) = Workers::new(workers) else {
         return Ok(false);
-    }
+    };
     let Some(graph) = diamond(alloc)? else {
         return Ok(false);
     };

@@ -1,6 +1,6 @@
 -- What a typed getter reads of a number's text, against the number within its limits.
-use Rattle.std.proofs.Common.{◌≡◌, ℕ, ◌≤◌, Bool, true, false, List, Option, Some, None, refl, sym, ◌∙◌, arith, Result, Ok, Err, subst, ap}
-use Rattle.std.specs.Prelude.{option_and_then}
+use Rattle.std.proofs.Common.{◌≡◌, ℕ, ◌<◌, ◌≤◌, ◌⊎◌, inl, inr, Bool, true, false, List, Option, Some, None, refl, sym, ◌∙◌, arith, Result, Ok, Err, subst, ap}
+use Rattle.std.specs.Prelude.{option_and_then, IfSome, ◌↔◌}
 use Rattle.std.specs.Str.Parse.{ParsesUnsigned, digits_value, without_leading_plus}
 use Rattle.clap.specs.Matches.{ReadsOne}
 use Rattle.clap.specs.Values.{IsUnsignedIn}
@@ -56,3 +56,16 @@ refused E G only low high (Some t) r none some beyond = not_in_text low high t (
         let least = h.2 in
         let most = h.3 in
         beyond v e (omega arith) (omega arith)
+
+-- what is made of the number that is read, where it is made of numbers within the limits alone
+pub made : (E : Type 0) (G : List ℕ → Result ℕ E → Type 0) → Only G → (low high : ℕ) (o : Option (List ℕ)) (r : Option ℕ)
+    → (o ≡ None → r ≡ None) → ((t : List ℕ) → o ≡ Some t → ReadsOne G t r)
+    → (v : ℕ) → r ≡ Some v → (w : Option ℕ) → IfSome w (λ n. n ≡ v) → (w ≡ None ↔ ((v < low) ⊎ (high < v)))
+    → w ≡ option_and_then (number_within low high) o
+made E G only low high o r none some v is None same beyond =
+    sym (refused E G only low high o r none some
+    (λ u other least most. let alike : u ≡ v = cc in elim (beyond.0 refl) [ inl few ↦ omega arith | inr many ↦ omega arith ]))
+made E G only low high o r none some v is (Some n) same beyond =
+    let not_few : v < low → ⊥ = λ few. let never : Some n ≡ None = beyond.1 (inl few) in cc in
+    let not_many : high < v → ⊥ = λ many. let never : Some n ≡ None = beyond.1 (inr many) in cc in
+    ap (λ (m : ℕ). Some m) same ∙ sym (taken E G only low high o r none some v is (omega (arith, not_few)) (omega (arith, not_many)))

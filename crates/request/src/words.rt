@@ -7,7 +7,8 @@ ghost use Rattle.clap.specs.Words.{fault_of, app_of, found_of, one_of, rows_of, 
 ghost use Rattle.clap.specs.declared.builder.value_parser.ValueParser.TheVariants as vp;
 ghost use Rattle.request.specs.Asked.{asked, asked_by, each_label, written_by};
 ghost use Rattle.request.specs.CommandLine.{Takes, command_line, texts_of, labels_rule};
-ghost use Rattle.request.specs.CommandLine.{number_within, steps_rule, workers_rule, written};
+ghost use Rattle.request.specs.CommandLine.{number_within, steps_rule, workers_of, workers_rule};
+ghost use Rattle.request.specs.CommandLine.{written};
 
 use clap::builder::ValueParser;
 use clap::error::ErrorKind;
@@ -41,7 +42,7 @@ pub enum WordsStop {
 /// What the command takes from the words.
 #[derive(Drop)]
 struct Taken<'a> {
-    workers: u64,
+    workers: Workers,
     steps: u64,
     labels: Vec<&'a str>,
 }
@@ -115,6 +116,15 @@ fn number(matches: &ArgMatches<'_>, id: &str, low: u64, high: u64) -> Option<u64
     }
 }
 
+/// The number of workers, where it is one. As with [`number`], the command has refused all others.
+fn workers(matches: &ArgMatches<'_>) -> Option<Workers>
+    ensures within { IfSome result (λ w. (1 ≤ w) × (w ≤ 64)) }
+    ensures value { result ≡ workers_of (rows_of (found_of matches.now)) }
+{
+    let count = matches.get_one::<u64>("workers")?;
+    Workers::new(count)
+}
+
 /// The texts that stand for labels.
 fn texts<'a>(alloc: Global, matches: &ArgMatches<'a>) -> Result<Vec<&'a str>, AllocError>
     ensures { IfOk result (λ v. map (λ s. s.now) v.items
@@ -163,7 +173,7 @@ fn take_words<'a, S: AsStr>(alloc: Global, words: &'a [S]) -> Result<Taken<'a>, 
         Ok(matches) => matches,
         Err(stop) => return Err(stop),
     };
-    let Some(workers) = number(&matches, "workers", 1, 64) else {
+    let Some(workers) = workers(&matches) else {
         return Err(WordsStop::Words);
     };
     let Some(steps) = number(&matches, "steps", 1, 1_000_000_000) else {
@@ -215,12 +225,9 @@ pub fn read_words<S: AsStr>(alloc: Global, words: &[S]) -> Result<Request, Words
         Ok(taken) => taken,
         Err(stop) => return Err(stop),
     };
-    let Some(workers) = Workers::new(taken.workers) else {
-        unreachable!()
-    };
     match read_labels(alloc, taken.labels.as_slice()) {
         Ok(labels) => Ok(Request {
-            workers,
+            workers: taken.workers,
             steps: taken.steps,
             labels,
         }),

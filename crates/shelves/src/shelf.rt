@@ -4,6 +4,7 @@ ghost use Rattle.std.specs.List.{All};
 
 use board::NoMemory;
 use edges::NodeId;
+use parallel::Workers;
 use std::alloc::{AllocError, Global};
 use std::collections::VecDeque;
 use std::marker::Model;
@@ -110,13 +111,14 @@ impl<'r, R: Wait> LockShelf<'r, R> {
     pub fn ends(
         rt: &'r R,
         alloc: Global,
-        workers: usize,
+        workers: Workers,
         nodes: usize,
     ) -> Result<Vec<LockShelf<'r, R>>, NoMemory>
         ensures count { IfOk result (λ v. length v.items ≡ workers) }
+        ensures within { IfOk result (λ v. (0 < length v.items) × (length v.items < 65)) }
         ensures nodes { IfOk result (λ v. All (λ e. e ≡ nodes) v.items) }
     {
-        match LockShelf::ends_of(rt, alloc, workers, nodes) {
+        match LockShelf::ends_of(rt, alloc, workers.get(), nodes) {
             Ok(ends) => Ok(ends),
             Err(_) => Err(NoMemory),
         }

@@ -11,6 +11,7 @@ use board::NoMemory;
 use crossbeam_deque::protocol::{Lesson, Outcome, Protocol, Split};
 use crossbeam_deque::{Pass, Steal, Stealer, Worker};
 use edges::NodeId;
+use parallel::Workers;
 use std::alloc::{AllocError, Global};
 use std::marker::{Brand, Model};
 use std::sync::Arc;
@@ -389,17 +390,17 @@ fn made(own: Own, others: Vec<Other>, nodes: usize) -> StealShelf
 }
 
 impl StealShelf {
-    /// An end for each of up to 64 workers, for a graph with so many nodes.
+    /// An end for each worker, for a graph with so many nodes.
     ///
     /// # Errors
     ///
     /// `NoMemory` where memory was refused; nothing is kept then.
-    pub fn ends(alloc: Global, workers: usize, nodes: usize) -> Result<Vec<StealShelf>, NoMemory>
-        requires workers { workers < 65 }
+    pub fn ends(alloc: Global, workers: Workers, nodes: usize) -> Result<Vec<StealShelf>, NoMemory>
         ensures count { IfOk result (λ v. length v.items ≡ workers) }
+        ensures within { IfOk result (λ v. (0 < length v.items) × (length v.items < 65)) }
         ensures nodes { IfOk result (λ v. All (λ e. e ≡ nodes) v.items) }
     {
-        match StealShelf::ends_of(alloc, workers, nodes) {
+        match StealShelf::ends_of(alloc, workers.get(), nodes) {
             Ok(ends) => Ok(ends),
             Err(_) => Err(NoMemory),
         }
