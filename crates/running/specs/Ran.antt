@@ -4,9 +4,8 @@ use Rattle.meaning.specs.Outcome.{Fault, Final}
 use Rattle.ticks.specs.declared.ticks.Kind.{Kind}
 use Rattle.values.specs.declared.value.Value.{Value}
 use Rattle.language.specs.declared.whole.Whole.{Whole}
-use Rattle.loading.specs.Loads.{Path}
+use Rattle.loading.specs.Loads.{Path, path_at}
 use Rattle.loading.specs.declared.faults.Placed.{Placed}
-use Rattle.evaluation.specs.Worlds.{path_at}
 
 -- a fault stands in a file, by its path
 abbrev pub by_path : List Path → Fault Kind → Placed Kind

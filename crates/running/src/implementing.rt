@@ -43,11 +43,13 @@ fn call<'a, L: Link<'a>, P: Place<'a>>(
     id: MadeId,
     whole: &mut Whole<'a, P::Work>,
 ) -> Result<Result<Value, Placed<Kind>>, AllocError>
-    ensures { (files : Files) → codes_of setting.now.codes.now ≡ code_of files
+    ensures means { (files : Files) → codes_of setting.now.codes.now ≡ code_of files
         → (let meant = ran setting.now.paths.now (function_meaning
         (language (L.linked setting.now.linked.now) (P.place setting.now.place.now)) files
         (function_id id) context_alone whole.old) in
         IfOk result (λ r. MatchResult r (λ v. meant ≡ Ok (v, whole.new)) (λ p. meant ≡ Err p))) }
+    ensures compiled { IfOk result (λ r. ∥ ((files : Files)
+        × (codes_of setting.now.codes.now ≡ code_of files)) ∥₁) }
 {
     let arguments = with_context(setting.alloc)?;
     run(setting, Start::Function(function_id(id), arguments), whole)
@@ -55,7 +57,8 @@ fn call<'a, L: Link<'a>, P: Place<'a>>(
 
 /// Calls the function that implements a target's rule, with `ctx` alone, from the beginning of the
 /// target: the value that it returned and the state after it, with the work of its place, or its
-/// fault. A fault of the call itself stands at the `def`.
+/// fault. A fault of the call itself stands at the `def`. The codes are those of files: what these
+/// mean is what it answers.
 ///
 /// # Errors
 ///
@@ -68,7 +71,7 @@ pub fn call_implementation<'a, L: Link<'a>, P: Place<'a>>(
 ) -> Result<Result<(Value, Box<Whole<'a, P::Work>>), Placed<Kind>>, AllocError>
 where
     P::Work: Drop,
-    ensures { (files : Files) → codes_of setting.now.codes.now ≡ code_of files
+    ensures means { (files : Files) → codes_of setting.now.codes.now ≡ code_of files
         → (let meant = ran setting.now.paths.now (function_meaning
         (language (L.linked setting.now.linked.now) (P.place setting.now.place.now)) files
         (function_id id) context_alone
@@ -79,6 +82,8 @@ where
         })) in
         IfOk result (λ r. MatchResult r (λ c. meant ≡ Ok (c.0, c.1.value))
         (λ p. meant ≡ Err p))) }
+    ensures compiled { IfOk result (λ r. ∥ ((files : Files)
+        × (codes_of setting.now.codes.now ≡ code_of files)) ∥₁) }
 {
     let mut whole: Box<Whole<'a, P::Work>> = first_of_target(setting, label, work)?;
     match call(setting, id, &mut whole)? {

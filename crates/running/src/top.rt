@@ -7,7 +7,7 @@ ghost use Rattle.frames.specs.Seen.{fault_seen};
 ghost use Rattle.language.specs.Language.{language};
 ghost use Rattle.call_stack.specs.LinkedView.{codes_of};
 ghost use Rattle.machine.specs.StartView.{meaning_of};
-ghost use Rattle.evaluation.specs.Worlds.{path_at};
+ghost use Rattle.loading.specs.Loads.{path_at};
 ghost use Rattle.evaluation.specs.Runs.{program_at, state_of_file};
 ghost use Rattle.running.specs.Given.{AreOf};
 ghost use Rattle.running.specs.Ran.{by_path, ran, top_ran};
@@ -56,11 +56,13 @@ pub(crate) fn run<'a, L: Link<'a>, P: Place<'a>>(
     start: Start<'a>,
     whole: &mut Whole<'a, P::Work>,
 ) -> Result<Result<Value, Placed<Kind>>, AllocError>
-    ensures { (files : Files) → codes_of setting.now.codes.now ≡ code_of files
+    ensures means { (files : Files) → codes_of setting.now.codes.now ≡ code_of files
         → (let meant = ran setting.now.paths.now (meaning_of
         (language (L.linked setting.now.linked.now) (P.place setting.now.place.now)) files
         start.entry whole.old) in
         IfOk result (λ r. MatchResult r (λ v. meant ≡ Ok (v, whole.new)) (λ p. meant ≡ Err p))) }
+    ensures compiled { IfOk result (λ r. ∥ ((files : Files)
+        × (codes_of setting.now.codes.now ≡ code_of files)) ∥₁) }
 {
     let world: World<'a, L, P> = World {
         alloc: setting.alloc,
@@ -76,7 +78,7 @@ pub(crate) fn run<'a, L: Link<'a>, P: Place<'a>>(
 }
 
 /// Runs the top level of a file, from its beginning: the state after it, with the work of its
-/// place, or its fault.
+/// place, or its fault. The codes are those of files: what these mean is what it answers.
 ///
 /// # Errors
 ///
@@ -88,7 +90,7 @@ pub fn run_top<'a, L: Link<'a>, P: Place<'a>>(
 ) -> Result<Result<Box<Whole<'a, P::Work>>, Placed<Kind>>, AllocError>
 where
     P::Work: Drop,
-    ensures { (files : Files) → codes_of setting.now.codes.now ≡ code_of files
+    ensures means { (files : Files) → codes_of setting.now.codes.now ≡ code_of files
         → AreOf files file.now.number file.now.names.now file.now.functions
         → (let meant = top_ran setting.now.paths.now (top_meaning
         (language (L.linked setting.now.linked.now) (P.place setting.now.place.now)) files
@@ -99,6 +101,8 @@ where
           work = work;
         })) in
         IfOk result (λ r. MatchResult r (λ b. meant ≡ Ok b.value) (λ p. meant ≡ Err p))) }
+    ensures compiled { IfOk result (λ r. ∥ ((files : Files)
+        × (codes_of setting.now.codes.now ≡ code_of files)) ∥₁) }
 {
     let mut whole: Box<Whole<'a, P::Work>> = first_of_file(setting, file, work)?;
     match run(setting, Start::TopLevel(file.number as usize), &mut whole)? {

@@ -17,7 +17,7 @@ returns-in-Ok g c =
     let top = c.in_ok-top.ensures in
     let file = c.file-file.ensures in
     let own = own_file read _ _ _ _ _ _ file.number file.names file.functions top.own in
-    let h = c.in_ok-whole.ensures read c.linked.ensures own in
+    let h = c.in_ok-whole.ensures.means read c.linked.ensures own in
     let ran = rw c.in-Ok.is at h in
     ap (λ qs. run_build e.limit read qs (of_build qs) known c.args.path.now c.args.number) (sym c.paths-paths.ensures.value)
     ∙ targets_are e.limit read ps known (of_build ps) c.args.path.now c.args.number (build_place (rule_of ps known))
@@ -34,7 +34,7 @@ returns g c =
     let top = c.in_ok-top.ensures in
     let file = c.file-file.ensures in
     let own = own_file read _ _ _ _ _ _ file.number file.names file.functions top.own in
-    let h = c.in_ok-whole.ensures read c.linked.ensures own in
+    let h = c.in_ok-whole.ensures.means read c.linked.ensures own in
     let ran = rw c.in-Err.is at h in
     ap (λ qs. run_build e.limit read qs (of_build qs) known c.args.path.now c.args.number) (sym c.paths-paths.ensures.value)
     ∙ no_targets_are e.limit read ps known (of_build ps) c.args.path.now c.args.number (build_place (rule_of ps known))

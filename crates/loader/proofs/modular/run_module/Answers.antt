@@ -13,7 +13,7 @@ returns-in-Ok g c =
     let top = c.in_ok-top.ensures in
     let file = c.file-file.ensures in
     let own = own_file read _ _ _ _ _ _ file.number file.names file.functions top.own in
-    let h = c.in_ok-whole.ensures read c.linked.ensures own in
+    let h = c.in_ok-whole.ensures.means read c.linked.ensures own in
     let ran = rw c.in-Ok.is at h in
     subst (λ ps. IfOk c.ended.result (λ r. r ≡ run_module e.limit read ps of_module known c.args.path.now c.args.number))
     c.paths-paths.ensures.value
@@ -29,7 +29,7 @@ returns g c =
     let top = c.in_ok-top.ensures in
     let file = c.file-file.ensures in
     let own = own_file read _ _ _ _ _ _ file.number file.names file.functions top.own in
-    let h = c.in_ok-whole.ensures read c.linked.ensures own in
+    let h = c.in_ok-whole.ensures.means read c.linked.ensures own in
     let ran = rw c.in-Err.is at h in
     module_fails e.limit read c.paths-paths.result.now known of_module c.args.path.now c.args.number c.file-file.result.path.now
     c.file-file.result.number c.new.result (file.path ∙ top.path_is) (file.number ∙ top.number_is) c.new.ensures

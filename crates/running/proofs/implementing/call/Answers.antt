@@ -19,11 +19,11 @@ same_call : {W E : Type 0} (paths : List Path) (t : Whole W) (m n : Final (Whole
 same_call paths t m n result e h =
     subst (λ x. IfOk result (λ r. MatchResult r (λ v. ran paths x ≡ Ok (v, t)) (λ p. ran paths x ≡ Err p))) e h
 
-pub returns : goal.returns
-returns g c files e =
+pub returns-clause-means : goal.returns-clause-means
+returns-clause-means g c files e =
     let s = c.args.setting.now in
     let ops = language (g.L.Link.linked s.linked.now) (g.P.Place.place s.place.now) in
     same_call s.paths.now _ _ _ c.run.result
     (ap (λ f. function_meaning ops files f (arguments_seen c.in_ok-arguments.arguments) c.args.whole.now) c.function_id.ensures
     ∙ ap (λ a. function_meaning ops files (function_id c.args.id) a c.args.whole.now) c.in_ok-arguments.ensures)
-    (c.run.ensures files e)
+    (c.run.ensures.means files e)
