@@ -6,9 +6,8 @@ use Rattle.std.specs.Map.{lookup}
 use Rattle.std.specs.BTreeMap.{BTreeMap, Updates, get, get_by, is_at}
 use Rattle.std.specs.Cmp.Lexicographic.{slice_cmp}
 use Rattle.std.specs.Ordering.{nat_cmp, ordering_then}
-use Rattle.workspace.specs.Labels.{LabelParts, label_text}
+use Rattle.workspace.specs.Labels.{LabelParts, label_text, same_label}
 use Rattle.targets.specs.Checks.{Dependency as Seen, dependency_of, first_of}
-use Rattle.targets.specs.RuleCalls.{same_label}
 use Rattle.std.specs.Borrow.{Bor}
 use Rattle.targets.proofs.Facts.{cases_of, same_label-same}
 use Rattle.analysis.specs.Keyed.{Key, key_label, key_cmp, text_digest, IsKey}

@@ -12,9 +12,8 @@ use Rattle.std.specs.Str.{bytes_eq}
 use Rattle.std.specs.declared.cmp.Ordering.{Ordering}
 use Rattle.std.specs.declared.cmp.Ordering.TheVariants.{Less, Equal, Greater}
 use Rattle.depsets.specs.Keys.{keep}
-use Rattle.workspace.specs.Labels.{LabelParts, label_text}
+use Rattle.workspace.specs.Labels.{LabelParts, label_text, same_label}
 use Rattle.targets.proofs.Facts.{same_label-same}
-use Rattle.targets.specs.RuleCalls.{same_label}
 use Rattle.analysis.specs.Keyed.{Key, key_label, key_cmp, text_digest, IsKey, IsNoted}
 
 abbrev pub is_equal : Ordering → Bool

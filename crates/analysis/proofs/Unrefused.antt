@@ -1,10 +1,9 @@
 -- Attributes that ask nothing of targets refuse none.
 use Rattle.std.proofs.Common.{◌≡◌, Bool, true, false, ◌||◌, List, [], ◌∷◌, Option, Some, None, if◌then◌else◌, ap, sym, refl, true≢false}
 use Rattle.std.specs.List.{list_any}
-use Rattle.workspace.specs.Labels.{LabelParts}
+use Rattle.workspace.specs.Labels.{LabelParts, same_label}
 use Rattle.targets.specs.Attributes.{labels_in}
 use Rattle.targets.specs.Checks.{Dependency, offers_all, refusal, refused, dependency_of, first_of, first_in_value, first_refused}
-use Rattle.targets.specs.RuleCalls.{same_label}
 use Rattle.targets.specs.declared.attributes.AttributeValue.{AttributeValue}
 use Rattle.targets.specs.declared.attributes.NamedAttribute.{NamedAttribute}
 use Rattle.targets.specs.declared.outcome.Outcome.TheVariants.{Source, Done, Failed}

@@ -7,8 +7,7 @@ use Rattle.std.specs.BTreeSet.{BTreeSet, contains}
 use Rattle.std.specs.Cmp.Lexicographic.{slice_cmp}
 use Rattle.std.specs.Ordering.{nat_cmp, ordering_then}
 use Rattle.std.specs.declared.cmp.Ordering.{Ordering}
-use Rattle.workspace.specs.Labels.{LabelParts, label_text}
-use Rattle.targets.specs.RuleCalls.{same_label}
+use Rattle.workspace.specs.Labels.{LabelParts, label_text, same_label}
 
 -- 31 times what stands before a byte, and the byte
 abbrev pub digest_step : ℕ → ℕ → ℕ

@@ -2,7 +2,7 @@
 ghost use Rattle.std.specs.Prelude.{◌≡◌, IfOk, OnOk};
 ghost use Rattle.depsets.specs.Keys.{keep, keep_all};
 ghost use Rattle.targets.specs.Attributes.{labels_in};
-ghost use Rattle.targets.specs.RuleCalls.{same_label};
+ghost use Rattle.workspace.specs.Labels.{same_label};
 ghost use Rattle.targets.specs.Resolving.{dependencies};
 ghost use Rattle.analysis.specs.Keyed.{IsNoted};
 

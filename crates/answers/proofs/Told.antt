@@ -10,11 +10,10 @@ use Rattle.loader.specs.Loaded.{AreFilesOf}
 use Rattle.answers.specs.Reports.{IsTooMany, Reports}
 use Rattle.std.proofs.lemmas.List.Elements.{All-map}
 use Rattle.actions.specs.Ascending.{AreAscending}
-use Rattle.workspace.specs.Labels.{LabelParts, label_text}
+use Rattle.workspace.specs.Labels.{LabelParts, label_text, same_label}
 use Rattle.workspace.specs.Workspaces.{IsWorkspace, Pair}
 use Rattle.graph.specs.Graphs.{GraphView, IsGraphOf}
 use Rattle.graph.specs.Reached.{IsReached, TooManyReached}
-use Rattle.graph.specs.Same.{same_label}
 use Rattle.targets.specs.declared.outcome.Outcome.{Outcome}
 use Rattle.outcomes.specs.Workspaces.{dependencies, outcome_of}
 use Rattle.pool.specs.Gathered.{GatheredView}

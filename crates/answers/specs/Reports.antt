@@ -1,8 +1,7 @@
 -- Reports on a workspace (docs/REPORT.md; this project's own).
 use Rattle.std.specs.Prelude.{◌≡◌, ℕ, List}
-use Rattle.workspace.specs.Labels.{LabelParts}
+use Rattle.workspace.specs.Labels.{LabelParts, same_label}
 use Rattle.workspace.specs.Workspaces.{Pair}
-use Rattle.graph.specs.Same.{same_label}
 use Rattle.graph.specs.Reached.{TooManyReached}
 use Rattle.outcomes.specs.Workspaces.{dependencies}
 use Rattle.reporting.specs.declared.made.Report.{Report}

@@ -1,14 +1,13 @@
 //! The report on labels of a workspace.
 ghost use Rattle.std.specs.Prelude.{◌≡◌, ◌<◌, ℕ, List, IfOk, Err, length, map};
 ghost use Rattle.std.specs.List.{All};
-ghost use Rattle.workspace.specs.Labels.{LabelParts};
+ghost use Rattle.workspace.specs.Labels.{LabelParts, same_label};
 ghost use Rattle.workspace.specs.Workspaces.{IsWorkspace, Pair};
 ghost use Rattle.reporting.specs.Seen.{nodes_seen};
 ghost use Rattle.loader.specs.Files.{faults};
 ghost use Rattle.loader.specs.Loaded.{AreFilesOf};
 ghost use Rattle.graph.specs.Graphs.{IsGraphOf};
 ghost use Rattle.graph.specs.Reached.{TooManyReached};
-ghost use Rattle.graph.specs.Same.{same_label};
 ghost use Rattle.outcomes.specs.Workspaces.{dependencies};
 ghost use Rattle.answers.specs.Nodes.{AreOutcomesOf, nodes_of};
 ghost use Rattle.label_order.specs.Ordered.{entry_seen};

@@ -1,7 +1,6 @@
 //! What parameters get of arguments.
 ghost use Rattle.std.specs.Prelude.{◌≡◌, ◌∷◌, [], Ok, Err, Some, None, MatchResult, MatchOption};
 ghost use Rattle.std.specs.Prelude.{option_copied};
-ghost use Rattle.ticks.specs.Ticking.{FaultOr};
 ghost use Rattle.operations.specs.Arguments.{given, wanted, optional, named_only};
 ghost use Rattle.operations.specs.Arguments.{all_known, given_for, positions};
 ghost use Rattle.operations.specs.BuiltIns.{argument};
@@ -11,7 +10,7 @@ use making::given_for;
 use operands::Operand;
 use operations::Arguments;
 use plain::Text;
-use values::{Broken, Kind};
+use values::Kind;
 
 /// A parameter: whether it is given by name alone, and whether it may be missing.
 #[derive(Clone, Copy)]
@@ -54,27 +53,24 @@ impl<'a> Parameter<'a> {
 ///
 /// `arity` where there is no argument or more than one position, where it is given both by position
 /// and by name, and where a name is another.
-pub fn argument<'a, 'v>(
-    name: &str,
-    arguments: &Arguments<'a, 'v>,
-) -> Result<&'a Operand<'v>, Broken>
+pub fn argument<'a, 'v>(name: &str, arguments: &Arguments<'a, 'v>) -> Result<&'a Operand<'v>, Kind>
     ensures { MatchResult result (λ v. argument name.now (given arguments.now) ≡ Ok v.now)
-        (λ e. FaultOr (argument name.now (given arguments.now)) e) }
+        (λ k. argument name.now (given arguments.now) ≡ Err k) }
 {
     if !are_all(name, arguments.names) {
-        return Err(Broken::Kind(Kind::Arity));
+        return Err(Kind::Arity);
     }
     let named = given_for(name, arguments.names, arguments.values);
     match arguments.items {
         [] => match named {
             Some(value) => Ok(value),
-            None => Err(Broken::Kind(Kind::Arity)),
+            None => Err(Kind::Arity),
         },
         [value] => match named {
-            Some(_) => Err(Broken::Kind(Kind::Arity)),
+            Some(_) => Err(Kind::Arity),
             None => Ok(value),
         },
-        [_, _, ..] => Err(Broken::Kind(Kind::Arity)),
+        [_, _, ..] => Err(Kind::Arity),
     }
 }
 
@@ -105,12 +101,12 @@ pub fn got<'a, 'v>(
 /// # Errors
 ///
 /// `arity` where an argument is given by name.
-pub fn positions<'a, 'v>(arguments: &Arguments<'a, 'v>) -> Result<&'a [Operand<'v>], Broken>
+pub fn positions<'a, 'v>(arguments: &Arguments<'a, 'v>) -> Result<&'a [Operand<'v>], Kind>
     ensures { MatchResult result (λ vs. positions (given arguments.now) ≡ Ok vs.now)
-        (λ e. FaultOr (positions (given arguments.now)) e) }
+        (λ k. positions (given arguments.now) ≡ Err k) }
 {
     if !arguments.names.is_empty() {
-        return Err(Broken::Kind(Kind::Arity));
+        return Err(Kind::Arity);
     }
     Ok(arguments.items)
 }

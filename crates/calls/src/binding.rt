@@ -2,7 +2,6 @@
 ghost use Rattle.std.specs.Prelude.{◌≡◌, Ok, Err, MatchResult, map, slice_get};
 ghost use Rattle.std.specs.List.{list_any};
 ghost use Rattle.std.specs.Str.{bytes_eq};
-ghost use Rattle.ticks.specs.Ticking.{FaultOr};
 ghost use Rattle.operations.specs.Arguments.{given, bound, all_known, given_for};
 ghost use Rattle.calls.specs.Parameters.{taken, got_from, may_get, may_get_all};
 
@@ -10,7 +9,7 @@ use crate::arguments::Parameter;
 use making::given_for;
 use operations::Arguments;
 use plain::Text;
-use values::{Broken, Kind};
+use values::Kind;
 
 /// Whether the arguments fit the parameters, or `arity`: then `got` gives what each gets.
 ///
@@ -22,20 +21,20 @@ use values::{Broken, Kind};
 pub fn check_arguments(
     parameters: &[Parameter<'_>],
     arguments: &Arguments<'_, '_>,
-) -> Result<(), Broken>
+) -> Result<(), Kind>
     ensures { MatchResult result
         (λ _. bound (map taken parameters.now) (given arguments.now)
         ≡ Ok (got_from 0 (map taken parameters.now) (given arguments.now)))
-        (λ e. FaultOr (bound (map taken parameters.now) (given arguments.now)) e) }
+        (λ k. bound (map taken parameters.now) (given arguments.now) ≡ Err k) }
 {
     if !are_known(parameters, arguments.names) {
-        return Err(Broken::Kind(Kind::Arity));
+        return Err(Kind::Arity);
     }
     if arguments.items.len() > parameters.len() {
-        return Err(Broken::Kind(Kind::Arity));
+        return Err(Kind::Arity);
     }
     if !may_get_all(parameters, arguments) {
-        return Err(Broken::Kind(Kind::Arity));
+        return Err(Kind::Arity);
     }
     Ok(())
 }

@@ -4,7 +4,7 @@ ghost use Rattle.std.specs.Prelude.{OnOk, map};
 ghost use Rattle.values.specs.Visits.{keys_of};
 ghost use Rattle.values.specs.Shape.{shape};
 ghost use Rattle.values.specs.Seeing.{seen, item_value, table_entries};
-ghost use Rattle.operations.specs.States.{Does, Gives};
+ghost use Rattle.operations.specs.States.{Does, Gives, GivesKind};
 ghost use Rattle.operations.specs.Making.{entries_in, none};
 ghost use Rattle.operations.specs.Items.{found, got};
 ghost use Rattle.operations.specs.Methods.{get, keys, values};
@@ -79,18 +79,18 @@ fn found<'a>(
 {
     let key = heap.see_item(key.item());
     if let Some(dict) = dict.lent_seen() {
-        return found_in(&dict, &key);
+        return Ok(found_in(&dict, &key)?);
     }
     match found_in(&heap.see_item(dict.item()), &key) {
         Ok(Some(value)) => Ok(Some(value.into_own()?)),
         Ok(None) => Ok(None),
-        Err(broken) => Err(broken),
+        Err(kind) => Err(Broken::Kind(kind)),
     }
 }
 
 /// The value of a key of what a dict shows, if it is there.
-fn found_in<'a>(dict: &Seen<'a>, key: &Seen<'_>) -> Result<Option<Operand<'a>>, Broken>
-    ensures { Gives (found (entries_in (seen dict.now)) (seen key.now)) result }
+fn found_in<'a>(dict: &Seen<'a>, key: &Seen<'_>) -> Result<Option<Operand<'a>>, Kind>
+    ensures { GivesKind (found (entries_in (seen dict.now)) (seen key.now)) result }
 {
     match dict {
         Seen::Dict(entries) => state::find(*entries, key),
@@ -99,11 +99,11 @@ fn found_in<'a>(dict: &Seen<'a>, key: &Seen<'_>) -> Result<Option<Operand<'a>>, 
 }
 
 /// Where there are no entries, no key has a value.
-fn without_entries<'a>(key: &Seen<'_>) -> Result<Option<Operand<'a>>, Broken>
-    ensures { Gives (found [] (seen key.now)) result }
+fn without_entries<'a>(key: &Seen<'_>) -> Result<Option<Operand<'a>>, Kind>
+    ensures { GivesKind (found [] (seen key.now)) result }
 {
     if key_of(key).is_none() {
-        return Err(Broken::Kind(Kind::Wrong));
+        return Err(Kind::Wrong);
     }
     Ok(None)
 }

@@ -46,7 +46,7 @@ fn call_len(state: &State, arguments: &Arguments<'_, '_>) -> Result<Value, Broke
 {
     match argument("x", arguments) {
         Ok(value) => len(state, value),
-        Err(broken) => Err(broken),
+        Err(kind) => Err(Broken::Kind(kind)),
     }
 }
 
@@ -60,7 +60,7 @@ fn call_str(
 {
     match argument("x", arguments) {
         Ok(value) => str(alloc, state, value),
-        Err(broken) => Err(broken),
+        Err(kind) => Err(Broken::Kind(kind)),
     }
 }
 
@@ -74,7 +74,7 @@ fn call_list(
 {
     match argument("x", arguments) {
         Ok(value) => list(alloc, state, value),
-        Err(broken) => Err(broken),
+        Err(kind) => Err(Broken::Kind(kind)),
     }
 }
 
@@ -84,7 +84,7 @@ fn call_fail(state: &State, arguments: &Arguments<'_, '_>) -> Result<Value, Brok
 {
     match argument("text", arguments) {
         Ok(value) => fail(state, value),
-        Err(broken) => Err(broken),
+        Err(kind) => Err(Broken::Kind(kind)),
     }
 }
 
@@ -97,8 +97,8 @@ fn call_depset(
     ensures { Does (depset (given arguments.now)) state.old result state.new }
 {
     let parameters = depset_parameters();
-    if let Err(broken) = check_arguments(&parameters, arguments) {
-        return Err(broken);
+    if let Err(kind) = check_arguments(&parameters, arguments) {
+        return Err(Broken::Kind(kind));
     }
     let direct = got(arguments, 0, "direct");
     let order = got(arguments, 1, "order");
@@ -148,8 +148,8 @@ fn call_default_info(
         state.new }
 {
     let parameters = [Parameter::named_only("files")];
-    if let Err(broken) = check_arguments(&parameters, arguments) {
-        return Err(broken);
+    if let Err(kind) = check_arguments(&parameters, arguments) {
+        return Err(Broken::Kind(kind));
     }
     default_info(alloc, state, provider, got(arguments, 0, "files"))
 }

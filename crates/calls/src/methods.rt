@@ -40,7 +40,7 @@ pub fn call_method<'a>(
 {
     match positions(arguments) {
         Ok(values) => method_of(alloc, state, method, receiver, values),
-        Err(broken) => Err(broken),
+        Err(kind) => Err(Broken::Kind(kind)),
     }
 }
 
@@ -193,7 +193,7 @@ fn starts_with_one(
         return Err(Broken::Kind(Kind::Wrong));
     };
     match only(items) {
-        Some(front) => starts_with(state, text, front),
+        Some(front) => Ok(starts_with(state, text, front)?),
         None => Err(Broken::Kind(Kind::Arity)),
     }
 }
@@ -206,7 +206,7 @@ fn ends_with_one(state: &State, receiver: Item<'_>, items: &[Operand<'_>]) -> Re
         return Err(Broken::Kind(Kind::Wrong));
     };
     match only(items) {
-        Some(back) => ends_with(state, text, back),
+        Some(back) => Ok(ends_with(state, text, back)?),
         None => Err(Broken::Kind(Kind::Arity)),
     }
 }

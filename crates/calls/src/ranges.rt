@@ -42,7 +42,7 @@ fn range_of(alloc: Global, heap: &Heap, arguments: &Arguments<'_, '_>) -> Result
 {
     match positions(arguments) {
         Ok(values) => range_in(alloc, heap, values),
-        Err(broken) => Err(broken),
+        Err(kind) => Err(Broken::Kind(kind)),
     }
 }
 

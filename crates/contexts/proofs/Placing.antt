@@ -5,9 +5,8 @@ use Rattle.std.proofs.lemmas.Option.{slice_get-map}
 use Rattle.std.specs.Prelude.{if◌then◌else◌, option_map, slice_get}
 use Rattle.indexmap.specs.IndexMap.{IndexMap, Updates, get}
 use Rattle.depsets.proofs.Turns.{drop_at}
-use Rattle.workspace.specs.Labels.{LabelParts}
+use Rattle.workspace.specs.Labels.{LabelParts, same_label}
 use Rattle.targets.specs.Checks.{Dependency}
-use Rattle.targets.specs.RuleCalls.{same_label}
 use Rattle.analysis.specs.Seen.{dependency_seen, dependencies_seen}
 use Rattle.analysis.specs.declared.dependency.Dependency.{Dependency as Lying}
 use Rattle.contexts.specs.Fields.{place_of}

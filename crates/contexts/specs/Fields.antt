@@ -23,9 +23,8 @@ use Rattle.values.specs.declared.value.Value.{Value}
 use Rattle.values.specs.declared.value.Value.TheVariants as value
 use Rattle.operations.specs.Items.{or_fault}
 use Rattle.operations.specs.Making.{none, text}
-use Rattle.workspace.specs.Labels.{LabelParts, label_text}
+use Rattle.workspace.specs.Labels.{LabelParts, label_text, same_label}
 use Rattle.targets.specs.Checks.{Dependency}
-use Rattle.targets.specs.RuleCalls.{same_label}
 use Rattle.targets.specs.TextDicts.{dict_of_texts}
 use Rattle.targets.specs.TextLists.{list_of_texts}
 use Rattle.targets.specs.declared.attributes.AttributeValue.{AttributeValue}

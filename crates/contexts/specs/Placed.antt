@@ -2,9 +2,8 @@
 use Rattle.std.specs.Prelude.{◌≡◌, ℕ, Bool, true, false, List, length, Option, Some, None}
 use Rattle.std.specs.Borrow.{Bor}
 use Rattle.indexmap.specs.IndexMap.{IndexMap, get}
-use Rattle.workspace.specs.Labels.{LabelParts}
+use Rattle.workspace.specs.Labels.{LabelParts, same_label}
 use Rattle.targets.specs.Checks.{Dependency}
-use Rattle.targets.specs.RuleCalls.{same_label}
 use Rattle.contexts.specs.Fields.{place_of}
 
 -- the key of a dependency in the map of places: a package and a name, where they lie

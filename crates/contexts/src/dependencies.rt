@@ -1,6 +1,6 @@
 //! The dependencies of a target, as its implementation has them.
 ghost use Rattle.std.specs.Prelude.{◌≡◌, ◌<◌, IfOk, OnOk, length, option_map, slice_get, Some};
-ghost use Rattle.targets.specs.RuleCalls.{same_label};
+ghost use Rattle.workspace.specs.Labels.{same_label};
 ghost use Rattle.analysis.specs.Seen.{dependency_seen, dependencies_seen};
 ghost use Rattle.contexts.specs.Fields.{place_of};
 ghost use Rattle.contexts.specs.Offered.{instances, instances_at};

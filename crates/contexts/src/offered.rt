@@ -3,7 +3,7 @@ ghost use Rattle.std.specs.Prelude.{◌≡◌, Ok, Err, Some, None, option_map};
 ghost use Rattle.std.specs.Prelude.{option_copied};
 ghost use Rattle.values.specs.Seeing.{seen, item_value};
 ghost use Rattle.values.specs.Shape.{value_of};
-ghost use Rattle.operations.specs.States.{Gives};
+ghost use Rattle.operations.specs.States.{GivesKind};
 ghost use Rattle.contexts.specs.Offered.{instance_of, provider_in, item};
 ghost use Rattle.contexts.specs.Offered.{offers};
 
@@ -11,7 +11,7 @@ use crate::dependencies::Dependencies;
 use analysis::is_of;
 use heap::Heap;
 use operands::Operand;
-use values::{Broken, Frozen, Item, Kind, Leaf, Provider, Seen};
+use values::{Frozen, Item, Kind, Leaf, Provider, Seen};
 
 /// The instance of a provider that the target at a place offers, where it lies.
 ///
@@ -23,15 +23,15 @@ pub fn item<'a, 'b>(
     dependencies: &'a Dependencies<'b>,
     place: usize,
     provider: Item<'_>,
-) -> Result<Operand<'a>, Broken>
-    ensures { Gives (item dependencies.now heap.now place (item_value provider.entry)) result }
+) -> Result<Operand<'a>, Kind>
+    ensures { GivesKind (item dependencies.now heap.now place (item_value provider.entry)) result }
 {
     let Some(provider) = provider_of(&heap.see_item(provider)) else {
-        return Err(Broken::Kind(Kind::Wrong));
+        return Err(Kind::Wrong);
     };
     match lent_instance(dependencies.instances(place), provider) {
         Some(instance) => Ok(instance),
-        None => Err(Broken::Kind(Kind::Key)),
+        None => Err(Kind::Key),
     }
 }
 
@@ -45,11 +45,11 @@ pub fn offers(
     dependencies: &Dependencies<'_>,
     place: usize,
     provider: Item<'_>,
-) -> Result<bool, Broken>
-    ensures { Gives (offers dependencies.now heap.now place (item_value provider.entry)) result }
+) -> Result<bool, Kind>
+    ensures { GivesKind (offers dependencies.now heap.now place (item_value provider.entry)) result }
 {
     let Some(provider) = provider_of(&heap.see_item(provider)) else {
-        return Err(Broken::Kind(Kind::Wrong));
+        return Err(Kind::Wrong);
     };
     Ok(analysis::offers(dependencies.instances(place), provider))
 }

@@ -1,7 +1,7 @@
 //! The calls of `attr.string` and its kin.
 ghost use Rattle.std.specs.Prelude.{◌≡◌, Ok, Err, Some, MatchResult, IfOk, option_copied};
 ghost use Rattle.std.specs.Prelude.{map};
-ghost use Rattle.ticks.specs.Ticking.{Changes, FaultOr};
+ghost use Rattle.ticks.specs.Ticking.{Changes};
 ghost use Rattle.operations.specs.Arguments.{given, bound};
 ghost use Rattle.calls.specs.Parameters.{taken, got_from};
 ghost use Rattle.declaring.specs.AttributeCalls.{attribute_parameters, named, attribute_in};
@@ -37,8 +37,8 @@ pub fn new_attribute(
     ensures { Changes (new_attribute kind (given arguments.now) state.now declared.old) result
         declared.old declared.new }
 {
-    if let Err(broken) = check_attribute(kind, arguments) {
-        return Err(broken);
+    if let Err(refused) = check_attribute(kind, arguments) {
+        return Err(Broken::Kind(refused));
     }
     match attribute_in(alloc, &state.heap, kind, arguments)? {
         Some(attribute) => declare_attribute(alloc, state, declared, attribute),
@@ -47,11 +47,11 @@ pub fn new_attribute(
 }
 
 /// Whether the arguments fit the parameters of a kind, or `arity`.
-fn check_attribute(kind: AttributeKind, arguments: &Arguments<'_, '_>) -> Result<(), Broken>
+fn check_attribute(kind: AttributeKind, arguments: &Arguments<'_, '_>) -> Result<(), Kind>
     ensures { MatchResult result
         (λ _. bound (attribute_parameters kind) (given arguments.now)
         ≡ Ok (got_from 0 (attribute_parameters kind) (given arguments.now)))
-        (λ e. FaultOr (bound (attribute_parameters kind) (given arguments.now)) e) }
+        (λ k. bound (attribute_parameters kind) (given arguments.now) ≡ Err k) }
 {
     match kind {
         AttributeKind::String => check_arguments(&with_values(), arguments),

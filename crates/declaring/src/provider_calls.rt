@@ -39,8 +39,8 @@ pub fn new_provider(
         declared.old declared.new }
 {
     let parameters = provider_parameters();
-    if let Err(broken) = check_arguments(&parameters, arguments) {
-        return Err(broken);
+    if let Err(kind) = check_arguments(&parameters, arguments) {
+        return Err(Broken::Kind(kind));
     }
     let doc = got(arguments, 0, "doc");
     match got(arguments, 1, "fields") {

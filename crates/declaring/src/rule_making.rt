@@ -39,8 +39,8 @@ pub fn new_rule<A: Attributes>(
         (given arguments.now)) result declared.old declared.new }
 {
     let parameters = rule_parameters();
-    if let Err(broken) = check_arguments(&parameters, arguments) {
-        return Err(broken);
+    if let Err(kind) = check_arguments(&parameters, arguments) {
+        return Err(Broken::Kind(kind));
     }
     let Some(implementation) = got(arguments, 0, "implementation") else {
         return Err(Broken::Kind(Kind::Arity));

@@ -5,8 +5,7 @@ use Rattle.std.specs.List.{list_all}
 use Rattle.std.proofs.Math.Dec.{eqb-zero-suc, eqb-suc-zero, eqb-suc-suc}
 use Rattle.std.proofs.lemmas.Option.{same_Some}
 use Rattle.values.specs.View.{FrozenTree}
-use Rattle.loading.specs.Loads.{Name}
-use Rattle.evaluation.specs.Evaluated.{first_of}
+use Rattle.loading.specs.Loads.{Name, first_of}
 use Rattle.evaluation.specs.Naming.{is_unnamed, given_once}
 use Rattle.endings.specs.Called.{IsFirstName, IsCalled}
 

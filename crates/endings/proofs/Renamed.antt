@@ -5,7 +5,7 @@ use Rattle.values.specs.Tree.{Trees, Pairs, Slots, dict, instance, trees, pairs,
 use Rattle.values.specs.View.{FrozenTree, FrozenBranch}
 use Rattle.leaves.specs.declared.leaf.Provider.{Provider}
 use Rattle.keys.specs.declared.key.Key.{Key}
-use Rattle.evaluation.specs.Evaluated.{first_of}
+use Rattle.loading.specs.Loads.{first_of}
 use Rattle.evaluation.specs.Naming.{Naming, named, slot_named, provider_named, trees_named, pairs_named, slots_named}
 
 -- what is made only where it is new is what is wanted, if nothing else was there

@@ -3,7 +3,7 @@ ghost use Rattle.std.specs.Prelude.{◌≡◌, ◌<◌, ◌≤◌, ◌++◌, ◌
 ghost use Rattle.std.specs.Prelude.{is_some, length, min, slice_get, take, unwrap_or};
 ghost use Rattle.std.specs.Prelude.{if◌then◌else◌};
 ghost use Rattle.values.specs.Tree.{dict, instance, list, pairs, slots, trees, tuple};
-ghost use Rattle.evaluation.specs.Evaluated.{first_of};
+ghost use Rattle.loading.specs.Loads.{first_of};
 
 use indexmap::IndexSet;
 use plain::Shared;

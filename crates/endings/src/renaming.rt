@@ -5,7 +5,7 @@
 ghost use Rattle.std.specs.Prelude.{◌≡◌, IfOk, false, map, option_map, unwrap_or};
 ghost use Rattle.values.specs.Tree.{branch};
 ghost use Rattle.values.specs.View.{node_branch};
-ghost use Rattle.evaluation.specs.Evaluated.{first_of};
+ghost use Rattle.loading.specs.Loads.{first_of};
 ghost use Rattle.evaluation.specs.Naming.{branch_named, named, slot_named};
 
 use crate::naming::Naming;

@@ -7,7 +7,7 @@ use Rattle.std.specs.List.{filter}
 use Rattle.values.specs.Shape.{value_of}
 use Rattle.values.specs.View.{FrozenTree}
 use Rattle.values.specs.declared.value.Value.{Value}
-use Rattle.loading.specs.Loads.{Path, Name}
+use Rattle.loading.specs.Loads.{Path, Name, first_of}
 -- What a module hands on: the names of its top level by number, those first that its loads bind;
 -- the frozen values of its globals by the same numbers; the values of the names that its loads
 -- bind; the frozen defaults of its functions; and what it made.
@@ -21,11 +21,6 @@ Known = Path → Option Module
 abbrev pub held : {A : Type 0} → Option (Option A) → Option A
 held None = None
 held (Some o) = o
-
--- the first value that there is, of two that may be
-abbrev pub first_of : {A : Type 0} → Option A → Option A → Option A
-first_of (Some a) later = Some a
-first_of None later = later
 
 -- the value of a module's global, by its number among the frozen ones
 abbrev pub frozen_value : List (Option FrozenTree) → ℕ → Option Value

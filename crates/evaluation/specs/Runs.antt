@@ -28,7 +28,7 @@ use Rattle.operations.specs.declared.state.State.{State}
 use Rattle.language.specs.Place.{Place}
 use Rattle.language.specs.declared.whole.Whole.{Whole}
 use Rattle.language.specs.Language.{language, function_id}
-use Rattle.loading.specs.Loads.{Path, Name}
+use Rattle.loading.specs.Loads.{Path, Name, path_at}
 use Rattle.loading.specs.declared.faults.Placed.{Placed}
 use Rattle.loading.specs.declared.faults.Ending.{Ending}
 use Rattle.loading.specs.declared.faults.Ending.TheVariants.{Faulted, Unnamed}
@@ -39,7 +39,7 @@ use Rattle.targets.specs.declared.target.Target.{Target}
 use Rattle.evaluation.specs.Evaluated.{Module, Known}
 use Rattle.evaluation.specs.Naming.{Naming, unnamed, names_given, all_named, named, slot_named}
 use Rattle.evaluation.specs.declared.made.Made.{Made}
-use Rattle.evaluation.specs.Worlds.{path_at, world}
+use Rattle.evaluation.specs.Worlds.{world}
 
 -- ---- What each place brings: its calls, fields and methods, with the modules that are known; its
 -- work at the beginning; and how what was done is read off its work.

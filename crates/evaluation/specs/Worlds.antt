@@ -1,13 +1,13 @@
 -- What an evaluation knows of the modules before it. Each file of a workspace has a number, its
 -- place among all of them.
 use Rattle.std.specs.Prelude.{ℕ, Bool, ◌&&◌, ◌||◌, nat_eq, List, [], codes, Option, Some, None}
-use Rattle.std.specs.Prelude.{option_map, option_and_then, slice_get, slice_index_or, if◌then◌else◌}
+use Rattle.std.specs.Prelude.{option_map, option_and_then, slice_get, if◌then◌else◌}
 use Rattle.std.specs.List.{list_any, starts_with}
 use Rattle.values.specs.declared.value.Value.{Value}
 use Rattle.operations.specs.Names.{Linked, listed}
 use Rattle.workspace.specs.FileKinds.{package_of}
 use Rattle.workspace.specs.Labels.{is_colon, label_of, label_path}
-use Rattle.loading.specs.Loads.{Path, Name}
+use Rattle.loading.specs.Loads.{Path, Name, path_at}
 use Rattle.evaluation.specs.Evaluated.{Module, Known, global_named, name_value}
 
 -- The text of a load names a file by a label: it begins with `//` or `:` and has a `:` (Bazel
@@ -20,10 +20,6 @@ is_load_text t =
 abbrev pub load_path : Path → List ℕ → Option Path
 load_path path t =
     if is_load_text t then option_map label_path (label_of t (Some (package_of path))) else None
-
--- the path of a file's number, which is empty where there is no such file
-abbrev pub path_at : List Path → ℕ → Path
-path_at paths n = slice_index_or paths n []
 
 -- the defaults of a function, by its number in its module
 abbrev pub defaults_of : ℕ → Option Module → List Value

@@ -7,7 +7,8 @@ ghost use Rattle.operations.specs.Names.{global, set_global, set_loaded, load, d
 ghost use Rattle.operations.specs.Names.{listed, name_value};
 ghost use Rattle.language.specs.Place.{of_state};
 ghost use Rattle.language.specs.Language.{made_id};
-ghost use Rattle.frames.specs.Answers.{Says, id_seen};
+ghost use Rattle.ticks.specs.Ticking.{Says};
+ghost use Rattle.frames.specs.Answers.{id_seen};
 ghost use Rattle.frames.specs.Kept.{defaults_seen};
 
 use crate::functions::made_id;

@@ -9,7 +9,8 @@ ghost use Rattle.language.specs.Language.{method_or_place, place_method, of_plac
 ghost use Rattle.operations.specs.Calls.{built_in_call};
 ghost use Rattle.operations.specs.Fields.{shape_method};
 ghost use Rattle.values.specs.Shape.{shape};
-ghost use Rattle.frames.specs.Answers.{Says, callee_seen, given as machine_given};
+ghost use Rattle.ticks.specs.Ticking.{Says};
+ghost use Rattle.frames.specs.Answers.{callee_seen, given as machine_given};
 
 use crate::world::World;
 use field_names::FieldName;

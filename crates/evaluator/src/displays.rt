@@ -2,7 +2,7 @@
 ghost use Rattle.std.specs.Prelude.{Err};
 ghost use Rattle.operations.specs.Making.{new_list, new_tuple};
 ghost use Rattle.language.specs.Place.{of_state};
-ghost use Rattle.frames.specs.Answers.{Says};
+ghost use Rattle.ticks.specs.Ticking.{Says};
 
 use crate::stacks::all_of;
 use frames::Stack;

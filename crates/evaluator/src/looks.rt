@@ -2,7 +2,7 @@
 ghost use Rattle.std.specs.Prelude.{Some, None};
 ghost use Rattle.values.specs.Seeing.{item_value};
 ghost use Rattle.language.specs.Language.{of_place, target_of, field_of, item_of};
-ghost use Rattle.frames.specs.Answers.{Says};
+ghost use Rattle.ticks.specs.Ticking.{Says};
 
 use crate::world::World;
 use field_names::FieldName;

@@ -3,7 +3,7 @@ ghost use Rattle.std.specs.Prelude.{Ok, Err, Some, None};
 ghost use Rattle.grammar.specs.TreeView.{operator_seen, sign_seen};
 ghost use Rattle.values.specs.Seeing.{item_value};
 ghost use Rattle.language.specs.Language.{target_of, with_target, sign_of};
-ghost use Rattle.frames.specs.Answers.{Says};
+ghost use Rattle.ticks.specs.Ticking.{Says};
 
 use crate::world::World;
 use grammar::{Operator, Sign};
@@ -73,6 +73,9 @@ pub(crate) fn sign<'a, L: Link<'a>, P: Place<'a>>(
             let truth = state::truth(&whole.state, value);
             Ok(Value::Key(Key::Truth(!truth)))
         }
-        Sign::Minus => state::negate(&whole.state, value),
+        Sign::Minus => match state::negate(&whole.state, value) {
+            Ok(value) => Ok(value),
+            Err(kind) => Err(Broken::Kind(kind)),
+        },
     }
 }

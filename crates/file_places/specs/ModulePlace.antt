@@ -1,17 +1,15 @@
 -- What a module has while its top level runs: the calls of `provider`, `rule` and `attr` declare; a
 -- call of a rule is `place` (docs/PROFILE.md, "Rules of all calls").
-use Rattle.std.specs.Prelude.{ℕ, List, Option, Some, None, Result, Ok, Err}
+use Rattle.std.specs.Prelude.{ℕ, List, Option, Some, None, Err}
 use Rattle.leaves.specs.declared.leaf.AttributeKind.{AttributeKind}
 use Rattle.leaves.specs.declared.leaf.BuiltIn.{BuiltIn}
 use Rattle.leaves.specs.declared.leaf.BuiltIn.TheVariants as built_in
 use Rattle.leaves.specs.declared.leaf.Leaf.{Leaf}
 use Rattle.leaves.specs.declared.leaf.Leaf.TheVariants as plain
-use Rattle.ticks.specs.declared.ticks.Kind.{Kind}
 use Rattle.ticks.specs.declared.ticks.Kind.TheVariants as fault
 use Rattle.values.specs.declared.value.Value.{Value}
 use Rattle.operations.specs.Arguments.{Given}
-use Rattle.language.specs.Place.{Does, Place}
-use Rattle.language.specs.declared.whole.Whole.{Whole}
+use Rattle.language.specs.Place.{Does, Place, with_state}
 use Rattle.targets.specs.declared.attributes.Attribute.{Attribute}
 use Rattle.evaluation.specs.declared.made.Made.{Made}
 use Rattle.declaring.specs.declared.table.Declarations.{Declarations}
@@ -20,23 +18,17 @@ use Rattle.declaring.specs.ProviderCalls.{new_provider}
 use Rattle.declaring.specs.RuleMaking.{new_rule}
 use Rattle.file_places.specs.Methods.{declared_kind, has_method}
 
--- what is declared is kept beside the state, which stays
-abbrev pub declared : Whole Declarations → Result (Value × Declarations) Kind
-    → Result (Value × Whole Declarations) Kind
-declared w (Ok p) = Ok (p.0, record w { work = p.1 })
-declared w (Err k) = Err k
-
 -- `attr.string(..)` and its kin: a new attribute of that kind; no such method is `name`
 abbrev pub attribute_call : Option AttributeKind → Given → Does Declarations Value
-attribute_call (Some k) g w = declared w (new_attribute k g w.state w.work)
+attribute_call (Some k) g w = with_state w (new_attribute k g w.state w.work)
 attribute_call None g w = Err fault.Name
 
 -- what other modules declared, by their paths and by numbers
 module _ (linked : List ℕ → ℕ → Option Attribute) where
   -- a call of `provider` or `rule`, which declares one
   abbrev pub built_in_call : BuiltIn → Given → Does Declarations Value
-  built_in_call built_in.Provider g w = declared w (new_provider g w.state w.work)
-  built_in_call built_in.Rule g w = declared w (new_rule linked w.state w.work g)
+  built_in_call built_in.Provider g w = with_state w (new_provider g w.state w.work)
+  built_in_call built_in.Rule g w = with_state w (new_rule linked w.state w.work g)
   built_in_call _ g w = Err fault.Wrong
 
   -- a call that the language leaves to the place: `provider` and `rule` declare, a call of a rule

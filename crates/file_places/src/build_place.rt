@@ -4,7 +4,7 @@ ghost use Rattle.leaves.specs.declared.leaf.MadeId.{MadeId as Id};
 ghost use Rattle.operations.specs.Arguments.{Given, given};
 ghost use Rattle.language.specs.declared.whole.Whole.{Whole as Held};
 ghost use Rattle.targets.specs.declared.attributes.Rule.{Rule as Made};
-ghost use Rattle.places.specs.Answers.{Says};
+ghost use Rattle.ticks.specs.Ticking.{Says};
 ghost use Rattle.rule_calls.specs.Packages.{Declared};
 ghost use Rattle.file_places.specs.BuildPlace.{refused_call, rule_called};
 

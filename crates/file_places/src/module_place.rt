@@ -1,8 +1,8 @@
 //! What a module has while its top level runs.
 ghost use Rattle.std.specs.Prelude.{Err, Some, None};
 ghost use Rattle.operations.specs.Arguments.{given};
-ghost use Rattle.places.specs.Answers.{Says};
-ghost use Rattle.file_places.specs.ModulePlace.{declared, attribute_call, built_in_call};
+ghost use Rattle.ticks.specs.Ticking.{Says};
+ghost use Rattle.file_places.specs.ModulePlace.{attribute_call, built_in_call};
 
 use crate::methods::{declared_kind, has_method};
 use declaring::{Attributes, Declarations, new_attribute, new_provider, new_rule};

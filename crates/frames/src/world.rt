@@ -6,7 +6,8 @@ ghost use Rattle.meaning.specs.Operations.{Operations};
 ghost use Rattle.values.specs.declared.value.Value as held;
 ghost use Rattle.ticks.specs.declared.ticks.Kind as kinds;
 ghost use Rattle.values.specs.Seeing.{item_value};
-ghost use Rattle.frames.specs.Answers.{Says, SaysAs, Unpacks, refusal_seen, id_seen, callee_seen};
+ghost use Rattle.ticks.specs.Ticking.{Says};
+ghost use Rattle.frames.specs.Answers.{SaysAs, Unpacks, refusal_seen, id_seen, callee_seen};
 ghost use Rattle.frames.specs.Answers.{given};
 ghost use Rattle.frames.specs.Kept.{defaults_seen};
 

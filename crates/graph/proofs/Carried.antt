@@ -11,9 +11,9 @@ use Rattle.edges.specs.Rows.{row, has, IsGraph, IsRenumbered}
 use Rattle.edges.proofs.Tests.{cases_of, not_both, isnt, either, none_any}
 use Rattle.edges.proofs.Lists.{has_at, has-head, has-later, to_has, below_or_past, sides, apart_of}
 use Rattle.edges.proofs.Renumbering.{cyclic_from_name}
-use Rattle.workspace.specs.Labels.{LabelParts}
+use Rattle.workspace.specs.Labels.{LabelParts, same_label}
 use Rattle.edges.specs.Edges.{EdgesView}
-use Rattle.graph.specs.Same.{same_label, same_label-decides, no_label, label_at}
+use Rattle.graph.specs.Same.{same_label-decides, no_label, label_at}
 use Rattle.graph.specs.Graphs.{IsGraphOf}
 use Rattle.graph.specs.Reached.{IsReached, AreReached}
 use Rattle.graph.specs.Numbering.{Numbering}

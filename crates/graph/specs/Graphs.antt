@@ -1,10 +1,10 @@
 -- The graph of what is reached from labels. (docs/PROFILE.md, "Dependencies and nodes".)
 use Rattle.std.specs.Prelude.{◌≡◌, ◌↔◌, ℕ, ◌<◌, List, length, map}
-use Rattle.workspace.specs.Labels.{LabelParts}
+use Rattle.workspace.specs.Labels.{LabelParts, same_label}
 use Rattle.edges.specs.Walks.{Cyclic}
 use Rattle.edges.specs.Rows.{row, IsGraph}
 use Rattle.edges.specs.Edges.{EdgesView}
-use Rattle.graph.specs.Same.{same_label, label_at}
+use Rattle.graph.specs.Same.{label_at}
 use Rattle.graph.specs.Reached.{AreReached}
 
 -- the label of each node, by number, and the edges between them

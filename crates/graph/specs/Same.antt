@@ -4,11 +4,7 @@ use Rattle.std.specs.Cmp.{IsEquivalence, decided, on_equiv}
 use Rattle.std.specs.Cmp.Lexicographic.{bytes_decides}
 use Rattle.std.specs.Hash as fed
 use Rattle.std.proofs.Common.{ap, subst, refl, sym, Decides, true≢false}
-use Rattle.workspace.specs.Labels.{LabelParts, label_text}
-
--- labels are the same where their packages and names are, byte for byte
-abbrev pub same_label : LabelParts → LabelParts → Bool
-same_label a b = bytes_eq a.«package» b.«package» && bytes_eq a.name b.name
+use Rattle.workspace.specs.Labels.{LabelParts, label_text, same_label}
 
 -- what stands in the place of a label where a number has none
 abbrev pub no_label : LabelParts

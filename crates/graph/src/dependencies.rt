@@ -1,8 +1,7 @@
 //! What labels depend on.
 ghost use Rattle.std.specs.Prelude.{◌≡◌, List};
 ghost use Rattle.std.specs.List.{IsDistinct};
-ghost use Rattle.workspace.specs.Labels.{LabelParts};
-ghost use Rattle.graph.specs.Same.{same_label};
+ghost use Rattle.workspace.specs.Labels.{LabelParts, same_label};
 
 use plain::Shared;
 use workspace::Label;

@@ -4,7 +4,8 @@ ghost use Rattle.std.specs.Prelude.{slice_index};
 ghost use Rattle.std.specs.List.{IsDistinct};
 ghost use Rattle.edges.specs.Walks.{Cyclic};
 ghost use Rattle.edges.specs.Rows.{row, users_of, ready_of};
-ghost use Rattle.graph.specs.Same.{same_label, label_at};
+ghost use Rattle.graph.specs.Same.{label_at};
+ghost use Rattle.workspace.specs.Labels.{same_label};
 ghost use Rattle.graph.specs.Reached.{TooManyReached};
 ghost use Rattle.graph.specs.Graphs.{IsGraphOf};
 
@@ -38,7 +39,7 @@ impl Drop for Graph {
 impl Model for Graph {
     ghost use Rattle.std.specs.Prelude.{◌≡◌, length};
     ghost use Rattle.std.specs.List.{IsDistinct};
-    ghost use Rattle.graph.specs.Same.{same_label};
+    ghost use Rattle.workspace.specs.Labels.{same_label};
     ghost use Rattle.graph.specs.Graphs.{GraphView};
 
     ghost Value = { GraphView };

@@ -1,6 +1,6 @@
 //! Labels as keys of a set, found by package and name.
 ghost use Rattle.std.specs.Prelude.{◌≡◌};
-ghost use Rattle.graph.specs.Same.{same_label};
+ghost use Rattle.workspace.specs.Labels.{same_label};
 
 use indexmap::Equivalent;
 use plain::Shared;
@@ -23,7 +23,7 @@ impl Model for Node {
 }
 
 impl PartialEq for Node {
-    ghost use Rattle.graph.specs.Same.{same_label};
+    ghost use Rattle.workspace.specs.Labels.{same_label};
     ghost use Rattle.graph.specs.Same.{same_label-equiv};
     ghost use Rattle.std.specs.Cmp.{partial_equiv_from_equiv};
 
@@ -63,7 +63,7 @@ pub struct Wanted<'a> {
 }
 
 impl<'a> PartialEq for Wanted<'a> {
-    ghost use Rattle.graph.specs.Same.{same_label};
+    ghost use Rattle.workspace.specs.Labels.{same_label};
     ghost use Rattle.graph.specs.Same.{same_label-on};
     ghost use Rattle.std.specs.Cmp.{partial_equiv_from_equiv};
 
@@ -97,7 +97,7 @@ impl<'a> Hash for Wanted<'a> {
 }
 
 impl<'a> Equivalent<Node> for Wanted<'a> {
-    ghost use Rattle.graph.specs.Same.{same_label};
+    ghost use Rattle.workspace.specs.Labels.{same_label};
     ghost use Rattle.graph.specs.Same.{same_label-equiv, same_label-hashed};
 
     ghost equivalent = { λ q k. same_label q.label.now k };

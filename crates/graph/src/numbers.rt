@@ -2,7 +2,8 @@
 ghost use Rattle.std.specs.Prelude.{◌≡◌, ◌∷◌, ◌++◌, [], ◌<◌, ◌≤◌, false, length, IfOk, IfErr, OnOk};
 ghost use Rattle.std.specs.Prelude.{OnErr};
 ghost use Rattle.std.specs.List.{list_any};
-ghost use Rattle.graph.specs.Same.{same_label, no_label, label_at};
+ghost use Rattle.workspace.specs.Labels.{same_label};
+ghost use Rattle.graph.specs.Same.{no_label, label_at};
 ghost use Rattle.graph.specs.Numbering.{Grown, AreNumbers};
 
 use crate::node::{Node, Wanted};

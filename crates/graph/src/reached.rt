@@ -1,6 +1,7 @@
 //! All that is reached from labels.
 ghost use Rattle.std.specs.Prelude.{◌≡◌, ◌+◌, ◌<◌, ◌≤◌, length, IfOk, IfErr, OnOk};
-ghost use Rattle.graph.specs.Same.{same_label, no_label};
+ghost use Rattle.workspace.specs.Labels.{same_label};
+ghost use Rattle.graph.specs.Same.{no_label};
 ghost use Rattle.graph.specs.Reached.{TooManyReached};
 ghost use Rattle.graph.specs.Numbering.{Numbering};
 

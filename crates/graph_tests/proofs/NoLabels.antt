@@ -1,7 +1,7 @@
 -- No labels are distinct ones.
 use Rattle.std.specs.Prelude.{[]}
 use Rattle.std.specs.List.{IsDistinct}
-use Rattle.graph.specs.Same.{same_label}
+use Rattle.workspace.specs.Labels.{same_label}
 
 pub none_distinct : IsDistinct same_label []
 unfolding IsDistinct

@@ -1,8 +1,8 @@
 -- What an implementation has while it runs: the fields and items of the targets that it depends on,
 -- `ctx` and its parts, and the methods of `ctx.actions` (docs/PROFILE.md, "Rules of all calls" and
 -- "Fields").
-use Rattle.std.specs.Prelude.{ℕ, Bool, false, List, [], ◌∷◌, Option, Some, None, is_some, Result}
-use Rattle.std.specs.Prelude.{Ok, Err, codes, bytes_eq, if◌then◌else◌}
+use Rattle.std.specs.Prelude.{ℕ, Bool, false, List, [], ◌∷◌, Option, Some, None, is_some}
+use Rattle.std.specs.Prelude.{Err, codes, bytes_eq, if◌then◌else◌}
 use Rattle.std.specs.List.{list_any}
 use Rattle.leaves.specs.declared.leaf.BuiltIn.{BuiltIn}
 use Rattle.leaves.specs.declared.leaf.BuiltIn.TheVariants as built_in
@@ -14,8 +14,7 @@ use Rattle.ticks.specs.declared.ticks.Kind.{Kind}
 use Rattle.ticks.specs.declared.ticks.Kind.TheVariants as fault
 use Rattle.values.specs.declared.value.Value.{Value}
 use Rattle.operations.specs.Arguments.{Given}
-use Rattle.language.specs.Place.{Does, Place}
-use Rattle.language.specs.declared.whole.Whole.{Whole}
+use Rattle.language.specs.Place.{Does, Place, with_state}
 use Rattle.workspace.specs.Labels.{LabelParts}
 use Rattle.targets.specs.Checks.{Dependency}
 use Rattle.targets.specs.declared.target.Target.{Target}
@@ -24,7 +23,7 @@ use Rattle.contexts.specs.declared.method.ActionMethod.{ActionMethod}
 use Rattle.contexts.specs.declared.work.Work.{Work}
 use Rattle.contexts.specs.Offered.{item, offers}
 use Rattle.contexts.specs.Fields.{field}
-use Rattle.contexts.specs.Actions.{Working, method_named, method_call}
+use Rattle.contexts.specs.Actions.{method_named, method_call}
 
 -- how a call of a built-in function is refused: `provider` and `rule`, as the methods of `attr`,
 -- are called by a module alone, and a rule by a `BUILD` file
@@ -57,14 +56,9 @@ abbrev pub has_method : Leaf → List ℕ → Bool
 has_method (plain.Object o) x = object_has_method o x
 has_method _ x = false
 
--- a method changes the work alone
-abbrev pub worked : Whole Work → Working → Result (Value × Whole Work) Kind
-worked w (Ok p) = Ok (p.0, record w { work = p.1 })
-worked w (Err k) = Err k
-
 -- a call of a method of `ctx.actions`; no such method is `name`
 abbrev pub action_call : LabelParts → Option ActionMethod → Given → Does Work Value
-action_call l (Some m) g w = worked w (method_call l m w.state.heap g w.work)
+action_call l (Some m) g w = with_state w (method_call l m w.state.heap g w.work)
 action_call l None g w = Err fault.Name
 
 -- how a call of a method of `attr` is refused: `place`, or `name` where there is none

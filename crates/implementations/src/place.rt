@@ -1,7 +1,7 @@
 //! The place of an implementation.
 ghost use Rattle.std.specs.Prelude.{Err, Some};
 ghost use Rattle.operations.specs.Arguments.{given};
-ghost use Rattle.places.specs.Answers.{Says};
+ghost use Rattle.ticks.specs.Ticking.{Says};
 ghost use Rattle.implementations.specs.Implementations.{implementation_place, call_method};
 ghost use Rattle.implementations.specs.Implementations.{action_call};
 
@@ -88,12 +88,12 @@ impl<'a, 'b, I: FileLists> Place<'a> for ImplementationPlace<'a, 'b, I> {
         target: usize,
         provider: Item<'_>,
     ) -> Result<Operand<'a>, Broken> {
-        item(
+        Ok(item(
             &whole.state.heap,
             &self.context.dependencies,
             target,
             provider,
-        )
+        )?)
     }
 
     fn offers(
@@ -102,12 +102,12 @@ impl<'a, 'b, I: FileLists> Place<'a> for ImplementationPlace<'a, 'b, I> {
         target: usize,
         provider: Item<'_>,
     ) -> Result<bool, Broken> {
-        offers(
+        Ok(offers(
             &whole.state.heap,
             &self.context.dependencies,
             target,
             provider,
-        )
+        )?)
     }
 }
 

@@ -15,8 +15,8 @@ use Rattle.std.proofs.lemmas.List.FromFn.{fill_by_all, map-range_with_len_more, 
 use Rattle.std.proofs.lemmas.List.Sorted.{IsPermutation-map, IsPermutation-sym, Contains-permutation}
 use Rattle.std.proofs.lemmas.Map.Keys.{IsDistinct-head, IsDistinct-tail, IsDistinct-IsPermutation}
 use Rattle.std.proofs.lemmas.Slice.Eq.{bytes_eq-Decides}
-use Rattle.workspace.specs.Labels.{LabelParts, is_label, label_text}
-use Rattle.graph.specs.Same.{label_at, same_label, no_label, same_label-decides}
+use Rattle.workspace.specs.Labels.{LabelParts, is_label, label_text, same_label}
+use Rattle.graph.specs.Same.{label_at, no_label, same_label-decides}
 use Rattle.actions.specs.Ascending.{AreAscending}
 use Rattle.actions.proofs.Ascending.{sorted_ascends}
 use Rattle.label_order.specs.Ordered.{Entry, entry_seen, entries, Keyed, keyed_seen, IsKeyed, AreInOrder}

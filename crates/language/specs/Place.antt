@@ -33,6 +33,12 @@ module _ {W : Type 0} where
   with_work w (Ok p) = Ok (p.0, record { state = p.1; work = w })
   with_work w (Err k) = Err k
 
+  -- what was done to the work of the place, with the state as it was
+  abbrev pub with_state : {A : Type 0} → Whole W → Result (A × W) Kind
+      → Result (A × Whole W) Kind
+  with_state w (Ok p) = Ok (p.0, record w { work = p.1 })
+  with_state w (Err k) = Err k
+
   -- an operation of the language leaves the work of the place as it is
   abbrev pub of_state : {A : Type 0} → Op A → Does W A
   of_state f w = with_work w.work (f w.state)

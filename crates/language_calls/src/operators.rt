@@ -82,7 +82,7 @@ fn compared(
 {
     match state::compare(state, operator, left, right) {
         Ok(holds) => Ok(Value::Key(Key::Truth(holds))),
-        Err(broken) => Err(broken),
+        Err(kind) => Err(Broken::Kind(kind)),
     }
 }
 
@@ -117,5 +117,8 @@ fn calculated(
     ensures { Does (calculate operator (item_value left.entry) (item_value right.entry)) state.now
         result state.now }
 {
-    state::calculate(state, operator, left, right)
+    match state::calculate(state, operator, left, right) {
+        Ok(value) => Ok(value),
+        Err(kind) => Err(Broken::Kind(kind)),
+    }
 }

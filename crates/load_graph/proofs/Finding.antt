@@ -17,10 +17,10 @@ use Rattle.std.proofs.lemmas.List.{get_or_default}
 use Rattle.std.proofs.lemmas.Slice.Eq.{bytes_eq-Decides}
 use Rattle.edges.proofs.Tests.{cases_of, isnt, any_of, any_in, none_any, not_both, neither}
 use Rattle.edges.proofs.Lists.{below_or_past, sides}
-use Rattle.loading.specs.Loads.{Path}
+use Rattle.loading.specs.Loads.{Path, path_at}
 use Rattle.workspace.specs.FileKinds.{is_module}
 use Rattle.workspace.specs.Workspaces.{Pair, paths_of, IsWorkspace}
-use Rattle.load_graph.specs.Paths.{ArePaths, IsAt, listed, path_at, module_paths, entry}
+use Rattle.load_graph.specs.Paths.{ArePaths, IsAt, listed, module_paths, entry}
 
 -- ---- the paths of modules
 

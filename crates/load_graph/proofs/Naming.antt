@@ -6,9 +6,9 @@ use Rattle.std.proofs.lemmas.List.{map_more, map-append}
 use Rattle.edges.specs.Rows.{has}
 use Rattle.edges.proofs.Tests.{either}
 use Rattle.edges.proofs.Lists.{has-append, has-one}
-use Rattle.loading.specs.Loads.{Path, Load, module_path, of_module}
+use Rattle.loading.specs.Loads.{Path, Load, module_path, of_module, path_at}
 use Rattle.loading.specs.Modules.{with_target, targets}
-use Rattle.load_graph.specs.Paths.{ArePaths, IsAt, listed, path_at, AreNumbers, entry, is_number, leads_back}
+use Rattle.load_graph.specs.Paths.{ArePaths, IsAt, listed, AreNumbers, entry, is_number, leads_back}
 use Rattle.load_graph.proofs.Finding.{entry_at, no_entry, listed_at}
 
 -- ---- rows

@@ -1,13 +1,13 @@
 -- The modules of a workspace by path, and tables with an entry for each (this project's own).
 use Rattle.std.specs.Prelude.{◌≡◌, ℕ, ◌<◌, Bool, false, List, [], ◌∷◌, length, map, filter}
-use Rattle.std.specs.Prelude.{slice_index_or, nat_eq, Option, Some, None, if◌then◌else◌}
+use Rattle.std.specs.Prelude.{nat_eq, Option, Some, None, if◌then◌else◌}
 use Rattle.std.specs.List.{list_any, IsDistinct}
 use Rattle.std.specs.List.Sorted.{IsSorted}
 use Rattle.std.specs.Ordering.{nat_cmp}
 use Rattle.std.specs.Cmp.Lexicographic.{slice_cmp}
 use Rattle.std.specs.Str.{bytes_eq}
 use Rattle.components.specs.Components.{IsRowInside}
-use Rattle.loading.specs.Loads.{Path, Load}
+use Rattle.loading.specs.Loads.{Path, Load, path_at}
 use Rattle.workspace.specs.FileKinds.{is_module}
 use Rattle.workspace.specs.Workspaces.{Pair, paths_of}
 
@@ -23,10 +23,6 @@ module_paths pairs = filter is_module (paths_of pairs)
 -- whether a path is one of these
 abbrev pub listed : List Path → Path → Bool
 listed paths q = list_any (bytes_eq q) paths
-
--- the path of the module of a number
-abbrev pub path_at : List Path → ℕ → Path
-path_at paths n = slice_index_or paths n []
 
 -- the module of a number has this path
 abbrev pub IsAt : List Path → Path → ℕ → Type 0

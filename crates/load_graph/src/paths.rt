@@ -2,10 +2,10 @@
 ghost use Rattle.std.specs.Prelude.{◌≡◌, ◌<◌, ◌++◌, ◌∷◌, [], false, None, Some, length, IfOk};
 ghost use Rattle.std.specs.Prelude.{IfSome, OnOk, MatchOption, if◌then◌else◌};
 ghost use Rattle.std.specs.List.Sorted.{IsPermutation};
-ghost use Rattle.loading.specs.Loads.{module_path};
+ghost use Rattle.loading.specs.Loads.{module_path, path_at};
 ghost use Rattle.workspace.specs.FileKinds.{is_module};
 ghost use Rattle.workspace.specs.Files.{file_pairs};
-ghost use Rattle.load_graph.specs.Paths.{ArePaths, IsAt, listed, path_at, module_paths};
+ghost use Rattle.load_graph.specs.Paths.{ArePaths, IsAt, listed, module_paths};
 
 use edges::NodeId;
 use loading::LoadStatement;

@@ -1,6 +1,7 @@
 //! The files that are linked.
 ghost use Rattle.std.specs.Prelude.{◌≡◌, IfOk, option_and_then, option_copied};
-ghost use Rattle.evaluation.specs.Worlds.{load_path, module_numbered, path_at};
+ghost use Rattle.loading.specs.Loads.{path_at};
+ghost use Rattle.evaluation.specs.Worlds.{load_path, module_numbered};
 ghost use Rattle.loader.specs.MadeBefore.{attribute_at, rule_of};
 
 use crate::known::KnownModules;

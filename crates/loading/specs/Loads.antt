@@ -2,7 +2,7 @@
 -- "Load an extension"; the kinds of faults and their order are this project's own,
 -- docs/PROFILE.md, "Loading").
 use Rattle.std.specs.Prelude.{ℕ, Bool, false, not, List, [], ◌∷◌, map, Option, Some, None, Result}
-use Rattle.std.specs.Prelude.{Ok, Err, if◌then◌else◌, nat_eq}
+use Rattle.std.specs.Prelude.{Ok, Err, if◌then◌else◌, nat_eq, slice_index_or}
 use Rattle.std.specs.List.{list_any}
 use Rattle.std.specs.Str.{bytes_eq}
 use Rattle.loading.specs.declared.faults.LoadFaultKind.{LoadFaultKind}
@@ -13,6 +13,10 @@ use Rattle.loading.specs.declared.faults.Placed.{Placed}
 -- a file's path in the workspace, as `a/rules.bzl`
 abbrev pub Path : Type 0
 Path = List ℕ
+
+-- the path at a number of a list of them, or none at all, which is empty
+abbrev pub path_at : List Path → ℕ → Path
+path_at paths n = slice_index_or paths n []
 
 -- a name that a module binds
 abbrev pub Name : Type 0

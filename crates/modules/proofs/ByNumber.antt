@@ -9,12 +9,12 @@ use Rattle.edges.proofs.Lists.{to_has}
 use Rattle.components.specs.Components.{IsFound}
 use Rattle.components.proofs.Lists.{leads_edge}
 use Rattle.levels.specs.Levels.{AreHeights}
-use Rattle.loading.specs.Loads.{Path, Load, Read, module_path, of_module, of_modules}
+use Rattle.loading.specs.Loads.{Path, Load, Read, module_path, of_module, of_modules, path_at}
 use Rattle.loading.specs.Modules.{Sources, file, targets, targets_in, with_target, loads_of, reaches, is_on_cycle, height_of, cycle_line, leads_to, above_all}
 use Rattle.loading.proofs.Trails.{walk_from_reaches, reaches_all}
 use Rattle.loading.proofs.Heights.{height_steps, load_is_lower}
 use Rattle.loading.proofs.Sources.{from_test, to_test, loaded_module, loading_module}
-use Rattle.load_graph.specs.Paths.{ArePaths, listed, path_at, AreNumbers, leads_back, line_back}
+use Rattle.load_graph.specs.Paths.{ArePaths, listed, AreNumbers, leads_back, line_back}
 use Rattle.load_graph.proofs.Finding.{same_number, number_of_listed, listed_at}
 use Rattle.load_graph.proofs.Naming.{leads_none, leads_some}
 use Rattle.modules.specs.Evaluation.{Evaluation, sources}

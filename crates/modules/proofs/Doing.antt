@@ -8,10 +8,10 @@ use Rattle.edges.proofs.Lists.{below_or_past}
 use Rattle.components.specs.Components.{Found, IsFound}
 use Rattle.components.proofs.Lists.{same_or}
 use Rattle.loading.specs.declared.faults.LoadFaultKind.TheVariants.{LoadCycle}
-use Rattle.loading.specs.Loads.{Path, Load, Read, LoadFault, module_path, of_module, of_modules, module_fault, found, loads_fault, first_of}
+use Rattle.loading.specs.Loads.{Path, Load, Read, LoadFault, module_path, of_module, of_modules, module_fault, found, loads_fault, first_of, path_at}
 use Rattle.loading.specs.Modules.{Sources, targets_in, is_on_cycle, cycle_line, height_of, value, ended, linked, loaded, lower, module_of}
 use Rattle.loading.proofs.ByLoads.{by_loads}
-use Rattle.load_graph.specs.Paths.{ArePaths, listed, path_at, AreNumbers, line_back}
+use Rattle.load_graph.specs.Paths.{ArePaths, listed, AreNumbers, line_back}
 use Rattle.load_graph.proofs.Finding.{number_of_listed, listed_at}
 use Rattle.modules.specs.Tables.{Table, module_at, known_at, lower_of}
 use Rattle.modules.specs.Evaluation.{Evaluation, sources, unless, linked_by, acyclic_by, module_by}

@@ -5,8 +5,8 @@ use Rattle.std.specs.Option.{option_copied}
 use Rattle.std.specs.Borrow.{Bor}
 use Rattle.std.proofs.lemmas.List.{get_or_default}
 use Rattle.edges.proofs.Tests.{isnt}
-use Rattle.loading.specs.Loads.{Path}
-use Rattle.load_graph.specs.Paths.{ArePaths, IsAt, listed, path_at}
+use Rattle.loading.specs.Loads.{Path, path_at}
+use Rattle.load_graph.specs.Paths.{ArePaths, IsAt, listed}
 use Rattle.load_graph.proofs.Finding.{entry_at, no_entry}
 use Rattle.modules.specs.Tables.{Table, joined, module_at, lower_of}
 

@@ -3,9 +3,9 @@ use Rattle.std.specs.Prelude.{◌≡◌, ℕ, ◌<◌, List, length, map, slice_
 use Rattle.std.specs.Prelude.{Some, None, Result}
 use Rattle.edges.specs.Rows.{row}
 use Rattle.components.specs.Components.{Found}
-use Rattle.loading.specs.Loads.{Path, Read, LoadFault, of_modules}
+use Rattle.loading.specs.Loads.{Path, Read, LoadFault, of_modules, path_at}
 use Rattle.loading.specs.Modules.{Sources, targets_in, module_of}
-use Rattle.load_graph.specs.Paths.{ArePaths, listed, path_at, AreNumbers}
+use Rattle.load_graph.specs.Paths.{ArePaths, listed, AreNumbers}
 use Rattle.load_graph.specs.Plan.{IsPlan}
 use Rattle.modules.specs.Evaluation.{Evaluation}
 

@@ -1,8 +1,8 @@
 //! All modules of a workspace, each evaluated once.
 ghost use Rattle.std.specs.Prelude.{◌≡◌, ◌<◌, None, Some, length, map, IfOk};
-ghost use Rattle.loading.specs.Loads.{of_modules};
+ghost use Rattle.loading.specs.Loads.{of_modules, path_at};
 ghost use Rattle.loading.specs.Modules.{targets_in, module_of};
-ghost use Rattle.load_graph.specs.Paths.{listed, path_at, AreNumbers};
+ghost use Rattle.load_graph.specs.Paths.{listed, AreNumbers};
 ghost use Rattle.modules.specs.Evaluation.{sources};
 ghost use Rattle.modules.specs.Loading.{AreLinks, IsReady, IsBelow};
 

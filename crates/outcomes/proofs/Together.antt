@@ -8,9 +8,8 @@ use Rattle.coherence.specs.Together.{given, Keeps, EachKeeps, AllCoherent, IsKep
 use Rattle.coherence.proofs.Homes.{all_together}
 use Rattle.coherence.proofs.Handed.{handed_fits}
 use Rattle.one_tree.specs.Found.{Set}
-use Rattle.workspace.specs.Labels.{LabelParts, is_label, label_text}
+use Rattle.workspace.specs.Labels.{LabelParts, is_label, label_text, same_label}
 use Rattle.targets.specs.Checks.{Dependency}
-use Rattle.targets.specs.RuleCalls.{same_label}
 use Rattle.targets.specs.Resolving.{Named, target, source_file, failed_package, nothing, named, named_in, named_dependencies}
 use Rattle.targets.specs.Resolving as resolving
 use Rattle.targets.specs.Steps.{Implemented, Fault, with_outcomes, step}

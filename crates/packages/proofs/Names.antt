@@ -9,11 +9,11 @@ use Rattle.lexer.specs.declared.fault.FaultKind.{FaultKind}
 use Rattle.ticks.specs.declared.ticks.Kind.{Kind}
 use Rattle.depsets.specs.Keys.{keep, keep_all, firsts}
 use Rattle.workspace.specs.FileKinds.{is_build_file, package_of}
-use Rattle.workspace.specs.Labels.{LabelParts, is_label}
+use Rattle.workspace.specs.Labels.{LabelParts, is_label, same_label}
 use Rattle.workspace.specs.Workspaces.{Pair, paths_of}
 use Rattle.loading.specs.Loads.{Path, LoadFault}
 use Rattle.targets.proofs.Facts.{cases_of, neither}
-use Rattle.graph.specs.Same.{same_label, same_label-equiv}
+use Rattle.graph.specs.Same.{same_label-equiv}
 use Rattle.targets.specs.Attributes.{labels_of}
 use Rattle.targets.specs.Resolving.{dependencies, Package, no_build_file, faulty, declaring, source_file, nothing, named, named_in, named_dependencies, is_file, target_or_file}
 use Rattle.targets.specs.declared.target.Target.{Target}

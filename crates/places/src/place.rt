@@ -3,7 +3,8 @@ ghost use Rattle.std.specs.Prelude.{◌≡◌};
 ghost use Rattle.values.specs.Seeing.{item_value};
 ghost use Rattle.operations.specs.Arguments.{given};
 ghost use Rattle.language.specs.Place.{Place as Having};
-ghost use Rattle.places.specs.Answers.{Says, Reads};
+ghost use Rattle.operations.specs.States.{Gives};
+ghost use Rattle.ticks.specs.Ticking.{Says};
 
 use field_names::FieldName;
 use language::Whole;
@@ -61,7 +62,7 @@ pub trait Place<'a>: Works {
         owner: &Leaf,
         name: &FieldName,
     ) -> Result<Operand<'a>, Broken>
-        ensures { Reads ((place self.now).field owner.now name.now whole.now) result };
+        ensures { Gives ((place self.now).field owner.now name.now whole.now) result };
 
     /// `t[P]` of the target at a place among the dependencies.
     fn item(
@@ -71,7 +72,7 @@ pub trait Place<'a>: Works {
         target: usize,
         provider: Item<'_>,
     ) -> Result<Operand<'a>, Broken>
-        ensures { Reads
+        ensures { Gives
             ((place self.now).item target (item_value provider.entry) whole.now) result };
 
     /// `P in t` of the target at a place among the dependencies.
@@ -81,6 +82,6 @@ pub trait Place<'a>: Works {
         target: usize,
         provider: Item<'_>,
     ) -> Result<bool, Broken>
-        ensures { Reads
+        ensures { Gives
             ((place self.now).offers target (item_value provider.entry) whole.now) result };
 }

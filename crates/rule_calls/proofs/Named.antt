@@ -7,10 +7,10 @@ use Rattle.std.specs.Borrow.{Bor}
 use Rattle.std.specs.Prelude.{is_some, option_copied}
 use Rattle.std.specs.Str.{bytes_eq}
 use Rattle.indexmap.specs.IndexMap.{insert_entry}
-use Rattle.workspace.specs.Labels.{LabelParts}
+use Rattle.workspace.specs.Labels.{LabelParts, same_label}
 use Rattle.targets.proofs.Facts.{both, neither, same_label-same, same_label-own}
 use Rattle.targets.specs.Resolving.{target_with}
-use Rattle.targets.specs.RuleCalls.{same_label, has_declared}
+use Rattle.targets.specs.RuleCalls.{has_declared}
 use Rattle.targets.specs.declared.target.Target.{Target}
 use Rattle.rule_calls.specs.Packages.{is_named, are_named}
 

@@ -4,9 +4,9 @@ use Rattle.std.proofs.lemmas.Cmp.{nat_list_eq_equiv}
 use Rattle.std.proofs.lemmas.List.{take_more, take-append-drop}
 use Rattle.std.proofs.lemmas.List.Folds.{list_any-append}
 use Rattle.std.specs.List.{list_any}
-use Rattle.workspace.specs.Labels.{LabelParts}
+use Rattle.workspace.specs.Labels.{LabelParts, same_label}
 use Rattle.targets.proofs.Facts.{cases_of, or_left, or_right}
-use Rattle.targets.specs.RuleCalls.{same_label, repeats}
+use Rattle.targets.specs.RuleCalls.{repeats}
 
 other_way : (a b : LabelParts) → same_label a b ≡ same_label b a
 other_way a b = λ i. nat_list_eq_equiv.symm a.«package» b.«package» i && nat_list_eq_equiv.symm a.name b.name i

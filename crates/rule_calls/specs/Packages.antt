@@ -1,7 +1,7 @@
 -- The targets that a package has declared so far.
 use Rattle.std.specs.Prelude.{ℕ, Bool, List, map}
 use Rattle.std.specs.List.{list_all}
-use Rattle.targets.specs.RuleCalls.{same_label}
+use Rattle.workspace.specs.Labels.{same_label}
 use Rattle.targets.specs.declared.target.Target.{Target}
 
 -- the package of the BUILD file that runs, and the targets that it has declared, in order

@@ -2,7 +2,7 @@
 ghost use Rattle.std.specs.Prelude.{◌≡◌, ◌<◌, ◌∷◌, [], Ok, Err, Some, None, IfOk};
 ghost use Rattle.std.specs.Prelude.{option_copied};
 ghost use Rattle.values.specs.Seeing.{seen, item_value, group_items, table_entries};
-ghost use Rattle.operations.specs.States.{Does, Gives};
+ghost use Rattle.operations.specs.States.{Does, Gives, GivesKind};
 ghost use Rattle.operations.specs.Reading.{of_type};
 ghost use Rattle.operations.specs.Making.{text};
 ghost use Rattle.operations.specs.Items.{item, item_in, item_at, value_at, key_item, byte_at};
@@ -146,11 +146,11 @@ fn value_at<'a>(entries: Table<'a>, key: &Key) -> Result<Operand<'a>, Broken>
 /// # Errors
 ///
 /// `type` where the value can't be a key.
-pub fn find<'a>(entries: Table<'a>, key: &Seen<'_>) -> Result<Option<Operand<'a>>, Broken>
-    ensures { Gives (found (table_entries entries.entry) (seen key.now)) result }
+pub fn find<'a>(entries: Table<'a>, key: &Seen<'_>) -> Result<Option<Operand<'a>>, Kind>
+    ensures { GivesKind (found (table_entries entries.entry) (seen key.now)) result }
 {
     let Some(key) = key_of(key) else {
-        return Err(Broken::Kind(Kind::Wrong));
+        return Err(Kind::Wrong);
     };
     match entries.get(key) {
         Some(value) => Ok(Some(Operand::lent(value))),

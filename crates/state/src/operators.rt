@@ -5,7 +5,7 @@ ghost use Rattle.ticks.specs.Ticking.{FaultOr};
 ghost use Rattle.values.specs.Shape.{shape};
 ghost use Rattle.values.specs.Seeing.{seen, item_value, group_items};
 ghost use Rattle.printing.specs.Repr.{fits};
-ghost use Rattle.operations.specs.States.{Does, Gives};
+ghost use Rattle.operations.specs.States.{Does, DoesKind, Gives, GivesKind};
 ghost use Rattle.operations.specs.Changes.{extension, extended};
 ghost use Rattle.heap.specs.Cells.{joined_items};
 ghost use Rattle.operations.specs.Operators.{new_number, key_sum, plus, add_in_place};
@@ -228,15 +228,15 @@ pub fn calculate(
     operator: Arithmetic,
     a: Item<'_>,
     b: Item<'_>,
-) -> Result<Value, Broken>
-    ensures { Does (calculate operator (item_value a.entry) (item_value b.entry)) state.now result
+) -> Result<Value, Kind>
+    ensures { DoesKind (calculate operator (item_value a.entry) (item_value b.entry)) state.now result
         state.now }
 {
     let Some(x) = number_of(&state.heap.see_item(a)) else {
-        return Err(Broken::Kind(Kind::Wrong));
+        return Err(Kind::Wrong);
     };
     let Some(y) = number_of(&state.heap.see_item(b)) else {
-        return Err(Broken::Kind(Kind::Wrong));
+        return Err(Kind::Wrong);
     };
     number_value(calculated(operator, x, y))
 }
@@ -256,13 +256,13 @@ fn calculated(operator: Arithmetic, a: i64, b: i64) -> Result<i64, NumberError>
 
 /// A number as a value, or its fault.
 #[inline(always)]
-fn number_value(number: Result<i64, NumberError>) -> Result<Value, Broken>
-    ensures { Gives (number_value number) result }
+fn number_value(number: Result<i64, NumberError>) -> Result<Value, Kind>
+    ensures { GivesKind (number_value number) result }
 {
     match number {
         Ok(number) => Ok(Value::Key(Key::Number(number))),
-        Err(NumberError::Overflow) => Err(Broken::Kind(Kind::Overflow)),
-        Err(NumberError::Zero) => Err(Broken::Kind(Kind::Zero)),
+        Err(NumberError::Overflow) => Err(Kind::Overflow),
+        Err(NumberError::Zero) => Err(Kind::Zero),
     }
 }
 
@@ -271,11 +271,11 @@ fn number_value(number: Result<i64, NumberError>) -> Result<Value, Broken>
 /// # Errors
 ///
 /// `type` for all else; `overflow`.
-pub fn negate(state: &State, a: Item<'_>) -> Result<Value, Broken>
-    ensures { Does (negative (item_value a.entry)) state.now result state.now }
+pub fn negate(state: &State, a: Item<'_>) -> Result<Value, Kind>
+    ensures { DoesKind (negative (item_value a.entry)) state.now result state.now }
 {
     let Some(number) = number_of(&state.heap.see_item(a)) else {
-        return Err(Broken::Kind(Kind::Wrong));
+        return Err(Kind::Wrong);
     };
     number_value(opposite(number))
 }
@@ -286,40 +286,35 @@ pub fn negate(state: &State, a: Item<'_>) -> Result<Value, Broken>
 ///
 /// `type` for all else.
 #[inline(always)]
-pub fn compare(
-    state: &State,
-    operator: Comparison,
-    a: Item<'_>,
-    b: Item<'_>,
-) -> Result<bool, Broken>
-    ensures { Does (compare operator (item_value a.entry) (item_value b.entry)) state.now result
+pub fn compare(state: &State, operator: Comparison, a: Item<'_>, b: Item<'_>) -> Result<bool, Kind>
+    ensures { DoesKind (compare operator (item_value a.entry) (item_value b.entry)) state.now result
         state.now }
 {
     match order_of(&state.heap.see_item(a), &state.heap.see_item(b)) {
         Ok(order) => Ok(operator.holds(order)),
-        Err(broken) => Err(broken),
+        Err(kind) => Err(kind),
     }
 }
 
 /// The order of two values.
 #[inline(always)]
-fn order_of(a: &Seen<'_>, b: &Seen<'_>) -> Result<Ordering, Broken>
-    ensures { Gives (order_in (seen a.now) (seen b.now)) result }
+fn order_of(a: &Seen<'_>, b: &Seen<'_>) -> Result<Ordering, Kind>
+    ensures { GivesKind (order_in (seen a.now) (seen b.now)) result }
 {
     match (a, b) {
         (Seen::Key(x), Seen::Key(y)) => key_order(x, y),
-        _ => Err(Broken::Kind(Kind::Wrong)),
+        _ => Err(Kind::Wrong),
     }
 }
 
 /// The order of two numbers or of two strings.
 #[inline(always)]
-fn key_order(a: &Key, b: &Key) -> Result<Ordering, Broken>
-    ensures { Gives (key_order a.now b.now) result }
+fn key_order(a: &Key, b: &Key) -> Result<Ordering, Kind>
+    ensures { GivesKind (key_order a.now b.now) result }
 {
     match (a, b) {
         (Key::Number(x), Key::Number(y)) => Ok(numbers::compare(*x, *y)),
         (Key::Text(x), Key::Text(y)) => Ok(x.cmp(y)),
-        _ => Err(Broken::Kind(Kind::Wrong)),
+        _ => Err(Kind::Wrong),
     }
 }

@@ -35,7 +35,7 @@ pub(crate) fn declare_file(
 {
     let name = match argument("name", arguments) {
         Ok(name) => name,
-        Err(broken) => return Err(broken),
+        Err(kind) => return Err(Broken::Kind(kind)),
     };
     match text_of(&heap.see_item(name.item())) {
         Some(name) => declared(alloc, label, name, work),

@@ -93,8 +93,8 @@ pub(crate) fn write(
         (λ e. FaultOr (write heap.now (given arguments.now) work.old) e) }
 {
     let parameters = write_parameters();
-    if let Err(broken) = check_arguments(&parameters, arguments) {
-        return Err(broken);
+    if let Err(kind) = check_arguments(&parameters, arguments) {
+        return Err(Broken::Kind(kind));
     }
     match (got(arguments, 0, "output"), got(arguments, 1, "content")) {
         (Some(output), Some(content)) => written(alloc, mnemonics, heap, output, content, work),

@@ -48,8 +48,8 @@ pub(crate) fn run(
         (given arguments.now) work.old) e) }
 {
     let parameters = run_parameters(program.parameter());
-    if let Err(broken) = check_arguments(&parameters, arguments) {
-        return Err(broken);
+    if let Err(kind) = check_arguments(&parameters, arguments) {
+        return Err(Broken::Kind(kind));
     }
     match (
         got(arguments, 0, "outputs"),

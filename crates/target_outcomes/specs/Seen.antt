@@ -5,10 +5,9 @@ use Rattle.meaning.specs.Functions.{Files, def_line}
 use Rattle.leaves.specs.declared.leaf.MadeId.{MadeId}
 use Rattle.ticks.specs.declared.ticks.Kind.{Kind}
 use Rattle.language.specs.Language.{function_id}
-use Rattle.loading.specs.Loads.{Path}
+use Rattle.loading.specs.Loads.{Path, path_at}
 use Rattle.loading.specs.declared.faults.Placed.{Placed}
 use Rattle.targets.specs.Steps as outcome
-use Rattle.evaluation.specs.Worlds.{path_at}
 use Rattle.target_outcomes.specs.declared.returning.Implemented.{Implemented}
 
 -- a fault of this kind, at the `def` of a function

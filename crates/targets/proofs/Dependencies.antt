@@ -4,9 +4,8 @@ use Rattle.std.specs.List.{list_any, AllByRecursion, IsDistinct}
 use Rattle.depsets.specs.Keys.{keep, keep_all, firsts}
 use Rattle.depsets.proofs.Keys.{keep-absent, keep_all-append, has-keep_all_cases, Covers-kept}
 use Rattle.depsets.specs.Keys.{Covers}
-use Rattle.workspace.specs.Labels.{LabelParts}
+use Rattle.workspace.specs.Labels.{LabelParts, same_label}
 use Rattle.targets.specs.Attributes.{labels_of}
-use Rattle.targets.specs.RuleCalls.{same_label}
 use Rattle.targets.specs.Resolving.{dependencies}
 use Rattle.targets.specs.declared.target.Target.{Target}
 use Rattle.targets.proofs.Facts.{cases_of, none_in, in_split, same_label-own, same_label-same, found_in, in_found}

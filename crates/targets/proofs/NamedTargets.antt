@@ -1,8 +1,7 @@
 -- A label that names a target is that target's.
 use Rattle.std.proofs.Common.{◌≡◌, ◌∙◌, ℕ, Bool, true, false, List, [], ◌∷◌, Option, Some, None, Contains, ap, sym, refl, subst}
 use Rattle.std.specs.Prelude.{if◌then◌else◌}
-use Rattle.workspace.specs.Labels.{LabelParts, is_label}
-use Rattle.targets.specs.RuleCalls.{same_label}
+use Rattle.workspace.specs.Labels.{LabelParts, is_label, same_label}
 use Rattle.targets.specs.Resolving.{Package, no_build_file, faulty, declaring, Named, target, source_file, nothing, target_with, is_file, target_or_file, named_in, named}
 use Rattle.targets.specs.Laws.{IsNamed}
 use Rattle.targets.specs.declared.target.Target.{Target}

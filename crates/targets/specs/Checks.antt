@@ -8,9 +8,8 @@ use Rattle.leaves.specs.Leaves.{same_provider}
 use Rattle.values.specs.Tree.{branch, instance}
 use Rattle.values.specs.View.{FrozenTree, FrozenBranch}
 use Rattle.leaves.specs.declared.leaf.Provider.{Provider}
-use Rattle.workspace.specs.Labels.{LabelParts}
+use Rattle.workspace.specs.Labels.{LabelParts, same_label}
 use Rattle.targets.specs.Attributes.{labels_in}
-use Rattle.targets.specs.RuleCalls.{same_label}
 use Rattle.targets.specs.declared.attributes.AllowFiles.{AllowFiles}
 use Rattle.targets.specs.declared.attributes.AllowFiles.TheVariants as allowed
 use Rattle.targets.specs.declared.attributes.AttributeValue.{AttributeValue}

@@ -9,9 +9,9 @@ use Rattle.operations.specs.Arguments.{Given}
 use Rattle.operations.specs.Instances.{default_info}
 use Rattle.operations.specs.declared.state.State.{State}
 use Rattle.values.specs.View.{FrozenTree}
-use Rattle.workspace.specs.Labels.{LabelParts, is_label}
+use Rattle.workspace.specs.Labels.{LabelParts, is_label, same_label}
 use Rattle.targets.specs.Attributes.{labels_in, labels_of}
-use Rattle.targets.specs.RuleCalls.{same_label, has_declared, build_file, rule_call}
+use Rattle.targets.specs.RuleCalls.{has_declared, build_file, rule_call}
 use Rattle.targets.specs.Resolving.{Package, declaring, target, named, dependencies}
 use Rattle.targets.specs.Checks.{Dependency, offers, refused, dependency_of, first_refused}
 use Rattle.targets.specs.Steps.{Implemented, Fault, are_instances, instances_in, with_default_info}

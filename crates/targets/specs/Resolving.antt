@@ -5,9 +5,8 @@ use Rattle.std.specs.Prelude.{ℕ, Bool, true, false, List, [], ◌∷◌, Optio
 use Rattle.std.specs.Prelude.{if◌then◌else◌, bytes_eq}
 use Rattle.std.specs.List.{list_any}
 use Rattle.depsets.specs.Keys.{firsts}
-use Rattle.workspace.specs.Labels.{LabelParts, is_label, label_path}
+use Rattle.workspace.specs.Labels.{LabelParts, is_label, label_path, same_label}
 use Rattle.targets.specs.Attributes.{labels_of}
-use Rattle.targets.specs.RuleCalls.{same_label}
 use Rattle.targets.specs.declared.target.Target.{Target}
 
 -- what a package has: no BUILD file; one with a fault; or the targets that it declares, in order

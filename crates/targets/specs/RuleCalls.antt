@@ -23,7 +23,7 @@ use Rattle.visits.specs.Freeze.{freeze_at}
 use Rattle.operations.specs.Arguments.{Given, given_for}
 use Rattle.operations.specs.Reading.{string_in}
 use Rattle.operations.specs.States.{Op, with_ticks}
-use Rattle.workspace.specs.Labels.{LabelParts, label_of, legal_label}
+use Rattle.workspace.specs.Labels.{LabelParts, label_of, legal_label, same_label}
 use Rattle.targets.specs.Attributes.{default_of, is_private}
 use Rattle.targets.specs.TextDicts.{text_entry}
 use Rattle.targets.specs.declared.attributes.Attribute.{Attribute}
@@ -124,10 +124,6 @@ module _ (h : List Cell) («package» : List ℕ) where
       (string_in (shape h v))
 
 -- ---- `key`: a label twice in a list that was given; a name that the package has declared
-
--- the packages are the same, and the names are
-abbrev pub same_label : LabelParts → LabelParts → Bool
-same_label a b = bytes_eq a.«package» b.«package» && bytes_eq a.name b.name
 
 -- whether a label stands there twice
 abbrev pub repeats : List LabelParts → Bool

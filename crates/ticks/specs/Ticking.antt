@@ -58,8 +58,9 @@ FaultOr r broken.NoMemory = Unit {0}
 abbrev pub SaysKind : {A : Type 0} → Ticking A → Result A Kind → Count → Type 0
 SaysKind r result now = MatchResult result (λ x. r ≡ Ok (x, now)) (λ k. r ≡ Err k)
 
--- a call answers that, or want of memory
-abbrev pub Says : {A : Type 0} → Ticking A → Result A Broken → Count → Type 0
+-- A call answers what the definition gives, with the state as it is then, of which the definition
+-- may know the ticks alone; or it answers want of memory.
+abbrev pub Says : {A S : Type 0} → Result (A × S) Kind → Result A Broken → S → Type 0
 Says r result now = MatchResult result (λ x. r ≡ Ok (x, now)) (λ e. FaultOr r e)
 
 -- a call that changes a heap does what the definition gives, or leaves it as it was

@@ -162,7 +162,8 @@ fn made(alloc: Global, state: &mut State, what: Turn) -> Result<Value, Broken> {
 
 fn modulo(state: &State, a: &Value, b: i64) -> Result<Value, Broken> {
     let b = number(b);
-    calculate(state, Arithmetic::Modulo, Item::Value(a), Item::Value(&b))
+    let rest = calculate(state, Arithmetic::Modulo, Item::Value(a), Item::Value(&b))?;
+    Ok(rest)
 }
 
 fn product_and_sum(alloc: Global, state: &mut State, i: &Value) -> Result<Value, Broken> {

@@ -2,7 +2,7 @@
 -- "Labels"; docs/PROFILE.md, "Labels").
 use Rattle.std.specs.Prelude.{◌≡◌, true, ℕ, Bool, ◌&&◌, ◌||◌, ◌==◌, nat_eq, List, [], ◌∷◌, ◌++◌}
 use Rattle.std.specs.Prelude.{length, take, drop, ◌+◌, codes, Option, Some, None, option_and_then}
-use Rattle.std.specs.Prelude.{option_map, if◌then◌else◌}
+use Rattle.std.specs.Prelude.{option_map, if◌then◌else◌, bytes_eq}
 use Rattle.std.specs.List.{list_any, before_first, after_first, starts_with}
 use Rattle.std.specs.Borrow.{Bor}
 use Rattle.workspace.specs.Paths.{is_path, last_segment}
@@ -11,6 +11,10 @@ use Rattle.workspace.specs.Paths.{is_path, last_segment}
 pub record LabelParts : Type 0 where
   pub «package» : List ℕ
   pub name : List ℕ
+
+-- labels are the same where their packages and names are, byte for byte
+abbrev pub same_label : LabelParts → LabelParts → Bool
+same_label a b = bytes_eq a.«package» b.«package» && bytes_eq a.name b.name
 
 -- the byte `:`, which stands between a label's package and its name
 abbrev pub is_colon : ℕ → Bool

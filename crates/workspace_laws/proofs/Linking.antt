@@ -7,10 +7,10 @@ use Rattle.values.specs.Shape.{value_of}
 use Rattle.values.specs.View.{FrozenTree}
 use Rattle.values.specs.declared.value.Value.{Value}
 use Rattle.operations.specs.Names.{listed}
-use Rattle.loading.specs.Loads.{Path, Name}
+use Rattle.loading.specs.Loads.{Path, Name, path_at, first_of}
 use Rattle.evaluation.specs.declared.handed.Module.{Module}
-use Rattle.evaluation.specs.Evaluated.{Known, held, first_of, frozen_value, global_named, name_value}
-use Rattle.evaluation.specs.Worlds.{path_at, load_path, defaults_of, world}
+use Rattle.evaluation.specs.Evaluated.{Known, held, frozen_value, global_named, name_value}
+use Rattle.evaluation.specs.Worlds.{load_path, defaults_of, world}
 use Rattle.one_tree.specs.Found.{Set, in_tree, in_value, in_values, in_fields}
 use Rattle.one_tree.specs.Sets.{AreIn}
 use Rattle.one_tree.proofs.Amidst.{among_left, among_right}

@@ -1,4 +1,5 @@
 -- What a module declares has no depsets, so its place keeps what holds.
+use Rattle.language.specs.Place.{with_state}
 use Rattle.std.proofs.Common.{◌≡◌, ℕ, Bool, true, false, List, [], ◌∷◌, Option, Some, None, Result, Ok, Err, refl, sym, subst}
 use Rattle.values.specs.Shape.{shape}
 use Rattle.leaves.specs.declared.leaf.AttributeKind.{AttributeKind}
@@ -21,7 +22,7 @@ use Rattle.declaring.specs.NewNames.{may_be_doc}
 use Rattle.declaring.specs.ProviderCalls.{provider_parameters, fields_in, provider_declared, provider_with, new_provider}
 use Rattle.declaring.specs.RuleMaking.{rule_parameters, function_in, attributes_in, rule_declared, rule_with, new_rule}
 use Rattle.file_places.specs.Methods.{declared_kind}
-use Rattle.file_places.specs.ModulePlace.{declared, attribute_call, built_in_call, module_call, module_place}
+use Rattle.file_places.specs.ModulePlace.{attribute_call, built_in_call, module_call, module_place}
 use Rattle.keeping.specs.Kept.{Gives}
 use Rattle.one_tree.specs.Found.{Set, in_value}
 use Rattle.one_tree.specs.Sets.{AreIn}
@@ -82,7 +83,7 @@ module _ (owner : List ℕ) (base : List Set) where
   Keeps k r = Gives (held owner base nothing) IsSeen k r
 
   declared_keeps : (k : Seen owner base) (w : Whole Declarations) (r : Result (Value × Declarations) Kind)
-      → WholeHolds nothing k w → Bare r → Keeps k (declared w r)
+      → WholeHolds nothing k w → Bare r → Keeps k (with_state w r)
   declared_keeps k w (Ok p) h b =
       let none : AreIn [] k.sets = λ d i. absurd i in
       (k, λ d i. i, record { state = h.state; work = none }, subst (λ ds. AreIn ds k.sets) (sym b) none)

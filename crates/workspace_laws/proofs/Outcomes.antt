@@ -3,10 +3,9 @@ use Rattle.std.proofs.Common.{◌≡◌, ◌∙◌, inl, inr, ⊎_elim, ℕ, Lis
 use Rattle.edges.proofs.Outcomes.{outcomes_alone}
 use Rattle.coherence.specs.Together.{among}
 use Rattle.one_tree.specs.Found.{Set}
-use Rattle.workspace.specs.Labels.{LabelParts}
+use Rattle.workspace.specs.Labels.{LabelParts, same_label}
 use Rattle.workspace.specs.Workspaces.{Pair, paths_of}
 use Rattle.targets.specs.Checks.{Dependency, first_refused}
-use Rattle.targets.specs.RuleCalls.{same_label}
 use Rattle.targets.specs.Resolving.{Named, target, source_file, failed_package, nothing, named, needs}
 use Rattle.targets.specs.Resolving as resolving
 use Rattle.targets.specs.Steps.{Implemented, Fault, finished, failed_labels, with_outcomes, unless_refused, analysed, step}

@@ -1,4 +1,5 @@
 -- The place of an implementation keeps what holds.
+use Rattle.language.specs.Place.{with_state}
 use Rattle.std.proofs.Common.{ℕ, List, Option, Some, None, Ok, Err}
 use Rattle.leaves.specs.declared.leaf.Leaf.{Leaf}
 use Rattle.leaves.specs.declared.leaf.Leaf.TheVariants as plain
@@ -20,14 +21,14 @@ use Rattle.contexts.specs.Fields.{field}
 use Rattle.contexts.specs.Offered.{item}
 use Rattle.contexts.specs.declared.method.ActionMethod.{ActionMethod}
 use Rattle.contexts.specs.declared.work.Work.{Work}
-use Rattle.implementations.specs.Implementations.{worked, action_call, object_method, call_method, implementation_place}
+use Rattle.implementations.specs.Implementations.{action_call, object_method, call_method, implementation_place}
 use Rattle.workspace_laws.proofs.Offered.{given_is, in_dependencies, items_are_in}
 use Rattle.workspace_laws.proofs.Fields.{fields_are_in}
 use Rattle.workspace_laws.proofs.Actions.{in_work, IsWorked, methods_bring_none}
 
 module _ (owner : List ℕ) (base : List Set) where
   worked_gives : (k : Seen owner base) (w : Whole Work) (r : Working) → WholeHolds in_work k w → IfGiven (IsWorked k.sets) r
-      → Gives (held owner base in_work) IsSeen k (worked w r)
+      → Gives (held owner base in_work) IsSeen k (with_state w r)
   worked_gives k w (Ok p) h g = (k, same_in k.sets, record { state = h.state; work = g.1 }, g.0)
   worked_gives k w (Err e) h g = tt
 

@@ -2,7 +2,7 @@ use Rattle.std.proofs.Common.{◌≡◌, drop}
 use Rattle.std.specs.List.{flat_map}
 use Rattle.depsets.specs.Keys.{keep_all}
 use Rattle.targets.specs.Attributes.{labels_in}
-use Rattle.targets.specs.RuleCalls.{same_label}
+use Rattle.workspace.specs.Labels.{same_label}
 use Rattle.targets.specs.Resolving.{dependencies}
 use Rattle.analysis.specs.Keyed.{IsNoted}
 use Rattle.analysis.proofs.noted.dependencies.Given as goal

@@ -2,8 +2,7 @@ use Rattle.std.proofs.Common.{◌≡◌, ◌∙◌, ◌++◌, ◌∷◌, [], fal
 use Rattle.std.proofs.lemmas.Bool.{not-false, not-true}
 use Rattle.std.specs.List.{list_any}
 use Rattle.depsets.proofs.Keys.{keep-absent}
-use Rattle.workspace.specs.Labels.{LabelParts}
-use Rattle.targets.specs.RuleCalls.{same_label}
+use Rattle.workspace.specs.Labels.{LabelParts, same_label}
 use Rattle.analysis.specs.Keyed.{Key, key_label, IsNoted}
 use Rattle.analysis.proofs.Keyed.{kept_present, noted_last}
 use Rattle.analysis.proofs.noted.note.Goals as goal

@@ -1,6 +1,6 @@
 use Rattle.std.proofs.Common.{◌≡◌, drop}
 use Rattle.depsets.specs.Keys.{keep_all}
-use Rattle.targets.specs.RuleCalls.{same_label}
+use Rattle.workspace.specs.Labels.{same_label}
 use Rattle.analysis.specs.Keyed.{IsNoted}
 use Rattle.analysis.proofs.noted.note_all.Given as goal
 

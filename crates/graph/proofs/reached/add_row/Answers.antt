@@ -1,6 +1,7 @@
 use Rattle.std.proofs.Common.{◌≡◌, ◌∙◌, length, ap, sym, subst}
 use Rattle.std.proofs.lemmas.Result.{err_from_is_err_and}
-use Rattle.graph.specs.Same.{same_label, same_label-decides, no_label, label_at}
+use Rattle.workspace.specs.Labels.{same_label}
+use Rattle.graph.specs.Same.{same_label-decides, no_label, label_at}
 use Rattle.graph.specs.Numbering.{AreNumbers}
 use Rattle.graph.proofs.Rows.{many_next, next_row}
 use Rattle.graph.proofs.reached.add_row.Goals as goal

@@ -1,5 +1,6 @@
 use Rattle.std.proofs.lemmas.Result.{err_from_is_err_and}
-use Rattle.graph.specs.Same.{same_label, same_label-decides, no_label}
+use Rattle.workspace.specs.Labels.{same_label}
+use Rattle.graph.specs.Same.{same_label-decides, no_label}
 use Rattle.graph.proofs.Rows.{begins, many_first}
 use Rattle.graph.proofs.reached.reached_from.Goals as goal
 

@@ -1,5 +1,6 @@
 use Rattle.std.proofs.Common.{◌-◌, ◌≤◌, length}
-use Rattle.graph.specs.Same.{same_label, no_label}
+use Rattle.workspace.specs.Labels.{same_label}
+use Rattle.graph.specs.Same.{no_label}
 use Rattle.graph.specs.Numbering.{Numbering}
 use Rattle.graph.proofs.reached.reached_from.Given as goal
 

@@ -1,9 +1,8 @@
 use Rattle.std.proofs.Common.{◌≡◌, ◌∙◌, ℕ, ◌<◌, length, get_or, [], List, Result, sym, ap, arith, rules}
 use Rattle.std.proofs.lemmas.List.{get_or_default}
 use Rattle.std.proofs.lemmas.Result.{IfOk-weaker}
-use Rattle.loading.specs.Loads.{Path, LoadFault}
+use Rattle.loading.specs.Loads.{Path, LoadFault, path_at}
 use Rattle.loading.specs.Modules.{module_of}
-use Rattle.load_graph.specs.Paths.{path_at}
 use Rattle.modules.specs.Tables.{Table, lower_of}
 use Rattle.modules.specs.Evaluation.{sources, module_by}
 use Rattle.modules.proofs.Doing.{one_is, hs_size, deps_size, files_size}

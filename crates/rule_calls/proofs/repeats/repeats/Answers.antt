@@ -2,11 +2,11 @@ use Rattle.std.proofs.Common.{◌≡◌, ◌∙◌, ◌+◌, ◌++◌, ◌∷◌
 use Rattle.std.proofs.lemmas.Bool.{not-false, not-true, or_from}
 use Rattle.std.proofs.lemmas.List.{take_more}
 use Rattle.std.specs.List.{list_any}
-use Rattle.workspace.specs.Labels.{LabelParts}
+use Rattle.workspace.specs.Labels.{LabelParts, same_label}
 use Rattle.analysis.specs.Keyed.{Key, key_label, IsNoted}
 use Rattle.analysis.proofs.Keyed.{noted_last}
 use Rattle.targets.proofs.Facts.{or_right}
-use Rattle.targets.specs.RuleCalls.{same_label, repeats}
+use Rattle.targets.specs.RuleCalls.{repeats}
 use Rattle.rule_calls.proofs.Repeated.{repeats-more, repeats-whole}
 use Rattle.rule_calls.proofs.repeats.repeats.Goals as goal
 

@@ -1,7 +1,8 @@
 use Rattle.std.proofs.Common.{◌≡◌, ◌∙◌, ap, map, refl, subst}
 use Rattle.edges.specs.Edges.{EdgesView}
 use Rattle.edges.specs.Rows.{IsGraph}
-use Rattle.graph.specs.Same.{same_label, same_label-decides, no_label, label_at}
+use Rattle.workspace.specs.Labels.{same_label}
+use Rattle.graph.specs.Same.{same_label-decides, no_label, label_at}
 use Rattle.graph.specs.Graphs.{IsGraphOf}
 use Rattle.graph.proofs.Carried.{rows_graph, graph_of_labels}
 use Rattle.graph.proofs.graph.Graph.of.Goals as goal

@@ -1,5 +1,6 @@
 use Rattle.std.proofs.Common.{sym}
-use Rattle.graph.specs.Same.{same_label, same_label-decides, no_label}
+use Rattle.workspace.specs.Labels.{same_label}
+use Rattle.graph.specs.Same.{same_label-decides, no_label}
 use Rattle.graph.proofs.Growth.{number_found}
 use Rattle.graph.proofs.numbers.Numbers.number.Goals as goal
 

@@ -1,4 +1,5 @@
-use Rattle.graph.specs.Same.{same_label, same_label-decides, no_label}
+use Rattle.workspace.specs.Labels.{same_label}
+use Rattle.graph.specs.Same.{same_label-decides, no_label}
 use Rattle.graph.proofs.Growth.{grown_next, numbers_next}
 use Rattle.graph.proofs.numbers.Numbers.number_all.Goals as goal
 

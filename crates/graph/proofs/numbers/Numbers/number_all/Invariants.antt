@@ -1,5 +1,6 @@
 use Rattle.std.proofs.Common.{◌≤◌, length, take}
-use Rattle.graph.specs.Same.{same_label, no_label}
+use Rattle.workspace.specs.Labels.{same_label}
+use Rattle.graph.specs.Same.{no_label}
 use Rattle.graph.specs.Numbering.{Grown, AreNumbers}
 use Rattle.graph.proofs.numbers.Numbers.number_all.Given as goal
 

@@ -1,6 +1,6 @@
 use Rattle.std.proofs.Common.{◌∙◌, ap, sym}
 use Rattle.targets.specs.Resolving.{named_dependencies}
-use Rattle.targets.specs.RuleCalls.{same_label}
+use Rattle.workspace.specs.Labels.{same_label}
 use Rattle.packages.proofs.Names.{dependencies_once, none_needed, none_twice}
 use Rattle.packages.proofs.all_targets.TargetsDependencies.deps.Goals as goal
 
