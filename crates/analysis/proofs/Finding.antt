@@ -2,12 +2,13 @@
 use Rattle.std.proofs.Common.{◌≡◌, inl, inr, ◌∙◌, ◌<◌, ◌+◌, ℕ, Bool, true, false, List, [], ◌∷◌, ◌++◌, Option, Some, None, length, take, get_or, ap, sym, refl, cond, true≢false}
 use Rattle.std.proofs.lemmas.List.{map-append, take_more}
 use Rattle.std.specs.Prelude.{option_map, option_copied, is_some, if◌then◌else◌}
+use Rattle.std.specs.Option.{option_or}
 use Rattle.std.specs.Map.{lookup}
 use Rattle.std.specs.BTreeMap.{BTreeMap, Updates, get, get_by, is_at}
 use Rattle.std.specs.Cmp.Lexicographic.{slice_cmp}
 use Rattle.std.specs.Ordering.{nat_cmp, ordering_then}
 use Rattle.workspace.specs.Labels.{LabelParts, label_text, same_label}
-use Rattle.targets.specs.Checks.{Dependency as Seen, dependency_of, first_of}
+use Rattle.targets.specs.Checks.{Dependency as Seen, dependency_of}
 use Rattle.std.specs.Borrow.{Bor}
 use Rattle.targets.proofs.Facts.{cases_of, same_label-same}
 use Rattle.analysis.specs.Keyed.{Key, key_label, key_cmp, text_digest, IsKey}
@@ -26,15 +27,15 @@ same_found m q k of_q of_k h =
     ∙ ap (λ (l : LabelParts). by_key m (text_digest (label_text l)) l) (same_label-same (key_label q) (key_label k) h)
     ∙ ap (λ (d : ℕ). by_key m d (key_label k)) (sym of_k)
 
-first_none : {A : Type 0} (o : Option A) → o ≡ first_of o None
+first_none : {A : Type 0} (o : Option A) → o ≡ option_or o None
 first_none None = refl
 first_none (Some a) = refl
 
-some_first : {A : Type 0} (o p : Option A) → is_some o ≡ true → o ≡ first_of o p
+some_first : {A : Type 0} (o p : Option A) → is_some o ≡ true → o ≡ option_or o p
 some_first None p h = absurd (true≢false (sym h))
 some_first (Some a) p h = refl
 
-none_first : {A : Type 0} (o p : Option A) → is_some o ≡ false → p ≡ first_of o p
+none_first : {A : Type 0} (o p : Option A) → is_some o ≡ false → p ≡ option_or o p
 none_first None p h = refl
 none_first (Some a) p h = absurd (true≢false h)
 
@@ -54,7 +55,7 @@ module _ (d : Dependency) (k : Key) (is : key_label k ≡ d.label.now) (of_k : I
         some_first (option_map dependency_seen (get key_cmp m q)) (dependency_of (dependency_seen d ∷ []) (key_label q))
         (mapped_some dependency_seen (get key_cmp m q) ∙ ap is_some (same_found m q k of_q of_k same) ∙ there)
     | inr not ↦
-        first_none (option_map dependency_seen (get key_cmp m q)) ∙ ap (first_of (option_map dependency_seen (get key_cmp m q))) (sym (one q false not))
+        first_none (option_map dependency_seen (get key_cmp m q)) ∙ ap (option_or (option_map dependency_seen (get key_cmp m q))) (sym (one q false not))
   ]
 
   -- none is, and the dependency is put
@@ -63,19 +64,19 @@ module _ (d : Dependency) (k : Key) (is : key_label k ≡ d.label.now) (of_k : I
     | inl same ↦
         ap (option_map dependency_seen) (more.0 q ∙ ap (λ b. cond b (Some d) (get key_cmp olds q)) (at_key k q of_k of_q ∙ same))
         ∙ none_first (option_map dependency_seen (get key_cmp olds q)) (Some (dependency_seen d)) (mapped_some dependency_seen (get key_cmp olds q) ∙ ap is_some (same_found olds q k of_q of_k same) ∙ absent)
-        ∙ ap (first_of (option_map dependency_seen (get key_cmp olds q))) (sym (one q true same))
+        ∙ ap (option_or (option_map dependency_seen (get key_cmp olds q))) (sym (one q true same))
     | inr not ↦
         ap (option_map dependency_seen) (more.0 q ∙ ap (λ b. cond b (Some d) (get key_cmp olds q)) (at_key k q of_k of_q ∙ not))
-        ∙ first_none (option_map dependency_seen (get key_cmp olds q)) ∙ ap (first_of (option_map dependency_seen (get key_cmp olds q))) (sym (one q false not))
+        ∙ first_none (option_map dependency_seen (get key_cmp olds q)) ∙ ap (option_or (option_map dependency_seen (get key_cmp olds q))) (sym (one q false not))
   ]
 
 -- the dependency of a label in two lists, one behind the other
-of_both : (xs ys : List Seen) (l : LabelParts) → dependency_of (xs ++ ys) l ≡ first_of (dependency_of xs l) (dependency_of ys l)
+of_both : (xs ys : List Seen) (l : LabelParts) → dependency_of (xs ++ ys) l ≡ option_or (dependency_of xs l) (dependency_of ys l)
 of_both [] ys l = refl
 of_both (x ∷ xs) ys l = at (same_label l x.0) (of_both xs ys l)
   where
-    at : (b : Bool) → dependency_of (xs ++ ys) l ≡ first_of (dependency_of xs l) (dependency_of ys l)
-        → (if b then Some x else dependency_of (xs ++ ys) l) ≡ first_of (if b then Some x else dependency_of xs l) (dependency_of ys l)
+    at : (b : Bool) → dependency_of (xs ++ ys) l ≡ option_or (dependency_of xs l) (dependency_of ys l)
+        → (if b then Some x else dependency_of (xs ++ ys) l) ≡ option_or (if b then Some x else dependency_of xs l) (dependency_of ys l)
     at true h = refl
     at false h = h
 
@@ -89,7 +90,7 @@ found_step ds i d olds news lt h more = λ q of_q.
     let x = get_or ds i d in
     let grown : dependencies_seen (take (i + 1) ds) ≡ dependencies_seen (take i ds) ++ dependency_seen x ∷ []
     = ap dependencies_seen (take_more ds i d lt) ∙ map-append dependency_seen (take i ds) (x ∷ []) in
-    more q of_q ∙ ap (λ o. first_of o (dependency_of (dependency_seen x ∷ []) (key_label q))) (h q of_q)
+    more q of_q ∙ ap (λ o. option_or o (dependency_of (dependency_seen x ∷ []) (key_label q))) (h q of_q)
     ∙ sym (of_both (dependencies_seen (take i ds)) (dependency_seen x ∷ []) (key_label q))
     ∙ ap (λ (xs : List Seen). dependency_of xs (key_label q)) (sym grown)
 

@@ -1,9 +1,10 @@
 -- Attributes that ask nothing of targets refuse none.
 use Rattle.std.proofs.Common.{◌≡◌, Bool, true, false, ◌||◌, List, [], ◌∷◌, Option, Some, None, if◌then◌else◌, ap, sym, refl, true≢false}
+use Rattle.std.specs.Option.{option_or}
 use Rattle.std.specs.List.{list_any}
 use Rattle.workspace.specs.Labels.{LabelParts, same_label}
 use Rattle.targets.specs.Attributes.{labels_in}
-use Rattle.targets.specs.Checks.{Dependency, offers_all, refusal, refused, dependency_of, first_of, first_in_value, first_refused}
+use Rattle.targets.specs.Checks.{Dependency, offers_all, refusal, refused, dependency_of, first_in_value, first_refused}
 use Rattle.targets.specs.declared.attributes.AttributeValue.{AttributeValue}
 use Rattle.targets.specs.declared.attributes.NamedAttribute.{NamedAttribute}
 use Rattle.targets.specs.declared.outcome.Outcome.TheVariants.{Source, Done, Failed}
@@ -28,8 +29,8 @@ none_refused a (d ∷ ds) l takes unsourced =
     at true h k = h
     at false h k = k
 
-none_first : (o p : Option TargetFault) → o ≡ None → p ≡ None → first_of o p ≡ None
-none_first o p h k = (λ i. first_of (h i) (k i))
+none_first : (o p : Option TargetFault) → o ≡ None → p ≡ None → option_or o p ≡ None
+none_first o p h k = (λ i. option_or (h i) (k i))
 
 none_in_value : (ds : List Dependency) (a : NamedAttribute) (ls : List LabelParts) → takes_targets a ≡ true → are_no_sources ds ≡ true → first_in_value ds a ls ≡ None
 none_in_value ds a [] takes unsourced = refl
@@ -42,4 +43,4 @@ none_in_all ds [] vs takes unsourced = refl
 none_in_all ds (a ∷ rest) [] takes unsourced = refl
 none_in_all ds (a ∷ rest) (v ∷ vs) takes unsourced =
     let parts = both (takes_targets a) (take_targets rest) takes in
-    (λ i. first_of (sym (none_in_value ds a (labels_in v) parts.0 unsourced) i) (none_in_all ds rest vs parts.1 unsourced i))
+    (λ i. option_or (sym (none_in_value ds a (labels_in v) parts.0 unsourced) i) (none_in_all ds rest vs parts.1 unsourced i))

@@ -1,7 +1,8 @@
 -- Dependencies where they lie, as the definitions of outcomes see them.
 use Rattle.std.specs.Prelude.{◌≡◌, List, [], ◌∷◌, map, option_map}
+use Rattle.std.specs.Option.{option_or}
 use Rattle.std.specs.BTreeMap.{BTreeMap, get}
-use Rattle.targets.specs.Checks.{Dependency as Seen, dependency_of, first_of}
+use Rattle.targets.specs.Checks.{Dependency as Seen, dependency_of}
 use Rattle.analysis.specs.declared.dependency.Dependency.{Dependency}
 use Rattle.analysis.specs.Keyed.{Key, key_label, key_cmp, IsKey}
 
@@ -23,5 +24,5 @@ abbrev pub HasMore : Dependency → BTreeMap Key Dependency → BTreeMap Key Dep
 HasMore d olds news =
     (q : Key) → IsKey q
     → option_map dependency_seen (get key_cmp news q)
-    ≡ first_of (option_map dependency_seen (get key_cmp olds q))
+    ≡ option_or (option_map dependency_seen (get key_cmp olds q))
     (dependency_of (dependency_seen d ∷ []) (key_label q))

@@ -1,11 +1,12 @@
 -- Arguments fit parameters where each parameter may get what stands at its place and what was given under its name.
 use Rattle.std.proofs.Common.{◌≡◌, ℕ, zero, suc, ◌+◌, ◌<◌, ◌≤◌, Bool, true, false, not, ◌&&◌, if◌then◌else◌, List, [], ◌∷◌, length, drop, map, slice_get, Option, Some, None, Result, Ok, Err, is_some, refl, sym, ap, ◌∙◌, arith}
+use Rattle.std.specs.Option.{option_or}
 use Rattle.depsets.proofs.Turns.{drop_at}
 use Rattle.values.specs.declared.value.Value.{Value}
 use Rattle.ticks.specs.declared.ticks.Kind.{Kind}
 use Rattle.ticks.specs.declared.ticks.Kind.TheVariants.{Arity}
 use Rattle.operations.specs.Arguments.{Given, Parameter, Bound, given_for, filled, put_first, named_or_missing, all_known, bound}
-use Rattle.calls.specs.Parameters.{placed_or_named, got_from, may_get, may_get_all}
+use Rattle.calls.specs.Parameters.{got_from, may_get, may_get_all}
 
 abbrev Fits : Bool → Bound → Result Bound Kind
 Fits b os = if b then Ok os else Err Arity
@@ -25,7 +26,7 @@ missed true r b os e = ap (put_first None) e ∙ put_both b os None
 missed false r b os e = refl
 
 left : (p : Parameter) (o : Option Value) (r : Result Bound Kind) (b : Bool) (os : Bound) → r ≡ Fits b os
-    → named_or_missing p o r ≡ Fits (may_get p None o && b) (placed_or_named None o ∷ os)
+    → named_or_missing p o r ≡ Fits (may_get p None o && b) (option_or None o ∷ os)
 left p (Some v) r b os e = ap (put_first (Some v)) e ∙ put_both b os (Some v)
 left p None r b os e = missed p.may_miss r b os e
 
@@ -54,7 +55,7 @@ module _ (g : Given) where
 
   next : (p : Parameter) (ps : List Parameter) (i : ℕ) (o : Option Value) → slice_get g.items i ≡ o
       → filled ps (drop (i + 1) g.items) named ≡ Fits (may_get_all (i + 1) ps g) (got_from (i + 1) ps g)
-      → filled (p ∷ ps) (drop i g.items) named ≡ Fits (may_get p o (named p.name) && may_get_all (i + 1) ps g) (placed_or_named o (named p.name) ∷ got_from (i + 1) ps g)
+      → filled (p ∷ ps) (drop i g.items) named ≡ Fits (may_get p o (named p.name) && may_get_all (i + 1) ps g) (option_or o (named p.name) ∷ got_from (i + 1) ps g)
   next p ps i None e h =
       let d : drop i g.items ≡ [] = none_left g.items i e in
       let f : filled ps [] named ≡ Fits (may_get_all (i + 1) ps g) (got_from (i + 1) ps g) = ap (λ l. filled ps l named) (sym (none_next g.items i d)) ∙ h in

@@ -2,6 +2,7 @@
 -- at its place, or else what was given under its name. (Starlark's specification, "Function and
 -- method calls".)
 use Rattle.std.specs.Prelude.{◌≡◌, ℕ, ◌+◌, Bool, true, not, ◌&&◌, List, [], ◌∷◌, slice_get}
+use Rattle.std.specs.Option.{option_or}
 use Rattle.std.specs.Prelude.{Option, Some, None, is_some, Err}
 use Rattle.values.specs.declared.value.Value.{Value}
 use Rattle.operations.specs.Arguments.{Given, Parameter as Taken, Bound, given_for}
@@ -15,14 +16,9 @@ use Rattle.calls.specs.declared.arguments.Parameter.{Parameter}
 abbrev pub taken : Parameter → Taken
 taken p = record { name = p.name.now; by_name = p.by_name; may_miss = p.may_miss }
 
--- what stands at its place, or else what was given under its name
-abbrev pub placed_or_named : Option Value → Option Value → Option Value
-placed_or_named (Some v) o = Some v
-placed_or_named None o = o
-
 -- what the parameter at a place gets
 abbrev pub got_at : ℕ → List ℕ → Given → Option Value
-got_at i x g = placed_or_named (slice_get g.items i) (given_for x g.names g.values)
+got_at i x g = option_or (slice_get g.items i) (given_for x g.names g.values)
 
 -- what each parameter gets, from a place on
 abbrev pub got_from : ℕ → List Taken → Given → Bound

@@ -1,5 +1,6 @@
 -- Worked fields of targets, of `ctx` and of its parts, and worked items of targets, by computation.
 use Rattle.std.specs.Prelude.{◌≡◌, ℕ, true, false, List, [], ◌∷◌, Result, Ok, Err, refl, codes}
+use Rattle.depsets.specs.Listed.{walked}
 use Rattle.depsets.specs.declared.element.Element.TheVariants as element
 use Rattle.values.specs.Tree.{key, leaf, dict, pairs}
 use Rattle.values.specs.View.{FrozenTree}
@@ -22,7 +23,7 @@ use Rattle.contexts.specs.Fields.{field, object_value, frozen_list}
 use Rattle.contexts.proofs.Small.{target, dependencies, x, P, Q, instance_of_P, d_files, s_file, file_of}
 
 abbrev field_of : Leaf → List ℕ → Result Value Kind
-field_of l n = field target dependencies x l n
+field_of l n = field walked target dependencies x l n
 
 abbrev of_object : Object → List ℕ → Result Value Kind
 of_object o n = field_of (plain.Object o) n

@@ -4,6 +4,7 @@ use Rattle.std.proofs.lemmas.Option.{slice_get-map}
 use Rattle.std.specs.Prelude.{option_map}
 use Rattle.std.specs.List.{position_from}
 use Rattle.std.specs.Str.{bytes_eq}
+use Rattle.depsets.specs.Listed.{walked}
 use Rattle.first_places.specs.Places.{place_named}
 use Rattle.operations.specs.Items.{at_place}
 use Rattle.targets.specs.Placed.{names_of}
@@ -51,7 +52,7 @@ mapped_at f xs (Some i) = slice_get-map f xs i
 
 -- `ctx.files` of a name, by the attribute's place
 pub files_named : (t : Target) (ds : List Dependency) (x : List ℕ) (o : Option ℕ) → o ≡ place_named x (names_of t.rule.attributes)
-    → files_or_name ds (labels_for (at_place t.values o)) ≡ files_field t ds x
+    → files_or_name walked ds (labels_for (at_place t.values o)) ≡ files_field walked t ds x
 files_named t ds x o h =
-    ap (λ p. files_or_name ds (labels_for (at_place t.values p))) h
-    ∙ ap (λ v. files_or_name ds (labels_for v)) (named_at x t.rule.attributes t.values)
+    ap (λ p. files_or_name walked ds (labels_for (at_place t.values p))) h
+    ∙ ap (λ v. files_or_name walked ds (labels_for v)) (named_at x t.rule.attributes t.values)

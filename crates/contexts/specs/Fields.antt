@@ -3,7 +3,6 @@
 use Rattle.std.specs.Prelude.{ℕ, ◌+◌, List, [], ◌∷◌, length, map, Option, Some, None, option_map}
 use Rattle.std.specs.Prelude.{Result, Ok, Err, nat_lt, slice_get, codes, bytes_eq, if◌then◌else◌}
 use Rattle.std.specs.List.{flat_map}
-use Rattle.depsets.specs.Listed.{walked}
 use Rattle.depsets.specs.Own.{Own}
 use Rattle.depsets.specs.Rose.{Rose}
 use Rattle.depsets.specs.declared.element.Element.{Element}
@@ -99,16 +98,6 @@ element_tree (element.Truth b) = key (index.Truth b)
 element_tree (element.Label t) = leaf (plain.Label t)
 element_tree (element.File f) = leaf (plain.File f)
 
--- the listing of a depset, as `to_list` gives it
-abbrev pub listing : Option (Rose Own) → List Element
-listing (Some d) = walked d
-listing None = []
-
--- the listing of a dependency's files, which is empty where it has none
-abbrev pub listed_files : Option Dependency → List Element
-listed_files (Some d) = listing (files_of d)
-listed_files None = []
-
 -- the frozen list of these, or `large` where they are more than a list may have
 abbrev pub unless_large : List Element → Result Value Kind
 unless_large es =
@@ -140,47 +129,61 @@ module _ (ds : List Dependency) where
   attribute_value (has.Label (Some l)) = value_of (target_tree l)
   attribute_value (has.Labels ls) = frozen_list (map target_tree ls)
 
-  -- the listings of the targets of labels, one after the other
-  abbrev pub files_listed : List LabelParts → List Element
-  files_listed ls = flat_map (λ l. listed_files (slice_get ds (place_of ds l))) ls
-
-  -- what `ctx.files` gives for these labels; `name` where the attribute is none of labels
-  abbrev pub files_or_name : Option (List LabelParts) → Result Value Kind
-  files_or_name (Some ls) = unless_large (files_listed ls)
-  files_or_name None = Err fault.Name
-
 -- the labels that a target has for an attribute, if it has that one and it is one of labels
 abbrev pub labels_for : Option AttributeValue → Option (List LabelParts)
 labels_for (Some v) = attribute_labels v
 labels_for None = None
 
--- a target, and its dependencies with their outcomes
-module _ (t : Target) (ds : List Dependency) where
-  -- ---- `ctx.attr`
+-- ---- `ctx.attr`
 
-  -- `name` is the target's name, and any other field is what the target has for that attribute
-  abbrev pub attr_field : LabelParts → List ℕ → Option Value
-  attr_field l x =
-      if bytes_eq x (codes "name") then Some (text l.name)
-      else option_map (attribute_value ds) (value_for t x)
+-- `name` is the target's name, and any other field is what the target has for that attribute
+abbrev pub attr_field : Target → List Dependency → LabelParts → List ℕ → Option Value
+attr_field t ds l x =
+    if bytes_eq x (codes "name") then Some (text l.name)
+    else option_map (attribute_value ds) (value_for t x)
 
+-- with the listing of depsets by which `ctx.files` is made: the code has `walked`, as for `to_list`
+module _ (listing : Rose Own → List Element) where
   -- ---- `ctx.files`, of attributes of labels alone
 
-  -- the files of all targets that the attribute names, in one frozen list
-  abbrev pub files_field : List ℕ → Result Value Kind
-  files_field x = files_or_name ds (labels_for (value_for t x))
+  -- the listing of a depset, which is empty where there is none
+  abbrev pub listed_or_empty : Option (Rose Own) → List Element
+  listed_or_empty (Some d) = listing d
+  listed_or_empty None = []
 
-  -- ---- all of them; what has no such field is `name`, and so are methods that aren't called
+  -- the listing of a dependency's files, which is empty where it has none
+  abbrev pub listed_files : Option Dependency → List Element
+  listed_files (Some d) = listed_or_empty (files_of d)
+  listed_files None = []
 
-  -- a field of `ctx`, `ctx.attr` or `ctx.files`, for the target of a label
-  abbrev pub object_field : LabelParts → Object → List ℕ → Result Value Kind
-  object_field l object.Context x = or_fault fault.Name (context_field l x)
-  object_field l object.ContextAttr x = or_fault fault.Name (attr_field l x)
-  object_field l object.ContextFiles x = files_field x
-  object_field l _ x = Err fault.Name
+  -- the dependencies of a target with their outcomes
+  module _ (ds : List Dependency) where
+    -- the listings of the targets of labels, one after the other
+    abbrev pub files_listed : List LabelParts → List Element
+    files_listed ls = flat_map (λ l. listed_files (slice_get ds (place_of ds l))) ls
 
-  -- a field of a target or of such an object; no other value has one here
-  abbrev pub field : LabelParts → Leaf → List ℕ → Result Value Kind
-  field l (plain.Target n) x = or_fault fault.Name (target_field (slice_get ds n) x)
-  field l (plain.Object o) x = object_field l o x
-  field l _ x = Err fault.Name
+    -- what `ctx.files` gives for these labels; `name` where the attribute is none of labels
+    abbrev pub files_or_name : Option (List LabelParts) → Result Value Kind
+    files_or_name (Some ls) = unless_large (files_listed ls)
+    files_or_name None = Err fault.Name
+
+  -- a target, and its dependencies with their outcomes
+  module _ (t : Target) (ds : List Dependency) where
+    -- the files of all targets that the attribute names, in one frozen list
+    abbrev pub files_field : List ℕ → Result Value Kind
+    files_field x = files_or_name ds (labels_for (value_for t x))
+
+    -- ---- all of them; what has no such field is `name`, and so are methods that aren't called
+
+    -- a field of `ctx`, `ctx.attr` or `ctx.files`, for the target of a label
+    abbrev pub object_field : LabelParts → Object → List ℕ → Result Value Kind
+    object_field l object.Context x = or_fault fault.Name (context_field l x)
+    object_field l object.ContextAttr x = or_fault fault.Name (attr_field t ds l x)
+    object_field l object.ContextFiles x = files_field x
+    object_field l _ x = Err fault.Name
+
+    -- a field of a target or of such an object; no other value has one here
+    abbrev pub field : LabelParts → Leaf → List ℕ → Result Value Kind
+    field l (plain.Target n) x = or_fault fault.Name (target_field (slice_get ds n) x)
+    field l (plain.Object o) x = object_field l o x
+    field l _ x = Err fault.Name

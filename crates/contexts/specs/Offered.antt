@@ -25,8 +25,8 @@ use Rattle.targets.specs.declared.outcome.Outcome.TheVariants.{Source, Done, Fai
 
 -- ---- the instances that a target offers
 
--- what an outcome offers: a source file `DefaultInfo` alone, a target its instances, a
--- `DefaultInfo` before them where none was returned, and one that failed nothing
+-- what an outcome offers: a source file `DefaultInfo` alone, a target the instances of its outcome,
+-- of which one is a `DefaultInfo`, and one that failed nothing
 abbrev pub instances : Outcome → List FrozenTree
 instances (Source f) = info_with (source_files f) ∷ []
 instances (Done ts actions) = ts

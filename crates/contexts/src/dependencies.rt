@@ -15,7 +15,7 @@ use targets::Outcome;
 use values::Frozen;
 use workspace::Label;
 
-/// So many dependencies, at most, are gone through rather than found by hash.
+/// Up to so many dependencies are gone through; more are found by hash.
 pub(crate) const FEW: usize = 8;
 
 /// A label by which a dependency is found: its package and its name.

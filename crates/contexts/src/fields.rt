@@ -1,6 +1,7 @@
 //! Fields of targets, of `ctx` and of its parts.
 ghost use Rattle.std.specs.Prelude.{◌≡◌, Ok, Err, Some, None, IfOk};
 ghost use Rattle.std.specs.Prelude.{slice_get};
+ghost use Rattle.depsets.specs.Listed.{walked};
 ghost use Rattle.operations.specs.Items.{or_fault};
 ghost use Rattle.operations.specs.States.{Gives};
 ghost use Rattle.contexts.specs.Fields.{field, attr_field, files_field};
@@ -29,7 +30,7 @@ pub fn field<'a, 'b, I: FileLists>(
     owner: &Leaf,
     name: &FieldName,
 ) -> Result<Operand<'a>, Broken>
-    ensures { Gives (field context.now.target.now context.now.dependencies
+    ensures { Gives (field walked context.now.target.now context.now.dependencies
         context.now.label.now owner.now name.now) result }
 {
     match owner {
@@ -119,7 +120,8 @@ fn files_field<'a, 'b, I: FileLists>(
     context: &'a TargetContext<'b, I>,
     name: &FieldName,
 ) -> Result<Operand<'a>, Broken>
-    ensures { Gives (files_field context.now.target.now context.now.dependencies name.now) result }
+    ensures { Gives (files_field walked context.now.target.now context.now.dependencies
+        name.now) result }
 {
     match attribute_place(context.target, name) {
         Some(place) => context.files_at(alloc, place),

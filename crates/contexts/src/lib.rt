@@ -7,10 +7,11 @@
 //! meaning in the call of an implementation. [`Work`] is what an implementation has done so far.
 //!
 //! Calls: the fields, and the instances of providers that targets offer, each by its definition, or
-//! the answer that memory was refused. Nothing of a dependency is copied or counted: its label, its
-//! depsets and its instances are lent where they lie, and so are the lists of targets that
-//! [`TargetContext`] made once of the target's attributes. A list of `ctx.files` names each File
-//! once more: it is made at its first read, kept in [`TargetContext`], and lent from then on.
+//! the answer that memory was refused, where a `Broken` or an `AllocError` may be given. Nothing of
+//! a dependency is copied or counted: its label, its depsets and its instances are lent where they
+//! lie, and so are the lists of targets that [`TargetContext`] made once of the target's
+//! attributes. A list of `ctx.files` names each File once more: it is made at its first read, kept
+//! in [`TargetContext`], and lent from then on.
 #![tactic(auto)]
 
 mod attributes;

@@ -6,7 +6,7 @@ ghost use Rattle.values.specs.Seeing.{item_value};
 ghost use Rattle.ticks.specs.Ticking.{FaultOr};
 ghost use Rattle.operations.specs.States.{Gives};
 ghost use Rattle.contexts.specs.Fields.{attribute_labels, files_listed, files_or_name, frozen_list};
-ghost use Rattle.contexts.specs.Fields.{listing, listed_files, element_tree};
+ghost use Rattle.contexts.specs.Fields.{listed_or_empty, listed_files, element_tree};
 ghost use Rattle.contexts.specs.Fields.{unless_large};
 ghost use Rattle.contexts.specs.Offered.{value_depset};
 
@@ -30,7 +30,7 @@ pub(crate) fn files<'a>(
     dependencies: &Dependencies<'a>,
     value: &'a AttributeValue,
 ) -> Result<Value, Broken>
-    ensures { Gives (files_or_name dependencies.now (attribute_labels value.now)) result }
+    ensures { Gives (files_or_name walked dependencies.now (attribute_labels value.now)) result }
 {
     match value {
         AttributeValue::Key(_) => Err(Broken::Kind(Kind::Name)),
@@ -52,7 +52,7 @@ fn files_of_labels<'a>(
     dependencies: &Dependencies<'a>,
     labels: &'a [Shared<Label>],
 ) -> Result<Value, Broken>
-    ensures { Gives (unless_large (files_listed dependencies.now labels.now)) result }
+    ensures { Gives (unless_large (files_listed walked dependencies.now labels.now)) result }
 {
     match listed(alloc, dependencies, labels) {
         Ok(trees) => {
@@ -70,8 +70,9 @@ fn listed<'a>(
     labels: &'a [Shared<Label>],
 ) -> Result<Vec<Frozen>, Broken>
     ensures { MatchResult result
-        (λ ts. unless_large (files_listed dependencies.now labels.now) ≡ Ok (frozen_list ts.items))
-        (λ e. FaultOr (unless_large (files_listed dependencies.now labels.now)) e) }
+        (λ ts. unless_large (files_listed walked dependencies.now labels.now)
+        ≡ Ok (frozen_list ts.items))
+        (λ e. FaultOr (unless_large (files_listed walked dependencies.now labels.now)) e) }
 {
     let mut trees = Vec::new(alloc);
     for label in labels {
@@ -96,7 +97,7 @@ fn put_files(
     trees: &mut Vec<Frozen>,
 ) -> Result<(), AllocError>
     ensures { OnOk result (trees.new.items ≡ trees.old.items
-        ++ map element_tree (listed_files (slice_get dependencies.now place))) }
+        ++ map element_tree (listed_files walked (slice_get dependencies.now place))) }
 {
     match files_in(dependencies.instances(place), dependencies.info()) {
         Some(files) => put_value(alloc, files.item(), trees),
@@ -107,7 +108,7 @@ fn put_files(
 /// Puts the listing of a value last, if it is a depset.
 fn put_value(alloc: Global, value: Item<'_>, trees: &mut Vec<Frozen>) -> Result<(), AllocError>
     ensures { OnOk result (trees.new.items ≡ trees.old.items
-        ++ map element_tree (listing (value_depset (item_value value.entry)))) }
+        ++ map element_tree (listed_or_empty walked (value_depset (item_value value.entry)))) }
 {
     match item_depset(value) {
         Some(depset) => put_listing(alloc, depset, trees),

@@ -46,7 +46,8 @@ pub fn offers(
     place: usize,
     provider: Item<'_>,
 ) -> Result<bool, Kind>
-    ensures { GivesKind (offers dependencies.now heap.now place (item_value provider.entry)) result }
+    ensures { GivesKind (offers dependencies.now heap.now place (item_value provider.entry))
+        result }
 {
     let Some(provider) = provider_of(&heap.see_item(provider)) else {
         return Err(Kind::Wrong);

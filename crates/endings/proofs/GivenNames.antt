@@ -1,11 +1,12 @@
 -- Names that values take one after the other, each for a number: a number keeps the first.
 use Rattle.std.proofs.Common.{◌≡◌, ℕ, zero, suc, ◌<◌, Bool, true, false, ◌&&◌, if◌then◌else◌, nat_eq, List, [], ◌∷◌, replicate, Option, Some, None, slice_get, slice_set, is_some, refl, sym, ap, ap₂, subst, ◌∙◌, arith, eqb-true, eq-eqb}
+use Rattle.std.specs.Option.{option_or}
 use Rattle.std.proofs.lemmas.Bool.{eqb-false}
 use Rattle.std.specs.List.{list_all}
 use Rattle.std.proofs.Math.Dec.{eqb-zero-suc, eqb-suc-zero, eqb-suc-suc}
 use Rattle.std.proofs.lemmas.Option.{same_Some}
 use Rattle.values.specs.View.{FrozenTree}
-use Rattle.loading.specs.Loads.{Name, first_of}
+use Rattle.loading.specs.Loads.{Name}
 use Rattle.evaluation.specs.Naming.{is_unnamed, given_once}
 use Rattle.endings.specs.Called.{IsFirstName, IsCalled}
 
@@ -23,14 +24,14 @@ given_to (Some k) x ys = given_once k x ys
 -- a place that has no name takes one, if there is one
 abbrev pub filled : Option (Option Name) → Option Name → Option (Option Name)
 filled None o = None
-filled (Some p) o = Some (first_of p o)
+filled (Some p) o = Some (option_or p o)
 
 filled_none : (q : Option (Option Name)) → q ≡ filled q None
 filled_none None = refl
 filled_none (Some None) = refl
 filled_none (Some (Some y)) = refl
 
-filled_twice : (q : Option (Option Name)) (o p : Option Name) → filled (filled q o) p ≡ filled q (first_of o p)
+filled_twice : (q : Option (Option Name)) (o p : Option Name) → filled (filled q o) p ≡ filled q (option_or o p)
 filled_twice None o p = refl
 filled_twice (Some None) o p = refl
 filled_twice (Some (Some y)) o p = refl
@@ -75,7 +76,7 @@ module _ (takes : Option FrozenTree → Option ℕ) where
   abbrev pub first_name : ℕ → List Name → List (Option FrozenTree) → Option Name
   first_name i [] ts = None
   first_name i (x ∷ xs) [] = None
-  first_name i (x ∷ xs) (t ∷ ts) = first_of (name_for i (takes t) x) (first_name i xs ts)
+  first_name i (x ∷ xs) (t ∷ ts) = option_or (name_for i (takes t) x) (first_name i xs ts)
 
   all_at : (i : ℕ) (xs : List Name) (ts : List (Option FrozenTree)) (ys : List (Option Name))
       → slice_get (all_given xs ts ys) i ≡ filled (slice_get ys i) (first_name i xs ts)
@@ -151,7 +152,7 @@ module _ {A : Type 0} (value : A → FrozenTree) (Is : ℕ → A → Type 0) (ta
   first_found i (y ∷ xs) (t ∷ ts) x e = by (λ f. first_found i xs ts x f) (takes t) refl e
     where
       chosen : (first_name takes i xs ts ≡ Some x → IsFirstName value (Is i) xs ts x) → (k : ℕ) (b : Bool) → takes t ≡ Some k
-          → nat_eq k i ≡ b → first_of (if b then Some y else None) (first_name takes i xs ts) ≡ Some x
+          → nat_eq k i ≡ b → option_or (if b then Some y else None) (first_name takes i xs ts) ≡ Some x
           → IsFirstName value (Is i) (y ∷ xs) (t ∷ ts) x
       chosen rest k true is same e =
           subst (λ z. IsFirstName value (Is i) (y ∷ xs) (t ∷ ts) z) (same_Some y x e)
@@ -160,7 +161,7 @@ module _ {A : Type 0} (value : A → FrozenTree) (Is : ℕ → A → Type 0) (ta
           later i y t xs ts x (λ f. eqb-false k i same (same_Some k i (sym is ∙ f))) (rest e)
 
       by : (first_name takes i xs ts ≡ Some x → IsFirstName value (Is i) xs ts x) → (m : Option ℕ) → takes t ≡ m
-          → first_of (name_for i m y) (first_name takes i xs ts) ≡ Some x → IsFirstName value (Is i) (y ∷ xs) (t ∷ ts) x
+          → option_or (name_for i m y) (first_name takes i xs ts) ≡ Some x → IsFirstName value (Is i) (y ∷ xs) (t ∷ ts) x
       by rest None is e = later i y t xs ts x (λ f. absurd (let z = sym is ∙ f in cc)) (rest e)
       by rest (Some k) is e = chosen rest k (nat_eq k i) is refl e
 
@@ -182,7 +183,7 @@ module _ {A : Type 0} (value : A → FrozenTree) (Is : ℕ → A → Type 0) (ta
       let named = all_have (all_given takes xs ts (replicate m None)) i o h e in
       (named.0, e ∙ ap Some named.1, first_found i xs ts named.0 named.1)
 
-  some_name : (m : Option Name) (o : Option Name) → ((x : Name) × (o ≡ Some x)) → (x : Name) × (first_of m o ≡ Some x)
+  some_name : (m : Option Name) (o : Option Name) → ((x : Name) × (o ≡ Some x)) → (x : Name) × (option_or m o ≡ Some x)
   some_name None o f = f
   some_name (Some y) o f = (y, refl)
 
@@ -193,8 +194,8 @@ module _ {A : Type 0} (value : A → FrozenTree) (Is : ℕ → A → Type 0) (ta
   found_at i zero (y ∷ xs) (t ∷ ts) x a e f is =
       let here : takes t ≡ Some i = ap takes (same_Some t (Some (value a)) f) ∙ takes_it a i is in (
         y,
-        ap (λ m. first_of (name_for i m y) (first_name takes i xs ts)) here
-            ∙ ap (λ b. first_of (if b then Some y else None) (first_name takes i xs ts)) (eq-eqb i i refl),
+        ap (λ m. option_or (name_for i m y) (first_name takes i xs ts)) here
+            ∙ ap (λ b. option_or (if b then Some y else None) (first_name takes i xs ts)) (eq-eqb i i refl),
       )
   found_at i (suc k) (y ∷ xs) (t ∷ ts) x a e f is =
       some_name (name_for i (takes t) y) (first_name takes i xs ts) (found_at i k xs ts x a e f is)

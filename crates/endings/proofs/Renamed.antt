@@ -1,11 +1,11 @@
 -- Parts with names, and the whole.
 use Rattle.std.proofs.Common.{◌≡◌, ℕ, zero, suc, ◌+◌, ◌≤◌, Bool, true, false, ◌||◌, List, [], ◌∷◌, ◌++◌, length, map, min, take, length-take, slice_get, Option, Some, None, refl, sym, ap, ◌∙◌, arith, add-one}
 use Rattle.std.specs.Prelude.{unwrap_or, is_some, if◌then◌else◌}
+use Rattle.std.specs.Option.{option_or}
 use Rattle.values.specs.Tree.{Trees, Pairs, Slots, dict, instance, trees, pairs, slots, weight, weights, pair_weights, slot_weights}
 use Rattle.values.specs.View.{FrozenTree, FrozenBranch}
 use Rattle.leaves.specs.declared.leaf.Provider.{Provider}
 use Rattle.keys.specs.declared.key.Key.{Key}
-use Rattle.loading.specs.Loads.{first_of}
 use Rattle.evaluation.specs.Naming.{Naming, named, slot_named, provider_named, trees_named, pairs_named, slots_named}
 
 -- what is made only where it is new is what is wanted, if nothing else was there
@@ -21,7 +21,7 @@ pub unchanged : {A : Type 0} (o : Option A) (old : A) → is_some o ≡ false �
 unchanged None old h = refl
 unchanged (Some a) old h = absurd (cc)
 
-pub slot_unchanged : {A : Type 0} (o old : Option A) → is_some o ≡ false → first_of o old ≡ old
+pub slot_unchanged : {A : Type 0} (o old : Option A) → is_some o ≡ false → option_or o old ≡ old
 slot_unchanged None old h = refl
 slot_unchanged (Some a) old h = absurd (cc)
 

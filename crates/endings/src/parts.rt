@@ -1,9 +1,9 @@
 //! The parts of frozen values, of which some are new.
 ghost use Rattle.std.specs.Prelude.{◌≡◌, ◌<◌, ◌≤◌, ◌++◌, ◌∷◌, ◌||◌, [], IfOk, OnOk, Some, None};
+ghost use Rattle.std.specs.Option.{option_or};
 ghost use Rattle.std.specs.Prelude.{is_some, length, min, slice_get, take, unwrap_or};
 ghost use Rattle.std.specs.Prelude.{if◌then◌else◌};
 ghost use Rattle.values.specs.Tree.{dict, instance, list, pairs, slots, trees, tuple};
-ghost use Rattle.loading.specs.Loads.{first_of};
 
 use indexmap::IndexSet;
 use plain::Shared;
@@ -63,7 +63,7 @@ pub(crate) fn put_slot(
     old: &Option<Frozen>,
     new: Option<Frozen>,
 ) -> Result<(), AllocError>
-    ensures { OnOk result (items.new.items ≡ items.old.items ++ first_of new old.now ∷ []) }
+    ensures { OnOk result (items.new.items ≡ items.old.items ++ option_or new old.now ∷ []) }
 {
     let slot = match new {
         Some(tree) => Some(tree),

@@ -3,9 +3,9 @@
 //! What holds nothing that got a name stays the same node, of which another name is kept. A value
 //! is at most as deep as what can be frozen.
 ghost use Rattle.std.specs.Prelude.{◌≡◌, IfOk, false, map, option_map, unwrap_or};
+ghost use Rattle.std.specs.Option.{option_or};
 ghost use Rattle.values.specs.Tree.{branch};
 ghost use Rattle.values.specs.View.{node_branch};
-ghost use Rattle.loading.specs.Loads.{first_of};
 ghost use Rattle.evaluation.specs.Naming.{branch_named, named, slot_named};
 
 use crate::naming::Naming;
@@ -119,7 +119,7 @@ fn rename_slot(
     naming: &Naming,
     slot: &Option<Frozen>,
 ) -> Result<Option<Frozen>, AllocError>
-    ensures { IfOk result (λ o. first_of o slot.now ≡ slot_named naming.now slot.now) }
+    ensures { IfOk result (λ o. option_or o slot.now ≡ slot_named naming.now slot.now) }
 {
     match slot {
         Some(tree) => rename(alloc, naming, tree),

@@ -2,12 +2,13 @@
 -- specification, "Freezing a value" and "Load statements"; docs/PROFILE.md, "After a module's top
 -- level").
 use Rattle.std.specs.Prelude.{ℕ, List, Option, Some, None, option_map, option_and_then, position}
+use Rattle.std.specs.Option.{option_or}
 use Rattle.std.specs.Prelude.{bytes_eq, slice_get, is_some}
 use Rattle.std.specs.List.{filter}
 use Rattle.values.specs.Shape.{value_of}
 use Rattle.values.specs.View.{FrozenTree}
 use Rattle.values.specs.declared.value.Value.{Value}
-use Rattle.loading.specs.Loads.{Path, Name, first_of}
+use Rattle.loading.specs.Loads.{Path, Name}
 -- What a module hands on: the names of its top level by number, those first that its loads bind;
 -- the frozen values of its globals by the same numbers; the values of the names that its loads
 -- bind; the frozen defaults of its functions; and what it made.
@@ -37,4 +38,4 @@ global_names m = filter (λ x. is_some (global_named x m)) m.names
 
 -- the value of a name of the top level, by its number, as the module's functions read it
 abbrev pub name_value : ℕ → Module → Option Value
-name_value n m = first_of (frozen_value m.globals n) (held (slice_get m.loaded n))
+name_value n m = option_or (frozen_value m.globals n) (held (slice_get m.loaded n))

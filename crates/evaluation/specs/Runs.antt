@@ -7,7 +7,7 @@ use Rattle.std.specs.Prelude.{Err, slice_get, unwrap_or, if◌then◌else◌}
 use Rattle.actions.specs.declared.action.Action.{Action}
 use Rattle.depsets.specs.declared.element.FileRef.{FileRef}
 use Rattle.program_tree.specs.Resolved.{Program, no_steps}
-use Rattle.meaning.specs.Operations.{Arguments}
+use Rattle.meaning.specs.Operations.{Arguments, Operations}
 use Rattle.meaning.specs.Outcome.{Fault, Final}
 use Rattle.meaning.specs.Functions.{Files, functions, def_line}
 use Rattle.meaning.specs.Calls.{function_meaning, top_meaning}
@@ -175,13 +175,18 @@ module _ (limit : ℕ) (files : Files) (paths : List Path) where
     module_after path n (Ok r) =
         module_ended path n (program_at files n).globals r.1.state (own.made r.1.work)
 
-    -- The module of this path and number: the fault of its top level, or what the module comes to
-    -- once that has ended.
-    abbrev pub run_module : Known → Path → ℕ → Result Module (Ending Kind)
-    run_module known path n =
+    -- The module of this path and number, over these operations: the fault of its top level, or
+    -- what the module comes to once that has ended.
+    abbrev pub run_module_by : Operations (Whole W) Value Kind → Path → ℕ
+        → Result Module (Ending Kind)
+    run_module_by ops path n =
         module_after path n
-        (top_meaning (language (world paths known) (own.place known)) files n
+        (top_meaning ops files n
         (record { state = state_of_file limit path n (program_at files n); work = own.first }))
+
+    -- the same, over the operations of the language
+    abbrev pub run_module : Known → Path → ℕ → Result Module (Ending Kind)
+    run_module known = run_module_by (language (world paths known) (own.place known))
 
   module _ {W : Type 0} (own : OfBuild W) where
     -- what becomes of a BUILD file once its top level has ended
@@ -189,13 +194,18 @@ module _ (limit : ℕ) (files : Files) (paths : List Path) where
     targets_after (Err f) = Err (placed f)
     targets_after (Ok r) = Ok (own.declared r.1.work)
 
-    -- The BUILD file of this path and number: the targets that its top level declares, or its
-    -- fault. Nothing is frozen at its end.
-    abbrev pub run_build : Known → Path → ℕ → Result (List Target) (Placed Kind)
-    run_build known path n =
+    -- The BUILD file of this path and number, over these operations: the targets that its top level
+    -- declares, or its fault. Nothing is frozen at its end.
+    abbrev pub run_build_by : Operations (Whole W) Value Kind → Path → ℕ
+        → Result (List Target) (Placed Kind)
+    run_build_by ops path n =
         targets_after
-        (top_meaning (language (world paths known) (own.place known path)) files n
+        (top_meaning ops files n
         (record { state = state_of_file limit path n (program_at files n); work = own.first path }))
+
+    -- the same, over the operations of the language
+    abbrev pub run_build : Known → Path → ℕ → Result (List Target) (Placed Kind)
+    run_build known path = run_build_by (language (world paths known) (own.place known path)) path
 
   module _ {W : Type 0} (own : OfTarget W) where
     -- a fault at a place, as an outcome has it
@@ -229,12 +239,18 @@ module _ (limit : ℕ) (files : Files) (paths : List Path) where
     abbrev pub with_context : Arguments Value
     with_context = record { items = value.Leaf (plain.Object object.Context) ∷ []; named = [] }
 
-    -- The call of the implementation of a target's rule, with `ctx` alone: its result, frozen, with
-    -- the Files and the actions. A fault of the call itself, and of freezing, stands at the `def`.
-    abbrev pub run_implementation : Known → LabelParts → Target → List Dependency →
-        Result outcome.Implemented outcome.Fault
-    run_implementation known l t ds =
+    -- The call of the implementation of a target's rule, over these operations, with `ctx` alone:
+    -- its result, frozen, with the Files and the actions. A fault of the call itself, and of
+    -- freezing, stands at the `def`.
+    abbrev pub run_implementation_by : Operations (Whole W) Value Kind → LabelParts → Target
+        → Result outcome.Implemented outcome.Fault
+    run_implementation_by ops l t =
         target_after t.rule.implementation
-        (function_meaning (language (world paths known) (own.place known l t ds)) files
-        (function_id t.rule.implementation.id) with_context
+        (function_meaning ops files (function_id t.rule.implementation.id) with_context
         (record { state = state_of_target limit l (length paths); work = own.first }))
+
+    -- the same, over the operations of the language
+    abbrev pub run_implementation : Known → LabelParts → Target → List Dependency
+        → Result outcome.Implemented outcome.Fault
+    run_implementation known l t ds =
+        run_implementation_by (language (world paths known) (own.place known l t ds)) l t

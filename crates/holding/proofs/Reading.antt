@@ -1,6 +1,7 @@
 -- What items, fields, methods that are found, and names keep.
 use Rattle.std.proofs.Common.{ℕ, zero, suc, ℤ, Bool, List, [], ◌∷◌, Option, Some, None, Ok, Err, length, drop, nat_lt, nat_eq, slice_get, slice_set, if◌then◌else◌}
 use Rattle.std.specs.Prelude.{bytes_eq, codes}
+use Rattle.std.specs.Option.{option_or}
 use Rattle.std.specs.List.{flat_map}
 use Rattle.std.specs.Map.{lookup}
 use Rattle.depsets.specs.declared.element.FileRef.{FileRef}
@@ -18,7 +19,7 @@ use Rattle.first_places.specs.Places.{place_named}
 use Rattle.operations.specs.Fields.{before_colon, after_colon, label_field, last_part, file_field, leaf_field, shape_field, field, shape_method, Found, plainly, with_method, found_in as found_of, find}
 use Rattle.operations.specs.Items.{or_fault, at_place, item_at, byte_text, byte_at, value_at, key_item, item_in, item}
 use Rattle.operations.specs.Making.{text}
-use Rattle.operations.specs.Names.{Linked, in_slot, or_loaded, name_value, global, set_global, set_loaded, load, function_made, define, listed, defaults}
+use Rattle.operations.specs.Names.{Linked, in_slot, name_value, global, set_global, set_loaded, load, function_made, define, listed, defaults}
 use Rattle.operations.specs.Reading.{number_in, key_in}
 use Rattle.operations.specs.declared.method.Method.{Method}
 use Rattle.operations.specs.declared.state.State.{State}
@@ -87,7 +88,7 @@ found_seen s None None h = tt
 
 -- ---- slots and defaults
 
-loaded_seen : (s : List Set) (o p : Option Value) → IfSome (HasValue s) o → IfSome (HasValue s) p → IfSome (HasValue s) (or_loaded o p)
+loaded_seen : (s : List Set) (o p : Option Value) → IfSome (HasValue s) o → IfSome (HasValue s) p → IfSome (HasValue s) (option_or o p)
 loaded_seen s (Some v) p h g = h
 loaded_seen s None p h g = g
 

@@ -4,6 +4,7 @@
 use Rattle.std.specs.Prelude.{ℕ, Bool, false, List, [], ◌∷◌, Option, Some, None, is_some}
 use Rattle.std.specs.Prelude.{Err, codes, bytes_eq, if◌then◌else◌}
 use Rattle.std.specs.List.{list_any}
+use Rattle.depsets.specs.Listed.{walked}
 use Rattle.leaves.specs.declared.leaf.BuiltIn.{BuiltIn}
 use Rattle.leaves.specs.declared.leaf.BuiltIn.TheVariants as built_in
 use Rattle.leaves.specs.declared.leaf.Leaf.{Leaf}
@@ -83,7 +84,7 @@ implementation_place l t ds = record {
   call = λ c g w. Err (refused c);
   has_method = has_method;
   method = call_method l;
-  field = λ o x w. field t ds l o x;
+  field = λ o x w. field walked t ds l o x;
   item = λ n v w. item ds w.state.heap n v;
   offers = λ n v w. offers ds w.state.heap n v;
 }

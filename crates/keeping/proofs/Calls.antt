@@ -11,6 +11,7 @@ use Rattle.meaning.specs.Statements.{End, next, breaks, continues, returns, bloc
 use Rattle.meaning.specs.Calls.{inside, outside, Going, value_of, tested, written, chosen, running, invoke, defined_at, function_meaning, top, top_meaning}
 use Rattle.keeping.specs.Kept.{Kept, good_slots, good_callee, good_arguments, Gives, anything}
 use Rattle.keeping.specs.Owed.{EachKeeps}
+use Rattle.keeping.specs.Laws.{CallsKeep, TopLevelsKeep}
 use Rattle.keeping.proofs.Effects.{From, then_from, pure_from, act_from, final_gives}
 use Rattle.keeping.proofs.Terms.{InvokeKeeps}
 use Rattle.keeping.proofs.Blocks.{good_end, block_from}
@@ -77,8 +78,8 @@ module _ {S V K : Type 0} (r : Kept S V) (ops : Operations S V K) (owed : EachKe
         written_gives (outside f.file n) f given (running ops files (invoke ops files 127) (outside f.file n) f) (function_at files f) k s
         (running_gives (invoke ops files 127) (invoke_keeps 127) (outside f.file n) f) ga hs
 
-    pub calls_keep : (f : FunctionId) (given : Arguments V) (k : r.World) (s : S) → good_arguments r k given → r.holds k s → Gives r r.good k (function_meaning ops files f given s)
-    calls_keep f given k s ga hs = defined_gives f given (def_line files f) k s ga hs
+    called_gives : (f : FunctionId) (given : Arguments V) (k : r.World) (s : S) → good_arguments r k given → r.holds k s → Gives r r.good k (function_meaning ops files f given s)
+    called_gives f given k s ga hs = defined_gives f given (def_line files f) k s ga hs
 
     empty_slots : (k : r.World) (n : ℕ) → good_slots r k (replicate n None)
     empty_slots k zero = tt
@@ -90,5 +91,11 @@ module _ {S V K : Type 0} (r : Kept S V) (ops : Operations S V K) (owed : EachKe
         final_gives r k ((block ops (invoke ops files 128) files d.body (outside file 0) >>= λ e. pure (value_of ops e)) (replicate d.slots None) s)
         (body_gives (invoke ops files 128) (invoke_keeps 128) d (outside file 0) k k (r.same k) (replicate d.slots None) s (empty_slots k d.slots) hs)
 
-    pub tops_keep : (file : ℕ) (k : r.World) (s : S) → r.holds k s → Gives r r.good k (top_meaning ops files file s)
-    tops_keep file k s hs = top_gives file (function_at files (record { file = file; number = 0 })) k s hs
+    top_level_gives : (file : ℕ) (k : r.World) (s : S) → r.holds k s → Gives r r.good k (top_meaning ops files file s)
+    top_level_gives file k s hs = top_gives file (function_at files (record { file = file; number = 0 })) k s hs
+
+pub calls_keep : {S V K : Type 0} → CallsKeep S V K
+calls_keep r ops files f given k s owed ga hs = called_gives r ops owed files f given k s ga hs
+
+pub top_levels_keep : {S V K : Type 0} → TopLevelsKeep S V K
+top_levels_keep r ops files file k s owed hs = top_level_gives r ops owed files file k s hs

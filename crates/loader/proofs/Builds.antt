@@ -1,7 +1,8 @@
 -- What `BUILD` files load: a label of anything but a module finds no file, whether or not it is told beforehand.
 use Rattle.std.proofs.Common.{◌≡◌, ◌∙◌, ℕ, Bool, true, false, List, [], ◌∷◌, map, Result, Ok, Err, Option, Some, None, refl, sym, ap}
 use Rattle.std.specs.Prelude.{if◌then◌else◌}
-use Rattle.loading.specs.Loads.{Path, Load, Read, LoadFault, first_of, found, module_path, module_fault, of_module, of_modules, loads_fault}
+use Rattle.std.specs.Option.{option_or}
+use Rattle.loading.specs.Loads.{Path, Load, Read, LoadFault, found, module_path, module_fault, of_module, of_modules, loads_fault}
 use Rattle.loading.specs.Modules.{Sources, is_module, any_module, module_of, build_linked, built, value}
 use Rattle.loading.specs.declared.faults.Placed.{Placed}
 use Rattle.modules.specs.Modules.{ModulesView, module_in, modules_of}
@@ -29,11 +30,11 @@ module _ {T M S K : Type 0} (w : Sources T M S K) where
         ≡ loads_fault w.globals p (any_module w) ls
     loads_same [] = refl
     loads_same (l ∷ ls) =
-        ap (λ o. first_of (module_fault w.globals p (of_module (is_module w) l) o)
+        ap (λ o. option_or (module_fault w.globals p (of_module (is_module w) l) o)
         (loads_fault w.globals p (any_module w) (map (of_module (is_module w)) ls))) (found_same l.target)
-        ∙ ap (λ f. first_of f (loads_fault w.globals p (any_module w) (map (of_module (is_module w)) ls)))
+        ∙ ap (λ f. option_or f (loads_fault w.globals p (any_module w) (map (of_module (is_module w)) ls)))
         (fault_same l (module_path (is_module w) l.target) (found w.globals p (any_module w) l.target))
-        ∙ ap (first_of (module_fault w.globals p l (found w.globals p (any_module w) l.target))) (loads_same ls)
+        ∙ ap (option_or (module_fault w.globals p l (found w.globals p (any_module w) l.target))) (loads_same ls)
 
     module _ {B : Type 0} (run : (Path → Option M) → Path → T → Result B (Placed K)) where
       pub built_same : (r : Result (Read T) (S × ℕ)) → built w run p (of_modules (is_module w) r) ≡ built w run p r

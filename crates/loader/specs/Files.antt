@@ -16,6 +16,24 @@ use Rattle.evaluation.specs.Evaluated.{Known}
 use Rattle.evaluation.specs.Workspaces.{sources_of, targets_of}
 use Rattle.loader.specs.Places.{of_module, of_build}
 
+-- a workspace as loading sees it, however its modules are evaluated
+module _ (w : Sources ℕ Module FaultKind Kind) where
+  -- the modules that have no fault
+  abbrev pub known_by : Known
+  known_by path = value (any_module w path)
+
+  -- where `built` gives what the BUILD file at a path declares, or why it fails
+  module _ (built : Path → Result (List Target) (LoadFault FaultKind Kind)) where
+    -- a file that fails, and why; of a source file there is nothing to tell
+    abbrev pub fault_by : Path → List (FileFault FaultKind Kind)
+    fault_by path =
+        if is_module path then fault_in path (any_module w path) else
+        (if is_build_file path then fault_in path (Some (built path)) else [])
+
+    -- all that fail among files of these paths, in their order
+    abbrev pub faults_by : List Path → List (FileFault FaultKind Kind)
+    faults_by paths = flat_map fault_by paths
+
 -- the files of a workspace, in ascending order of their paths, and how many ticks each evaluation
 -- may use
 module _ (files : List Pair) (limit : ℕ) where
@@ -25,18 +43,16 @@ module _ (files : List Pair) (limit : ℕ) where
 
   -- the modules that have no fault
   abbrev pub known : Known
-  known path = value (any_module loads path)
+  known = known_by loads
 
   -- what the BUILD file at a path declares, or why it fails
   abbrev pub build_at : Path → Result (List Target) (LoadFault FaultKind Kind)
   build_at path = build_of loads (targets_of files limit (of_build (paths_of files))) path
 
-  -- a file that fails, and why; of a source file there is nothing to tell
+  -- a file that fails, and why
   abbrev pub fault_at : Path → List (FileFault FaultKind Kind)
-  fault_at path =
-      if is_module path then fault_in path (any_module loads path) else
-      (if is_build_file path then fault_in path (Some (build_at path)) else [])
+  fault_at = fault_by loads build_at
 
   -- all that fail, in the order of their paths
   abbrev pub faults : List (FileFault FaultKind Kind)
-  faults = flat_map fault_at (paths_of files)
+  faults = faults_by loads build_at (paths_of files)

@@ -2,6 +2,7 @@
 -- "Load an extension"; the kinds of faults and their order are this project's own,
 -- docs/PROFILE.md, "Loading").
 use Rattle.std.specs.Prelude.{ℕ, Bool, false, not, List, [], ◌∷◌, map, Option, Some, None, Result}
+use Rattle.std.specs.Option.{option_or}
 use Rattle.std.specs.Prelude.{Ok, Err, if◌then◌else◌, nat_eq, slice_index_or}
 use Rattle.std.specs.List.{list_any}
 use Rattle.std.specs.Str.{bytes_eq}
@@ -14,7 +15,7 @@ use Rattle.loading.specs.declared.faults.Placed.{Placed}
 abbrev pub Path : Type 0
 Path = List ℕ
 
--- the path at a number of a list of them, or none at all, which is empty
+-- the path at a number of a list of them; the empty path, which no file has, past its end
 abbrev pub path_at : List Path → ℕ → Path
 path_at paths n = slice_index_or paths n []
 
@@ -60,11 +61,6 @@ module _ (is_module : Path → Bool) where
   of_modules (Ok r) = Ok (record { loads = map of_module r.loads; tree = r.tree })
   of_modules (Err e) = Err e
 
--- The earlier of two, if there is one, and else the later: of faults, the first is told.
-abbrev pub first_of : {A : Type 0} → Option A → Option A → Option A
-first_of None later = later
-first_of (Some a) later = Some a
-
 -- The loads of the file at a path, one after the other. Each module that is loaded was found, with
 -- its globals' names or its own fault, or wasn't.
 module _ {S K M : Type 0} (globals : M → List Name) (path : Path) where
@@ -99,4 +95,4 @@ module _ {S K M : Type 0} (globals : M → List Name) (path : Path) where
       → Option (LoadFault S K)
   loads_fault module_at [] = None
   loads_fault module_at (l ∷ ls) =
-      first_of (module_fault l (found module_at l.target)) (loads_fault module_at ls)
+      option_or (module_fault l (found module_at l.target)) (loads_fault module_at ls)

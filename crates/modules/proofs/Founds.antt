@@ -1,12 +1,13 @@
 -- What load statements find, and that why a module failed doesn't matter to them.
 use Rattle.std.proofs.Common.{◌≡◌, ℕ, ◌+◌, ◌<◌, inl, inr, true, false, ◌||◌, List, [], ◌∷◌, length, map, drop, get_or, Option, Some, None, Result, Ok, Err, sym, ap, ◌∙◌, arith, refl}
 use Rattle.std.specs.Prelude.{IfOk, if◌then◌else◌}
+use Rattle.std.specs.Option.{option_or}
 use Rattle.std.specs.Str.{bytes_eq}
 use Rattle.std.specs.List.{list_any}
 use Rattle.std.proofs.lemmas.List.{get_or_default, at_drop_more}
 use Rattle.std.proofs.lemmas.Slice.Eq.{bytes_eq-Decides}
 use Rattle.edges.proofs.Tests.{cases_of}
-use Rattle.loading.specs.Loads.{Path, Name, Load, LoadFault, fault_at, names_fault, module_fault, loads_fault, found, first_of}
+use Rattle.loading.specs.Loads.{Path, Name, Load, LoadFault, fault_at, names_fault, module_fault, loads_fault, found}
 use Rattle.loading.specs.declared.faults.LoadFaultKind.TheVariants.{MissingFile, LoadedModuleFailed}
 use Rattle.loading.specs.Modules.{Sources, value, module_of, any_module}
 use Rattle.load_graph.specs.Paths.{ArePaths, IsAt, listed, entry}
@@ -43,8 +44,8 @@ module _ {S K M : Type 0} (globals : M → List Name) (path : Path) (at at' : Pa
   same_faults [] = refl
   same_faults (l ∷ ls) =
       let one = fault_is {S = S} {K = K} globals path l (named_by at l.target) ∙ ap (fault_by globals path l) (same_named l.target) ∙ sym (fault_is {S = S} {K = K} globals path l (named_by at' l.target)) in
-      ap (λ o. first_of o (loads_fault globals path at ls)) (ap (module_fault globals path l) (named_found at l.target) ∙ one ∙ ap (module_fault globals path l) (sym (named_found at' l.target)))
-      ∙ ap (first_of (module_fault globals path l (found globals path at' l.target))) (same_faults ls)
+      ap (λ o. option_or o (loads_fault globals path at ls)) (ap (module_fault globals path l) (named_found at l.target) ∙ one ∙ ap (module_fault globals path l) (sym (named_found at' l.target)))
+      ∙ ap (option_or (module_fault globals path l (found globals path at' l.target))) (same_faults ls)
 
 -- ---- among all modules
 
@@ -111,5 +112,5 @@ module _ {S K M : Type 0} (globals : M → List Name) (path : Path) (at : Path �
       → loads_fault globals path at all ≡ faults_from i → loads_fault globals path at all ≡ faults_from (i + 1)
   loads_on l f low is by none had =
       had ∙ at_drop_more (loads_fault globals path at) all i l low ∙ ap (λ x. loads_fault globals path at (x ∷ drop (i + 1) all)) (sym is)
-      ∙ ap (λ r. first_of (module_fault globals path l r) (faults_from (i + 1))) (named_found globals path at at (λ q. refl) at l.target)
-      ∙ ap (λ r. first_of r (faults_from (i + 1))) (sym by ∙ none)
+      ∙ ap (λ r. option_or (module_fault globals path l r) (faults_from (i + 1))) (named_found globals path at at (λ q. refl) at l.target)
+      ∙ ap (λ r. option_or r (faults_from (i + 1))) (sym by ∙ none)

@@ -1,6 +1,7 @@
 -- Names of the top level and functions, of the file that is evaluated and of those that are linked
 -- with it. (Starlark's specification, "Name binding and variables" and "Function definitions".)
 use Rattle.std.specs.Prelude.{ℕ, List, [], Option, Some, None, Ok, nat_eq}
+use Rattle.std.specs.Option.{option_or}
 use Rattle.std.specs.Prelude.{slice_get, slice_set, if◌then◌else◌}
 use Rattle.leaves.specs.declared.leaf.Leaf.{Leaf}
 use Rattle.leaves.specs.declared.leaf.Leaf.TheVariants as plain
@@ -25,14 +26,9 @@ abbrev pub in_slot : Option (Option Value) → Option Value
 in_slot (Some o) = o
 in_slot None = None
 
--- a global, or else what a load binds under its number
-abbrev pub or_loaded : Option Value → Option Value → Option Value
-or_loaded (Some v) o = Some v
-or_loaded None o = o
-
 -- the value of a name of the file that is evaluated, once it is bound
 abbrev pub name_value : State → ℕ → Option Value
-name_value s n = or_loaded (in_slot (slice_get s.globals n)) (in_slot (slice_get s.loaded n))
+name_value s n = option_or (in_slot (slice_get s.globals n)) (in_slot (slice_get s.loaded n))
 
 -- a name of the top level is read: `unset` before it is bound
 abbrev pub global : Linked → ℕ → ℕ → Op Value

@@ -1,6 +1,7 @@
 -- The files of a workspace, one by one.
 use Rattle.std.proofs.Common.{◌≡◌, ℕ, inl, inr, Bool, true, false, ◌&&◌, ◌||◌, cond, List, [], ◌∷◌, ◌++◌, length, drop, Option, Some, None, Result, Ok, Err, sym, ap, ◌∙◌, arith, refl, true≢false, codes, length-drop, ◌+◌, ◌-◌}
 use Rattle.std.specs.Prelude.{option_map, is_some, if◌then◌else◌, bytes_eq, IfOk, MatchOption}
+use Rattle.std.specs.Option.{option_or}
 use Rattle.std.specs.List.{list_any, filter, flat_map}
 use Rattle.std.specs.Borrow.{Bor}
 use Rattle.std.specs.Map.{lookup}
@@ -12,7 +13,7 @@ use Rattle.ticks.specs.declared.ticks.Kind.{Kind}
 use Rattle.workspace.proofs.LabelLemmas.{segment_start}
 use Rattle.workspace.specs.FileKinds.{is_build_file, is_module, package_of}
 use Rattle.workspace.specs.Workspaces.{Pair, paths_of}
-use Rattle.loading.specs.Loads.{Path, LoadFault, first_of}
+use Rattle.loading.specs.Loads.{Path, LoadFault}
 use Rattle.loading.specs.Modules.{Sources, value, any_module, module_of}
 use Rattle.modules.proofs.Outcomes.{are_found}
 use Rattle.modules.specs.Modules.{ModulesView, fault_in, faults_of, modules_of, module_in}
@@ -80,20 +81,20 @@ module _ (p : List ℕ) where
   abbrev asked : Path → Bool
   asked q = is_build_file q && bytes_eq p (package_of q)
 
-  first_cut : (b : Bool) (q : Path) (qs : List Path) → first (cond b (q ∷ qs) qs) ≡ first_of (if b then Some q else None) (first qs)
+  first_cut : (b : Bool) (q : Path) (qs : List Path) → first (cond b (q ∷ qs) qs) ≡ option_or (if b then Some q else None) (first qs)
   first_cut true q qs = refl
   first_cut false q qs = refl
 
-  build_cut : (q : Path) (qs : List Path) → build_file_of (q ∷ qs) p ≡ first_of (if asked q then Some q else None) (build_file_of qs p)
+  build_cut : (q : Path) (qs : List Path) → build_file_of (q ∷ qs) p ≡ option_or (if asked q then Some q else None) (build_file_of qs p)
   build_cut q qs = first_cut (asked q) q (filter asked qs)
 
   pub no_more : (q : Path) (qs : List Path) → is_build_file q ≡ false → build_file_of (q ∷ qs) p ≡ build_file_of qs p
-  no_more q qs not = build_cut q qs ∙ ap (λ b. first_of (if b && bytes_eq p (package_of q) then Some q else None) (build_file_of qs p)) not
+  no_more q qs not = build_cut q qs ∙ ap (λ b. option_or (if b && bytes_eq p (package_of q) then Some q else None) (build_file_of qs p)) not
 
-  pub one_more : (q : Path) (qs : List Path) → is_build_file q ≡ true → build_file_of (q ∷ qs) p ≡ first_of (if bytes_eq p (package_of q) then Some q else None) (build_file_of qs p)
-  one_more q qs is = build_cut q qs ∙ ap (λ b. first_of (if b && bytes_eq p (package_of q) then Some q else None) (build_file_of qs p)) is
+  pub one_more : (q : Path) (qs : List Path) → is_build_file q ≡ true → build_file_of (q ∷ qs) p ≡ option_or (if bytes_eq p (package_of q) then Some q else None) (build_file_of qs p)
+  one_more q qs is = build_cut q qs ∙ ap (λ b. option_or (if b && bytes_eq p (package_of q) then Some q else None) (build_file_of qs p)) is
 
-regroup : {A B : Type 0} (k : B → A) (a : Option A) (b : Bool) (q : B) (o : Option B) → first_of (first_of a (if b then Some (k q) else None)) (option_map k o) ≡ first_of a (option_map k (first_of (if b then Some q else None) o))
+regroup : {A B : Type 0} (k : B → A) (a : Option A) (b : Bool) (q : B) (o : Option B) → option_or (option_or a (if b then Some (k q) else None)) (option_map k o) ≡ option_or a (option_map k (option_or (if b then Some q else None) o))
 regroup k (Some x) b q o = refl
 regroup k None true q o = refl
 regroup k None false q o = refl
@@ -117,7 +118,7 @@ module _ (files : List Pair) (limit : ℕ) where
 
   module _ (path : Path) (later : List Path) (rest left : List Fault) (packages packages' : Table) (told told' : List Fault) (s : IsSoFar files limit (path ∷ later) rest packages told) where
     step : left ≡ faults_of (module_of w) (filter is_module later)
-        → ((p : List ℕ) → first_of (lookup (bytes_eq p) packages') (option_map (kept_at files limit) (build_file_of later p)) ≡ first_of (lookup (bytes_eq p) packages) (option_map (kept_at files limit) (build_file_of (path ∷ later) p)))
+        → ((p : List ℕ) → option_or (lookup (bytes_eq p) packages') (option_map (kept_at files limit) (build_file_of later p)) ≡ option_or (lookup (bytes_eq p) packages) (option_map (kept_at files limit) (build_file_of (path ∷ later) p)))
         → told' ≡ told ++ fault_at files limit path → IsSoFar files limit later left packages' told'
     step rests more new = record {
       within = λ q h. s.within q (or_right (bytes_eq q path) (list_any (bytes_eq q) later) h);
@@ -130,10 +131,10 @@ module _ (files : List Pair) (limit : ℕ) where
     passed : is_module path ≡ false → rest ≡ faults_of (module_of w) (filter is_module later)
     passed not = s.modules ∙ ap (λ b. faults_of (module_of w) (cond b (path ∷ filter is_module later) (filter is_module later))) not
 
-    unbuilt : is_build_file path ≡ false → packages' ≡ packages → (p : List ℕ) → first_of (lookup (bytes_eq p) packages') (option_map (kept_at files limit) (build_file_of later p)) ≡ first_of (lookup (bytes_eq p) packages) (option_map (kept_at files limit) (build_file_of (path ∷ later) p))
+    unbuilt : is_build_file path ≡ false → packages' ≡ packages → (p : List ℕ) → option_or (lookup (bytes_eq p) packages') (option_map (kept_at files limit) (build_file_of later p)) ≡ option_or (lookup (bytes_eq p) packages) (option_map (kept_at files limit) (build_file_of (path ∷ later) p))
     unbuilt not same p =
-        ap (λ t. first_of (lookup (bytes_eq p) t) (option_map (kept_at files limit) (build_file_of later p))) same
-        ∙ ap (λ o. first_of (lookup (bytes_eq p) packages) (option_map (kept_at files limit) o)) (sym (no_more p path later not))
+        ap (λ t. option_or (lookup (bytes_eq p) t) (option_map (kept_at files limit) (build_file_of later p))) same
+        ∙ ap (λ o. option_or (lookup (bytes_eq p) packages) (option_map (kept_at files limit) o)) (sym (no_more p path later not))
 
     -- a source file
     pub other_turn : is_module path ≡ false → is_build_file path ≡ false → left ≡ rest → packages' ≡ packages → told' ≡ told → IsSoFar files limit later left packages' told'
@@ -147,9 +148,9 @@ module _ (files : List Pair) (limit : ℕ) where
         → told' ≡ told ++ fault_in path (Some (build_at files limit path)) → IsSoFar files limit later left packages' told'
     build_turn bzl build lefts more new =
         step (lefts ∙ passed bzl)
-        (λ p. ap (λ o. first_of o (option_map (kept_at files limit) (build_file_of later p))) (more p)
+        (λ p. ap (λ o. option_or o (option_map (kept_at files limit) (build_file_of later p))) (more p)
         ∙ regroup (kept_at files limit) (lookup (bytes_eq p) packages) (bytes_eq p (package_of path)) path (build_file_of later p)
-        ∙ ap (λ o. first_of (lookup (bytes_eq p) packages) (option_map (kept_at files limit) o)) (sym (one_more p path later build)))
+        ∙ ap (λ o. option_or (lookup (bytes_eq p) packages) (option_map (kept_at files limit) o)) (sym (one_more p path later build)))
         (new ∙ ap (λ l. told ++ l) (sym (ap (λ b. if b then fault_in path (any_module w path) else (if is_build_file path then fault_in path (Some (build_at files limit path)) else [])) bzl
         ∙ ap (λ b. if b then fault_in path (Some (build_at files limit path)) else []) build)))
 
@@ -174,13 +175,13 @@ module _ (files : List Pair) (limit : ℕ) where
   at_first paths rest modules packages told all are rests none untold = record {
     within = λ q h. ap (list_any (bytes_eq q)) (sym all) ∙ h;
     modules = rests ∙ ap (λ (m : ModulesView Module FaultKind Kind). m.faults) are ∙ ap (λ ps. faults_of (module_of w) (filter is_module ps)) (sym all);
-    packages_are = λ p. ap (λ (t : Table). first_of (lookup (bytes_eq p) t) (option_map (kept_at files limit) (build_file_of paths p))) none ∙ ap (λ ps. option_map (kept_at files limit) (build_file_of ps p)) all;
+    packages_are = λ p. ap (λ (t : Table). option_or (lookup (bytes_eq p) t) (option_map (kept_at files limit) (build_file_of paths p))) none ∙ ap (λ ps. option_map (kept_at files limit) (build_file_of ps p)) all;
     faults_are = ap (λ l. l ++ flat_map (fault_at files limit) paths) untold ∙ ap (flat_map (fault_at files limit)) all;
   }
 
   pub at_last : (paths : List Path) (rest : List Fault) (packages : Table) (told : List Fault) → paths ≡ [] → IsSoFar files limit paths rest packages told → AreAll files limit packages told
   at_last paths rest packages told none s = record {
-    packages_are = λ p. sym (first_none (lookup (bytes_eq p) packages)) ∙ ap (λ ps. first_of (lookup (bytes_eq p) packages) (option_map (kept_at files limit) (build_file_of ps p))) (sym none) ∙ s.packages_are p;
+    packages_are = λ p. sym (first_none (lookup (bytes_eq p) packages)) ∙ ap (λ ps. option_or (lookup (bytes_eq p) packages) (option_map (kept_at files limit) (build_file_of ps p))) (sym none) ∙ s.packages_are p;
     faults_are = sym (append-nil told) ∙ ap (λ ps. told ++ flat_map (fault_at files limit) ps) (sym none) ∙ s.faults_are;
   }
 

@@ -1,5 +1,6 @@
 -- What is kept of packages, and how it is found file by file (this project's own).
 use Rattle.std.specs.Prelude.{◌≡◌, ℕ, true, List, ◌∷◌, ◌++◌, Option, Some, None, Result, Ok, Err}
+use Rattle.std.specs.Option.{option_or}
 use Rattle.std.specs.Prelude.{option_map, if◌then◌else◌, bytes_eq}
 use Rattle.std.specs.List.{flat_map, filter, list_any}
 use Rattle.std.specs.Map.{lookup}
@@ -7,7 +8,7 @@ use Rattle.lexer.specs.declared.fault.FaultKind.{FaultKind}
 use Rattle.ticks.specs.declared.ticks.Kind.{Kind}
 use Rattle.workspace.specs.FileKinds.{is_module}
 use Rattle.workspace.specs.Workspaces.{Pair, paths_of}
-use Rattle.loading.specs.Loads.{Path, LoadFault, first_of}
+use Rattle.loading.specs.Loads.{Path, LoadFault}
 use Rattle.loading.specs.Modules.{Sources, any_module, module_of}
 use Rattle.modules.specs.Modules.{ModulesView, fault_in, faults_of, modules_of}
 use Rattle.modules.specs.declared.sorting.FileFault.{FileFault}
@@ -44,7 +45,7 @@ package_seen (Some (kept.Declared ts)) = declaring ts
 abbrev pub HasMore : List ℕ → Kept → Table → Table → Type 0
 HasMore name x old new =
     (p : List ℕ) → lookup (bytes_eq p) new
-    ≡ first_of (lookup (bytes_eq p) old) (if bytes_eq p name then Some x else None)
+    ≡ option_or (lookup (bytes_eq p) old) (if bytes_eq p name then Some x else None)
 
 -- ---- the faults of modules, of which the first of those that are left is that of the next module
 -- with one
@@ -73,7 +74,7 @@ module _ (files : List Pair) (limit : ℕ) where
         → list_any (bytes_eq q) (paths_of files) ≡ true
     pub modules : rest ≡ faults_of (module_of (loads files limit)) (filter is_module paths)
     pub packages_are : (p : List ℕ)
-        → first_of (lookup (bytes_eq p) packages) (option_map kept_at (build_file_of paths p))
+        → option_or (lookup (bytes_eq p) packages) (option_map kept_at (build_file_of paths p))
         ≡ option_map kept_at (build_file_of (paths_of files) p)
     pub faults_are : told ++ flat_map (fault_at files limit) paths ≡ faults files limit
 

@@ -31,17 +31,27 @@ abbrev pub package_with : Result (List Target) (LoadFault FaultKind Kind) → Pa
 package_with (Ok ts) = declaring ts
 package_with (Err f) = faulty
 
+-- where `built` gives what the BUILD file at a path declares, or why it fails
+module _ (built : Path → Result (List Target) (LoadFault FaultKind Kind)) where
+  -- what a package has whose BUILD file is at this path, if it has one
+  abbrev pub package_of_file_by : Option Path → Package
+  package_of_file_by None = no_build_file
+  package_of_file_by (Some path) = package_with (built path)
+
+  -- what the package of a name has, among files of these paths
+  abbrev pub package_by : List Path → List ℕ → Package
+  package_by paths p = package_of_file_by (build_file_of paths p)
+
 -- the files of a workspace, in ascending order of their paths, and how many ticks each evaluation
 -- may use
 module _ (files : List Pair) (limit : ℕ) where
   -- what a package has whose BUILD file is at this path, if it has one
   abbrev pub package_of_file : Option Path → Package
-  package_of_file None = no_build_file
-  package_of_file (Some path) = package_with (build_at files limit path)
+  package_of_file = package_of_file_by (build_at files limit)
 
   -- what the package of a name has
   abbrev pub package_at : List ℕ → Package
-  package_at p = package_of_file (build_file_of (paths_of files) p)
+  package_at = package_by (build_at files limit) (paths_of files)
 
   -- the names of all packages, in the order of their BUILD files
   abbrev pub packages : List (List ℕ)

@@ -3,7 +3,7 @@ use Rattle.std.proofs.Common.{◌≡◌, ◌∙◌, List, Result, Ok, Err, IfOk,
 use Rattle.depsets.specs.declared.element.FileRef.{FileRef}
 use Rattle.workspace.specs.Labels.{LabelParts}
 use Rattle.targets.specs.Checks.{Dependency}
-use Rattle.targets.specs.Steps.{Implemented, Fault, finished}
+use Rattle.targets.specs.Steps.{Implemented, Fault, finished, target_outcome}
 use Rattle.targets.specs.declared.outcome.Outcome.{Outcome}
 use Rattle.targets.specs.declared.outcome.Outcome.TheVariants.{Failed}
 use Rattle.targets.specs.declared.outcome.TargetFault.TheVariants as fault
@@ -25,3 +25,9 @@ module _ (l : LabelParts) (t : Target) (ds : List Dependency) (F G : LoadedView)
   -- it has this fault
   pub had : (f : Fault) (o : Outcome) → made F ≡ Err f → o ≡ Failed (fault.Implementation f.kind f.path f.line) → o ≡ finished l (made G)
   had f o h k = k ∙ ap (finished l) (sym h ∙ ap made same)
+
+-- the outcome from dependencies is that from the same ones
+pub of_same : {E : Type 0} (result : Result Outcome E) (run : LabelParts → Target → List Dependency → Result Implemented Fault) (l : LabelParts) (t : Target)
+    (ds es : List Dependency) → ds ≡ es → IfOk result (λ o. o ≡ target_outcome run l t ds) → IfOk result (λ o. o ≡ target_outcome run l t es)
+of_same (Err e) run l t ds es same k = k
+of_same (Ok o) run l t ds es same k = k ∙ ap (target_outcome run l t) same

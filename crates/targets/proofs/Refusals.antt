@@ -1,9 +1,10 @@
 -- The first refusal is told.
 use Rattle.std.proofs.Common.{◌≡◌, ◌∙◌, List, [], ◌∷◌, ◌++◌, map, Option, Some, None, ap, sym, refl}
+use Rattle.std.specs.Option.{option_or}
 use Rattle.std.specs.List.{AllByRecursion}
 use Rattle.workspace.specs.Labels.{LabelParts}
 use Rattle.targets.specs.Attributes.{labels_in}
-use Rattle.targets.specs.Checks.{Dependency, first_of, refused, dependency_of, first_in_value, first_refused}
+use Rattle.targets.specs.Checks.{Dependency, refused, dependency_of, first_in_value, first_refused}
 use Rattle.targets.specs.Laws.{Asked, asked, Passes, IsFirstRefused}
 use Rattle.targets.specs.declared.attributes.AttributeValue.{AttributeValue}
 use Rattle.targets.specs.declared.attributes.NamedAttribute.{NamedAttribute}
@@ -16,31 +17,31 @@ module _ (ds : List Dependency) where
   -- the first refusal in a list of what is asked
   abbrev first_why : List Asked → Option TargetFault
   first_why [] = None
-  first_why (q ∷ qs) = first_of (why q) (first_why qs)
+  first_why (q ∷ qs) = option_or (why q) (first_why qs)
 
-  first_behind : (ps qs : List Asked) → first_why (ps ++ qs) ≡ first_of (first_why ps) (first_why qs)
+  first_behind : (ps qs : List Asked) → first_why (ps ++ qs) ≡ option_or (first_why ps) (first_why qs)
   first_behind [] qs = refl
   first_behind (p ∷ ps) qs = at (why p) (first_behind ps qs)
     where
-      at : (o : Option TargetFault) → first_why (ps ++ qs) ≡ first_of (first_why ps) (first_why qs) → first_of o (first_why (ps ++ qs)) ≡ first_of (first_of o (first_why ps)) (first_why qs)
+      at : (o : Option TargetFault) → first_why (ps ++ qs) ≡ option_or (first_why ps) (first_why qs) → option_or o (first_why (ps ++ qs)) ≡ option_or (option_or o (first_why ps)) (first_why qs)
       at (Some f) h = refl
       at None h = h
 
   of_value : (a : NamedAttribute) (ls : List LabelParts) → first_in_value ds a ls ≡ first_why (map (λ l. (a, l)) ls)
   of_value a [] = refl
-  of_value a (l ∷ ls) = ap (first_of (refused a (dependency_of ds l))) (of_value a ls)
+  of_value a (l ∷ ls) = ap (option_or (refused a (dependency_of ds l))) (of_value a ls)
 
   of_all : (rest : List NamedAttribute) (vs : List AttributeValue) → first_refused ds rest vs ≡ first_why (asked rest vs)
   of_all [] vs = refl
   of_all (a ∷ rest) [] = refl
   of_all (a ∷ rest) (v ∷ vs) =
-      (λ i. first_of (of_value a (labels_in v) i) (of_all rest vs i)) ∙ sym (first_behind (map (λ l. (a, l)) (labels_in v)) (asked rest vs))
+      (λ i. option_or (of_value a (labels_in v) i) (of_all rest vs i)) ∙ sym (first_behind (map (λ l. (a, l)) (labels_in v)) (asked rest vs))
 
   none_why : (qs : List Asked) → first_why qs ≡ None → AllByRecursion (Passes ds) qs
   none_why [] e = tt
   none_why (q ∷ qs) e = at (why q) refl (none_why qs) e
     where
-      at : (o : Option TargetFault) → why q ≡ o → (first_why qs ≡ None → AllByRecursion (Passes ds) qs) → first_of o (first_why qs) ≡ None → AllByRecursion (Passes ds) (q ∷ qs)
+      at : (o : Option TargetFault) → why q ≡ o → (first_why qs ≡ None → AllByRecursion (Passes ds) qs) → option_or o (first_why qs) ≡ None → AllByRecursion (Passes ds) (q ∷ qs)
       at None is k h = (is, k h)
       at (Some f) is k h = absurd (cc)
 
@@ -48,7 +49,7 @@ module _ (ds : List Dependency) where
   some_why [] f e = absurd (cc)
   some_why (q ∷ qs) f e = at (why q) refl (some_why qs f) e
     where
-      at : (o : Option TargetFault) → why q ≡ o → (first_why qs ≡ Some f → IsFirstRefused ds qs f) → first_of o (first_why qs) ≡ Some f → IsFirstRefused ds (q ∷ qs) f
+      at : (o : Option TargetFault) → why q ≡ o → (first_why qs ≡ Some f → IsFirstRefused ds qs f) → option_or o (first_why qs) ≡ Some f → IsFirstRefused ds (q ∷ qs) f
       at (Some g) is k h = record { before = []; one = q; behind = qs; whole = refl; passed = tt; refused = is ∙ h }
       at None is k h =
           let r = k h in

@@ -2,6 +2,7 @@
 -- `allow_files`; that targets are tested by the one alone and source files by the other is this
 -- project's own; docs/PROFILE.md, "Checks of dependencies").
 use Rattle.std.specs.Prelude.{ℕ, Bool, true, false, ◌||◌, nat_eq, List, [], ◌∷◌, length, Option}
+use Rattle.std.specs.Option.{option_or}
 use Rattle.std.specs.Prelude.{Some, None, if◌then◌else◌}
 use Rattle.std.specs.List.{list_any, list_all, ends_with}
 use Rattle.leaves.specs.Leaves.{same_provider}
@@ -75,11 +76,6 @@ abbrev pub dependency_of : List Dependency → LabelParts → Option Dependency
 dependency_of [] l = None
 dependency_of (d ∷ ds) l = if same_label l d.0 then Some d else dependency_of ds l
 
--- the first fault that there is, of two that may be
-abbrev pub first_of : {A : Type 0} → Option A → Option A → Option A
-first_of (Some a) later = Some a
-first_of None later = later
-
 -- why an attribute refuses the dependency of a label; a label that is no dependency isn't refused
 abbrev pub refused : NamedAttribute → Option Dependency → Option TargetFault
 refused a (Some d) = refusal a d
@@ -88,7 +84,7 @@ refused a None = None
 -- the first label of a value whose dependency is refused
 abbrev pub first_in_value : List Dependency → NamedAttribute → List LabelParts → Option TargetFault
 first_in_value ds a [] = None
-first_in_value ds a (l ∷ ls) = first_of (refused a (dependency_of ds l)) (first_in_value ds a ls)
+first_in_value ds a (l ∷ ls) = option_or (refused a (dependency_of ds l)) (first_in_value ds a ls)
 
 -- The first dependency that is refused, by attribute and then by value; one that stands in two
 -- attributes is tested by both.
@@ -97,4 +93,4 @@ abbrev pub first_refused : List Dependency → List NamedAttribute → List Attr
 first_refused ds [] vs = None
 first_refused ds (a ∷ rest) [] = None
 first_refused ds (a ∷ rest) (v ∷ vs) =
-    first_of (first_in_value ds a (labels_in v)) (first_refused ds rest vs)
+    option_or (first_in_value ds a (labels_in v)) (first_refused ds rest vs)

@@ -2,6 +2,7 @@
 use Rattle.std.proofs.Common.{ℕ, List, [], ◌∷◌, Option, Some, None, Err, Ok, map}
 use Rattle.std.specs.Prelude.{option_map, slice_get, codes, bytes_eq, nat_lt, length}
 use Rattle.depsets.specs.Flat.{nodes}
+use Rattle.depsets.specs.Listed.{walked}
 use Rattle.depsets.specs.declared.element.Element.{Element}
 use Rattle.depsets.specs.declared.element.Element.TheVariants as element
 use Rattle.values.specs.Tree.{trees, pairs}
@@ -73,8 +74,8 @@ module _ (s : List Set) (t : Target) (ds : List Dependency) (known : AreIn (in_d
   listed_in : (es : List Element) → IfGiven (HasValue s) (unless_large es)
   listed_in es = either (IfGiven (HasValue s)) (nat_lt LARGEST (length es)) (Err Large) (Ok (frozen_list (map element_tree es))) tt (all_bare element_tree s (element_bare s) es)
 
-  files_or_name_in : (o : Option (List LabelParts)) → IfGiven (HasValue s) (files_or_name ds o)
-  files_or_name_in (Some ls) = listed_in (files_listed ds ls)
+  files_or_name_in : (o : Option (List LabelParts)) → IfGiven (HasValue s) (files_or_name walked ds o)
+  files_or_name_in (Some ls) = listed_in (files_listed walked ds ls)
   files_or_name_in None = tt
 
   target_field_in : (o : Option Dependency) (x : List ℕ) → IfSome (λ d. AreIn (in_target d.1) s) o → IfSome (HasValue s) (target_field o x)
@@ -84,13 +85,13 @@ module _ (s : List Set) (t : Target) (ds : List Dependency) (known : AreIn (in_d
       (map_some (λ f. AreIn (nodes f) s) (HasValue s) depset_value (files_of d) (λ f j. j) (files_are_in s d i)) tt)
   target_field_in None x i = tt
 
-  object_in : (l : LabelParts) (o : Object) (x : List ℕ) → IfGiven (HasValue s) (object_field t ds l o x)
+  object_in : (l : LabelParts) (o : Object) (x : List ℕ) → IfGiven (HasValue s) (object_field walked t ds l o x)
   object_in l object.Context x = or_fault_given (HasValue s) Name (context_field l x) (context_in l x)
   object_in l object.ContextAttr x = or_fault_given (HasValue s) Name (attr_field t ds l x) (attr_in l x)
   object_in l object.ContextFiles x = files_or_name_in (labels_for (value_for t x))
   object_in l _ x = tt
 
-  pub fields_are_in : (l : LabelParts) (o : Leaf) (x : List ℕ) → IfGiven (HasValue s) (field t ds l o x)
+  pub fields_are_in : (l : LabelParts) (o : Leaf) (x : List ℕ) → IfGiven (HasValue s) (field walked t ds l o x)
   fields_are_in l (plain.Target n) x = or_fault_given (HasValue s) Name (target_field (slice_get ds n) x) (target_field_in (slice_get ds n) x (dependency_known s ds known n))
   fields_are_in l (plain.Object o) x = object_in l o x
   fields_are_in l _ x = tt

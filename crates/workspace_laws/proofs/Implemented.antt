@@ -138,7 +138,7 @@ module _ (w : Workspace) (limit : ℕ) (files : Files) (paths : List Path) (know
     call_is_made =
         let ops = language (world paths known) (implementation_place l t ds) in
         final_is_made t.rule.implementation (function_meaning ops files (function_id t.rule.implementation.id) (with_context limit files paths target_world) start)
-        (calls_keep kept ops keeps files (function_id t.rule.implementation.id) (with_context limit files paths target_world) first start ((none_in base, tt), tt) begins)
+        (calls_keep kept ops files (function_id t.rule.implementation.id) (with_context limit files paths target_world) first start keeps ((none_in base, tt), tt) begins)
 
 pub calls_keep_coherence : CallsKeepCoherence
 calls_keep_coherence w limit files paths known is all l t ds alike fresh =

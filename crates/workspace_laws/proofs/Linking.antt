@@ -1,13 +1,14 @@
 -- What the modules that are known give to an evaluation has no depsets but theirs.
 use Rattle.std.proofs.Common.{◌≡◌, ℕ, zero, suc, List, [], ◌∷◌, ◌++◌, Option, Some, None, refl, subst}
 use Rattle.std.specs.Prelude.{option_and_then, position, bytes_eq, slice_get}
+use Rattle.std.specs.Option.{option_or}
 use Rattle.std.specs.List.{flat_map}
 use Rattle.depsets.specs.Flat.{Among}
 use Rattle.values.specs.Shape.{value_of}
 use Rattle.values.specs.View.{FrozenTree}
 use Rattle.values.specs.declared.value.Value.{Value}
 use Rattle.operations.specs.Names.{listed}
-use Rattle.loading.specs.Loads.{Path, Name, path_at, first_of}
+use Rattle.loading.specs.Loads.{Path, Name, path_at}
 use Rattle.evaluation.specs.declared.handed.Module.{Module}
 use Rattle.evaluation.specs.Evaluated.{Known, held, frozen_value, global_named, name_value}
 use Rattle.evaluation.specs.Worlds.{load_path, defaults_of, world}
@@ -73,7 +74,7 @@ module _ (m : Module) where
   name_in : (n : ℕ) (v : Value) → name_value n m ≡ Some v → AreIn (in_value v) (in_module m)
   name_in n v e = go (frozen_value m.globals n) refl e
     where
-      go : (o : Option Value) → frozen_value m.globals n ≡ o → first_of o (held (slice_get m.loaded n)) ≡ Some v
+      go : (o : Option Value) → frozen_value m.globals n ≡ o → option_or o (held (slice_get m.loaded n)) ≡ Some v
           → AreIn (in_value v) (in_module m)
       go (Some u) is e = λ d k. from_globals d (frozen_at m.globals n v (cc) d k)
       go None is e = λ d k. from_loaded d (field_at m.loaded n v e d k)

@@ -1,6 +1,7 @@
 -- The place of an implementation keeps what holds.
 use Rattle.language.specs.Place.{with_state}
 use Rattle.std.proofs.Common.{ℕ, List, Option, Some, None, Ok, Err}
+use Rattle.depsets.specs.Listed.{walked}
 use Rattle.leaves.specs.declared.leaf.Leaf.{Leaf}
 use Rattle.leaves.specs.declared.leaf.Leaf.TheVariants as plain
 use Rattle.leaves.specs.declared.leaf.Object.{Object}
@@ -55,7 +56,7 @@ module _ (owner : List ℕ) (base : List Set) where
       call = λ k c g w i j h. tt;
       method = method_gives;
       field = λ k o x w v h e.
-          through (in_value v) base k.sets (given_is (HasValue base) (field t ds l o x) v (fields_are_in base t ds known l o x) e) k.given;
+          through (in_value v) base k.sets (given_is (HasValue base) (field walked t ds l o x) v (fields_are_in base t ds known l o x) e) k.given;
       item = λ k n a w v h e.
           through (in_value v) base k.sets (given_is (HasValue base) (item ds w.state.heap n a) v (items_are_in base ds known w.state.heap n a) e) k.given;
     }

@@ -64,6 +64,7 @@ texts_are_plain faults nodes k =
     let agree = all_agree nodes k in
     let conflicts = conflicts_same walked flat all agree in record {
       text = λ i. flat_map file_line faults ++ (nodes_same all agree nodes k i ++ flat_map conflict_line (conflicts i));
+      conflicts = conflicts;
       loud = ap (λ cs. has_some faults || (list_any (λ n. is_failed n.outcome) nodes || has_some cs)) conflicts;
     }
 

@@ -26,7 +26,7 @@ use Rattle.one_tree.specs.Found.{Set, in_tree, in_values, in_fields}
 use Rattle.one_tree.specs.Sets.{IsOneTree, IsFresh, IsNumbered, AreIn}
 use Rattle.one_tree.proofs.Changed.{both_in}
 use Rattle.keeping.specs.Kept.{Gives}
-use Rattle.keeping.proofs.Calls.{tops_keep}
+use Rattle.keeping.proofs.Calls.{top_levels_keep}
 use Rattle.holding.specs.Held.{Seen, IsSeen, StateHolds, WholeHolds, held}
 use Rattle.holding.specs.Places.{LinkedKeeps, PlaceKeeps, OperationsKeep}
 use Rattle.workspace_laws.specs.Found.{in_global, in_module}
@@ -139,4 +139,4 @@ module _ (owner : Path) (base : List Set) (one : IsOneTree base) (fresh : IsFres
     run_in known n keep linked place =
         let ops = language (world paths known) (own.place known) in
         after_in n (top_meaning ops files n (start n))
-        (tops_keep (held owner base nothing) ops (keep (world paths known) (own.place known) linked place) files n first (start n) (starts n))
+        (top_levels_keep (held owner base nothing) ops files n first (start n) (keep (world paths known) (own.place known) linked place) (starts n))

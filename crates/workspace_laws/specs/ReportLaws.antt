@@ -7,21 +7,24 @@ use Rattle.lexer.specs.declared.fault.FaultKind.{FaultKind}
 use Rattle.depsets.specs.Listed.{walked, flat}
 use Rattle.ticks.specs.declared.ticks.Kind.{Kind}
 use Rattle.modules.specs.declared.sorting.FileFault.{FileFault}
+use Rattle.claims.specs.Conflicts.{conflicts_of}
 use Rattle.one_tree.specs.Found.{Set}
 use Rattle.one_tree.specs.Sets.{IsOneTree}
 use Rattle.outcomes.specs.Found.{in_target}
 use Rattle.outcomes.specs.Workspaces.{Workspace, outcome_of, ImplementsWell, IsSound}
-use Rattle.reporting.specs.Answers.{Node, is_loud, report_text}
+use Rattle.reporting.specs.Answers.{Node, is_loud, owned_actions, report_text}
 
 -- the depsets that stand in what becomes of labels, each with all below it
 abbrev pub in_nodes : List Node → List Set
 in_nodes nodes = flat_map (λ n. in_target n.outcome) nodes
 
--- The text by the listing that skips ids is that by the plain one, its conflicts and shared actions
--- too; and so is whether it is loud.
+-- The text by the listing that skips ids is that by the plain one, of shared actions too; and so
+-- are the conflicts, and whether it is loud.
 pub record IsToldPlainly (faults : List (FileFault FaultKind Kind))
     (nodes : List Node) : Type 0 where
   pub text : report_text walked faults nodes ≡ report_text flat faults nodes
+  pub conflicts : conflicts_of walked (owned_actions nodes)
+      ≡ conflicts_of flat (owned_actions nodes)
   pub loud : is_loud walked faults nodes ≡ is_loud flat faults nodes
 
 -- A report is told so wherever any two depsets with one id are the same, of all that stand in

@@ -1,18 +1,18 @@
 -- What becomes of the labels of a workspace: its packages, and its implementations (Bazel
 -- documentation, "Build phases", the analysis phase; docs/PROFILE.md, "Targets").
-use Rattle.std.specs.Prelude.{ℕ, List, Option, Some, None, Result}
+use Rattle.std.specs.Prelude.{ℕ, List, Option, Result}
 use Rattle.workspace.specs.Labels.{LabelParts}
 use Rattle.workspace.specs.Workspaces.{Pair, paths_of}
 use Rattle.loading.specs.Loads.{Path}
 use Rattle.targets.specs.Checks.{Dependency}
-use Rattle.targets.specs.Resolving.{Package, no_build_file}
+use Rattle.targets.specs.Resolving.{Package}
 use Rattle.targets.specs.Steps.{Implemented, Fault}
 use Rattle.targets.specs.declared.target.Target.{Target}
 use Rattle.evaluation.specs.Workspaces.{linked_files}
 use Rattle.outcomes.specs.Workspaces.{Workspace}
 use Rattle.workspace_laws.specs.Found.{in_modules}
 use Rattle.workspace_laws.specs.ModuleLaws.{of_all}
-use Rattle.packages.specs.Packages.{build_file_of, package_with, packages}
+use Rattle.packages.specs.Packages.{package_of_file_by, package_by, packages}
 use Rattle.packages.specs.Packages as usual
 use Rattle.target_outcomes.specs.Implementing as usual_calls
 use Rattle.workspace_laws.specs.Files.{known, build_at}
@@ -26,12 +26,11 @@ module _ (files : List Pair) (limit : ℕ) where
 
   -- what a package has whose BUILD file is at this path, if it has one
   abbrev pub package_of_file : Option Path → Package
-  package_of_file None = no_build_file
-  package_of_file (Some path) = package_with (build_at files limit path)
+  package_of_file = package_of_file_by (build_at files limit)
 
   -- what the package of a name has
   abbrev pub package_at : List ℕ → Package
-  package_at p = package_of_file (build_file_of (paths_of files) p)
+  package_at = package_by (build_at files limit) (paths_of files)
 
   -- what the call of an implementation comes to
   abbrev pub implement : LabelParts → Target → List Dependency → Result Implemented Fault
