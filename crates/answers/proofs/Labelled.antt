@@ -1,5 +1,5 @@
 -- What a run finds of the nodes of a graph is what becomes of their labels.
-use Rattle.std.proofs.Common.{◌∙◌, ℕ, List, length, arith}
+use Rattle.std.proofs.Common.{◌≡◌, ◌∙◌, ap, ℕ, List, length, arith}
 use Rattle.std.specs.Prelude.{nat_eq}
 use Rattle.std.specs.List.{range_with_len}
 use Rattle.std.specs.Cmp.{unsigned_Decides}
@@ -32,3 +32,7 @@ outcomes_found w asked g r listed is has n low =
     (by_edges.outcome_of g.edges.deps (λ m. cycle_of w (label_at g.labels m)) (λ m. step_of w (label_at g.labels m)))
     (are_outcomes w listed)
     (lawful g.edges.deps (λ m. cycle_of w (label_at g.labels m)) (λ m. step_of w (label_at g.labels m))) n low
+
+-- what becomes of a label is what becomes of the same one
+pub step_at : (w : Workspace) (o : Outcome) (l m : LabelParts) (os : List Outcome) → l ≡ m → o ≡ step_of w l os → o ≡ step_of w m os
+step_at w o l m os same is = is ∙ ap (λ x. step_of w x os) same

@@ -1,4 +1,5 @@
 pub mod Crossing
 pub mod Labelled
+pub mod OneAnswer
 pub mod Plainly
 pub mod Told

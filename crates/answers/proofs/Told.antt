@@ -1,5 +1,5 @@
 -- What a report tells is the answer.
-use Rattle.std.proofs.Common.{◌≡◌, ◌∙◌, ◌↔◌, ℕ, List, map, All, Contains, Result, Ok, Err, IfOk, sym, ap, subst}
+use Rattle.std.proofs.Common.{◌≡◌, ◌∙◌, ◌↔◌, ℕ, ◌≤◌, List, length, map, All, Contains, Result, Ok, Err, IfOk, sym, ap, subst, arith}
 use Rattle.depsets.specs.Listed.{walked}
 use Rattle.lexer.specs.declared.fault.FaultKind.{FaultKind}
 use Rattle.ticks.specs.declared.ticks.Kind.{Kind}
@@ -8,6 +8,7 @@ use Rattle.reporting.specs.declared.made.Report.{Report}
 use Rattle.reporting.specs.Reported.{report_bytes}
 use Rattle.loader.specs.Loaded.{AreFilesOf}
 use Rattle.answers.specs.Reports.{IsTooMany, Reports}
+use Rattle.std.proofs.lemmas.List.{length-map}
 use Rattle.std.proofs.lemmas.List.Elements.{All-map}
 use Rattle.actions.specs.Ascending.{AreAscending}
 use Rattle.workspace.specs.Labels.{LabelParts, label_text, same_label}
@@ -23,6 +24,7 @@ use Rattle.workspace_laws.specs.Workspaces.{evaluated}
 use Rattle.workspace_laws.proofs.Files.{faults_same}
 use Rattle.workspace_laws.proofs.Outcomes.{dependencies_same, outcomes_same}
 use Rattle.answers.specs.Answers.{Answer, IsAnswerOf}
+use Rattle.answers.specs.declared.report.TheConstants.{NODE_LIMIT}
 use Rattle.label_order.specs.Ordered.{Entry, AreInOrder}
 use Rattle.answers.specs.Nodes.{AreOutcomesOf, node_of, nodes_of}
 use Rattle.label_order.proofs.Ordered.{map_twice}
@@ -47,12 +49,18 @@ module _ (files : List Pair) (limit : ℕ) (asked : List LabelParts) (g : GraphV
       All-map (λ (n : Node). n.outcome ≡ outcome_of (evaluated files limit) n.label) (node_of r) es
       (λ k d low. let at = order.numbered k d low in found _ at.0 ∙ ap (outcome_of (evaluated files limit)) at.1)
 
+  few_nodes : length g.labels ≤ NODE_LIMIT → length (nodes_of r es) ≤ NODE_LIMIT
+  few_nodes few =
+      let size = order.size in
+      let nodes : length (nodes_of r es) ≡ length es = length-map es (node_of r) in
+      omega (arith, few, size, nodes)
+
   module _ (workspace : List Pair) (legal : IsWorkspace workspace) (are : AreFilesOf workspace files) where
     abbrev answer : Answer
     answer = record { faults = faults files limit; nodes = nodes_of r es }
 
     -- what was found is the answer by plain listings
-    answers : IsAnswerOf files limit asked answer
+    answers : IsAnswerOf files asked limit answer
     answers = record {
       faults = faults_same files limit;
       reached =
@@ -64,12 +72,13 @@ module _ (files : List Pair) (limit : ℕ) (asked : List LabelParts) (g : GraphV
           (outcomes_same files limit workspace legal are) outcomes_are;
     }
 
-    pub reports : {E : Type 0} (fs : List (FileFault FaultKind Kind)) (ns : List Node) (result : Result Report E) → fs ≡ faults files limit → ns ≡ nodes_of r es
+    pub reports : {E : Type 0} → length g.labels ≤ NODE_LIMIT → (fs : List (FileFault FaultKind Kind)) (ns : List Node) (result : Result Report E) → fs ≡ faults files limit → ns ≡ nodes_of r es
         → IfOk result (λ m. report_bytes m ≡ report_text walked fs ns) → IfOk result (λ m. m.loud ≡ is_loud walked fs ns) → IfOk result (Reports workspace asked limit)
-    reports fs ns (Err e) ef en t l = t
-    reports fs ns (Ok m) ef en t l = record {
+    reports few fs ns (Err e) ef en t l = t
+    reports few fs ns (Ok m) ef en t l = record {
       answer = answer;
       answers = record { files = files; are_files = are; answers = answers };
+      few = few_nodes few;
       told =
           t ∙ ap (λ f. report_text walked f ns) ef ∙ ap (report_text walked (faults files limit)) en
           ∙ (told_plainly workspace files limit legal are (faults files limit) (nodes_of r es) outcomes_are).text;

@@ -33,7 +33,7 @@ answer_text a = report_text flat a.faults a.nodes
 -- each evaluation may use so many ticks. All files that fail, by path; each label that is reached,
 -- once and in the order of their texts, with what becomes of it. Wherever Starlark code lists a
 -- depset, by `to_list()` or `ctx.files`, it gets the same plain listing.
-pub record IsAnswerOf (files : List Pair) (limit : ℕ) (labels : List LabelParts)
+pub record IsAnswerOf (files : List Pair) (labels : List LabelParts) (limit : ℕ)
     (a : Answer) : Type 0 where
   pub faults : a.faults ≡ faults files limit
   pub reached : (l : LabelParts)
@@ -43,8 +43,8 @@ pub record IsAnswerOf (files : List Pair) (limit : ℕ) (labels : List LabelPart
   pub outcomes : All (λ n. n.outcome ≡ outcome_of (plain_workspace files limit) n.label) a.nodes
 
 -- the answer to labels of a workspace, whose files stand in any order
-pub record IsAnswer (workspace : List Pair) (limit : ℕ) (labels : List LabelParts)
+pub record IsAnswer (workspace : List Pair) (labels : List LabelParts) (limit : ℕ)
     (a : Answer) : Type 0 where
   pub files : List Pair
   pub are_files : AreFilesOf workspace files
-  pub answers : IsAnswerOf files limit labels a
+  pub answers : IsAnswerOf files labels limit a

@@ -1,5 +1,5 @@
 -- Reports on a workspace (docs/REPORT.md; this project's own).
-use Rattle.std.specs.Prelude.{◌≡◌, ℕ, List}
+use Rattle.std.specs.Prelude.{◌≡◌, ◌≤◌, ℕ, List, length}
 use Rattle.workspace.specs.Labels.{LabelParts, same_label}
 use Rattle.workspace.specs.Workspaces.{Pair}
 use Rattle.graph.specs.Reached.{TooManyReached}
@@ -9,21 +9,25 @@ use Rattle.reporting.specs.Reported.{report_bytes}
 use Rattle.loader.specs.Loaded.{AreFilesOf}
 use Rattle.workspace_laws.specs.Workspaces.{plain_workspace}
 use Rattle.answers.specs.Answers.{Answer, IsAnswer, answer_text, is_loud_answer}
+use Rattle.answers.specs.declared.report.TheConstants.{NODE_LIMIT}
 
 -- A report says just what the answer to labels of a workspace is, where each evaluation may use so
--- many ticks.
+-- many ticks; and it has no more labels than an answer may have.
 pub record Reports (workspace : List Pair) (labels : List LabelParts) (limit : ℕ)
     (r : Report) : Type 0 where
   pub answer : Answer
-  pub answers : IsAnswer workspace limit labels answer
+  pub answers : IsAnswer workspace labels limit answer
+  pub few : length answer.nodes ≤ NODE_LIMIT
   pub told : report_bytes r ≡ answer_text answer
   pub loud : r.loud ≡ is_loud_answer answer
 
--- bytes that are those of the answer to labels of a workspace
+-- bytes that are those of the answer to labels of a workspace, which has no more labels than an
+-- answer may have
 pub record AnswersIn (workspace : List Pair) (labels : List LabelParts) (limit : ℕ)
     (bytes : List ℕ) : Type 0 where
   pub answer : Answer
-  pub answers : IsAnswer workspace limit labels answer
+  pub answers : IsAnswer workspace labels limit answer
+  pub few : length answer.nodes ≤ NODE_LIMIT
   pub told : bytes ≡ answer_text answer
 
 -- more labels are reached than a bound

@@ -3,7 +3,8 @@
 use std::mem::forget;
 use std::thread::{Threads, join};
 
-/// What becomes of the memory of what a report was made of.
+/// What becomes of the memory of what a report was made of, once the report is made. With one
+/// worker the targets are given back before that, whichever this is.
 #[derive(Clone, Copy, Debug)]
 pub enum Leftovers {
     /// It is given back, for a program that goes on.

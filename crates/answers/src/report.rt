@@ -1,5 +1,5 @@
 //! The report on labels of a workspace.
-ghost use Rattle.std.specs.Prelude.{◌≡◌, ◌<◌, ℕ, List, IfOk, Err, length, map};
+ghost use Rattle.std.specs.Prelude.{◌≡◌, ◌<◌, ◌≤◌, ℕ, List, IfOk, Err, length, map};
 ghost use Rattle.std.specs.List.{All};
 ghost use Rattle.workspace.specs.Labels.{LabelParts, same_label};
 ghost use Rattle.workspace.specs.Workspaces.{IsWorkspace, Pair};
@@ -69,6 +69,7 @@ fn told<R: Threads + Sync>(
     threads: usize,
 ) -> Result<Report, AllocError>
     requires nodes { found.now.nodes ≡ length graph.now.labels }
+    requires few { length graph.now.labels ≤ NODE_LIMIT }
     ensures { (files workspace : List Pair) (limit : ℕ) (asked : List LabelParts)
         → failing.now ≡ faults files limit → IsWorkspace workspace → AreFilesOf workspace files
         → IsGraphOf (dependencies (evaluated files limit)) asked graph.now
@@ -101,6 +102,7 @@ fn targets_of<R: Threads + Sync>(
 fn graph_of(alloc: Global, targets: &Targets, labels: &[Label]) -> Result<Graph, NoReport>
     ensures graph { let w = evaluated targets.now.files targets.now.limit in
         IfOk result (IsGraphOf (dependencies w) labels.now) }
+    ensures within { IfOk result (λ g. length g.labels ≤ NODE_LIMIT) }
     ensures many { let w = evaluated targets.now.files targets.now.limit in
         result ≡ Err NoReport.TooMany
         → TooManyReached (dependencies w) labels.now same_label NODE_LIMIT }
@@ -123,6 +125,7 @@ fn told_alone<R: Threads + Sync>(
     leftovers: Leftovers,
 ) -> Result<Report, AllocError>
     requires nodes { found.nodes ≡ length graph.labels }
+    requires few { length graph.labels ≤ NODE_LIMIT }
     ensures { let w = evaluated targets.files targets.limit in
         (workspace : List Pair) (asked : List LabelParts) → IsWorkspace workspace
         → AreFilesOf workspace targets.files → IsGraphOf (dependencies w) asked graph
@@ -135,8 +138,8 @@ fn told_alone<R: Threads + Sync>(
     report
 }
 
-/// The report of what was found of the nodes of a graph, by so many threads. What it was made of is
-/// let go after it, each part by a thread.
+/// The report of what was found of the nodes of a graph, by so many threads. Afterwards what it was
+/// made of is let go, each part by a thread, or left to the system.
 fn told_together<R: Threads + Sync>(
     rt: &R,
     alloc: Global,
@@ -147,6 +150,7 @@ fn told_together<R: Threads + Sync>(
     leftovers: Leftovers,
 ) -> Result<Report, AllocError>
     requires nodes { found.nodes ≡ length graph.labels }
+    requires few { length graph.labels ≤ NODE_LIMIT }
     ensures { let w = evaluated targets.files targets.limit in
         (workspace : List Pair) (asked : List LabelParts) → IsWorkspace workspace
         → AreFilesOf workspace targets.files → IsGraphOf (dependencies w) asked graph
@@ -169,6 +173,7 @@ fn told_of<R: Threads + Sync>(
     leftovers: Leftovers,
 ) -> Result<Report, AllocError>
     requires nodes { found.nodes ≡ length graph.labels }
+    requires few { length graph.labels ≤ NODE_LIMIT }
     ensures { let w = evaluated targets.files targets.limit in
         (workspace : List Pair) (asked : List LabelParts) → IsWorkspace workspace
         → AreFilesOf workspace targets.files → IsGraphOf (dependencies w) asked graph
@@ -195,6 +200,7 @@ where
     S: Shelf + Send,
     F: Shelving<S>,
     G: Gate,
+    requires few { length graph.labels ≤ NODE_LIMIT }
     ensures report { let w = evaluated targets.files targets.limit in
         (workspace : List Pair) (asked : List LabelParts) → IsWorkspace workspace
         → AreFilesOf workspace targets.files → IsGraphOf (dependencies w) asked graph
@@ -224,7 +230,8 @@ where
 /// # Errors
 ///
 /// `TooMany` only where more than [`NODE_LIMIT`] labels are reached; `NoMemory` where memory was
-/// refused; `NoThread` where a thread was refused, or the memory to start it, never with one worker.
+/// refused; `NoThread` where a thread was refused, or the memory to start it, never with one
+/// worker.
 pub fn report_on<R: Threads + Wait + Sync, G: Gate>(
     rt: &R,
     alloc: Global,
@@ -253,9 +260,9 @@ pub fn report_on<R: Threads + Wait + Sync, G: Gate>(
 /// `rt` is the permission to start threads and to wait. The labels are analysed by so many workers,
 /// one in the thread that calls and the others in threads of their own, which have ended when this
 /// returns. What the report says depends on none of them, nor on the shelf. The gate is called
-/// round each label, by the worker that analyses it. Before them files are read and `BUILD` files
-/// evaluated by as many threads, and afterwards the lines of many labels are written by as many;
-/// modules are evaluated by the thread that calls.
+/// round each label that isn't cyclic, by the worker that analyses it. Before them files are read
+/// and `BUILD` files evaluated by as many threads, and afterwards the lines of many labels are
+/// written by as many; modules are evaluated by the thread that calls.
 ///
 /// # Errors
 ///
@@ -278,7 +285,7 @@ where
         → IsTooMany workspace.now labels.now limit NODE_LIMIT }
     ensures threads { result ≡ Err NoReport.NoThread → 1 < team.now.workers }
 {
-    // The paths of a workspace are legal, so none of them is the text of a label.
+    // Called for its contract alone: the paths are legal, and none of them stands twice.
     let _count = workspace.count();
     let targets = targets_of(rt, alloc, workspace, limit, team.workers.get())?;
     let graph = match graph_of(alloc, &targets, labels) {

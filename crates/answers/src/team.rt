@@ -61,7 +61,7 @@ pub struct Team<'a, F, G> {
     pub workers: Workers,
     /// What makes their shelf.
     pub shelving: &'a F,
-    /// What is called round each label, by the worker that analyses it.
+    /// What is called round each label that isn't cyclic, by the worker that analyses it.
     pub gate: &'a G,
     /// What becomes of the memory of what the report was made of.
     pub leftovers: Leftovers,

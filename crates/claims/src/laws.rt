@@ -5,13 +5,20 @@ ghost use Rattle.depsets.specs.Own.{Own};
 ghost use Rattle.depsets.specs.Rose.{Rose};
 ghost use Rattle.depsets.specs.declared.element.Element.{Element as Listed};
 ghost use Rattle.claims.specs.Clashes.{AreConflicts, owners};
+ghost use Rattle.claims.specs.Conflicts.{conflicts_of};
 ghost use Rattle.claims.specs.Labels.{AreLabels};
 ghost use Rattle.claims.specs.Owned.{Owned as Registered};
 ghost use Rattle.claims.specs.Sharing.{AreShared};
 ghost use Rattle.claims.specs.declared.clashes.Conflict.{Conflict as Clash};
 ghost use Rattle.claims.specs.declared.sets.Shared.{Shared as Set};
 
-/// At most one list of conflicts meets the law that [`conflicts`](crate::conflicts) keeps, by any
+/// The conflicts of any actions, by any listing, are just the paths that clash.
+pub fn conflicts_are_the_clashes()
+    ensures { (listing : Rose Own → List Listed) (os : List Registered) →
+        AreConflicts listing os (conflicts_of listing os) }
+{}
+
+/// At most one list of conflicts meets the law that those of [`tell`](crate::tell) keep, by any
 /// listing.
 pub fn actions_have_one_list_of_conflicts()
     ensures { (listing : Rose Own → List Listed) (os : List Registered) (cs ds : List Clash) →

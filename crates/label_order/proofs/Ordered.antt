@@ -11,8 +11,8 @@ use Rattle.std.specs.declared.cmp.Ordering.TheVariants.{Less, Equal, Greater}
 use Rattle.std.proofs.lemmas.Cmp.{nat_list_eq_equiv}
 use Rattle.std.proofs.lemmas.List.{get_or-map, length-map}
 use Rattle.std.proofs.lemmas.List.Elements.{All-map, All-push, All-contains, Contains-get_or, recursion_from_All}
-use Rattle.std.proofs.lemmas.List.FromFn.{fill_by_all, map-range_with_len_more, length-range_with_len, get_or-range_with_len}
-use Rattle.std.proofs.lemmas.List.Sorted.{IsPermutation-map, IsPermutation-sym, Contains-permutation}
+use Rattle.std.proofs.lemmas.List.FromFn.{fill_by_all, map-range_with_len_more, length-range_with_len, length-map-range_with_len, get_or-range_with_len}
+use Rattle.std.proofs.lemmas.List.Sorted.{IsPermutation-map, IsPermutation-sym, Contains-permutation, length_permutation}
 use Rattle.std.proofs.lemmas.Map.Keys.{IsDistinct-head, IsDistinct-tail, IsDistinct-IsPermutation}
 use Rattle.std.proofs.lemmas.Slice.Eq.{bytes_eq-Decides}
 use Rattle.workspace.specs.Labels.{LabelParts, is_label, label_text, same_label}
@@ -182,7 +182,14 @@ module _ (labels : List LabelParts) (before after : List (Bor LabelParts × ℕ)
       (subst (λ ls. Contains ls l) (sym firsts_are) h)
 
   pub in_order : IsSorted (slice_cmp nat_cmp) (map seen_text after) → IsDistinct same_label labels → AreInOrder labels (map entry_seen after)
-  in_order up apart = record { all = λ l. (there l, back l); ordered = texts_ascend up apart; numbered = are_numbered }
+  in_order up apart = record {
+    size =
+        length_permutation (map entry_seen before) (map entry_seen after) shuffled ∙ ap length all
+        ∙ length-map-range_with_len (λ n. (label_at labels n, n)) 0 (length labels);
+    all = λ l. (there l, back l);
+    ordered = texts_ascend up apart;
+    numbered = are_numbered;
+  }
 
 -- ---- what is sorted are the texts with the entries
 

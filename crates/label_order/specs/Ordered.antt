@@ -32,6 +32,7 @@ entries labels = map (λ n. (label_at labels n, n)) (range_with_len 0 (length la
 
 -- Each label stands there once, with the number of its node, and their texts ascend.
 pub record AreInOrder (labels : List LabelParts) (es : List Entry) : Type 0 where
+  pub size : length es ≡ length labels
   pub all : (l : LabelParts) → Contains (map (λ e. e.0) es) l ↔ Contains labels l
   pub ordered : AreAscending (map (λ e. label_text e.0) es)
   pub numbered : All (λ e. (e.1 < length labels) × (label_at labels e.1 ≡ e.0)) es

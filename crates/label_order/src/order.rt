@@ -60,7 +60,7 @@ pub fn by_label(alloc: Global, graph: &Graph) -> Result<Vec<Entry<'_>>, AllocErr
     ensures numbers { IfOk result (λ v. All (λ e. e.1 < length graph.now.labels) v.items) }
     ensures order { IfOk result (λ v. AreInOrder graph.now.labels (map entry_seen v.items)) }
 {
-    // No two nodes have the same label, so no two entries have the same text.
+    // Called for its contract alone: no two nodes have the same label, so no two texts are equal.
     let _nodes = graph.nodes();
     let mut keyed = numbered(alloc, graph)?;
     keyed.sort()?;

@@ -1,3 +1,4 @@
 pub mod Closing
 pub mod Requests
 pub mod RequestReports
+pub mod Laws

@@ -1,6 +1,6 @@
 -- The request that the words of the command line and the input make together, and what is written
 -- for it (docs/REPORT.md; this project's own choice).
-use Rattle.std.specs.Prelude.{◌≡◌, ◌<◌, ◌⊎◌, ℕ, Bool, List, Option, Some, length}
+use Rattle.std.specs.Prelude.{◌≡◌, ◌<◌, ◌≤◌, ◌+◌, ◌⊎◌, ℕ, Bool, List, Option, Some, length}
 use Rattle.std.specs.Io.KnownBytes.{Appends, Consumes, IsAtEnd}
 use Rattle.request.specs.Asked.{Asked, asked}
 use Rattle.devices.specs.Devices.{WritesBeginning}
@@ -18,13 +18,15 @@ AsksFor words a = asked words ≡ Some a
 abbrev pub AsksForOthers : List (List ℕ) → Type 0
 AsksForOthers words = (a : Asked) × AsksFor words a × (1 < a.workers)
 
--- words and input make a request, and this is the answer to it
+-- words and input make a request, and this is the answer to it, with no more labels than an answer
+-- may have
 pub record IsAnswered (words : List (List ℕ)) (input : List ℕ) (answer : Answer) : Type 0 where
   pub asked : Asked
   pub workspace : List Pair
   pub words_part : AsksFor words asked
   pub input_part : Spells input workspace
-  pub answers : IsAnswer workspace asked.steps asked.labels answer
+  pub answers : IsAnswer workspace asked.labels asked.steps answer
+  pub few : length answer.nodes ≤ NODE_LIMIT
 
 -- words and input make a request, the bytes of its answer were written and nothing else, and `loud`
 -- says whether the answer has a load fault, a failed target or a conflict
@@ -63,10 +65,11 @@ pub record OfWholeInput (before after : Option (List ℕ)) (P : List ℕ → Typ
   pub end : IsAtEnd after
   pub holds : P input
 
--- what a source gave spells nothing: it was read to its end, or past the limit of an input, in
--- which case nothing that begins so spells anything either
+-- what a source gave spells nothing: it was read to its end, or to the first byte past the limit of
+-- an input, in which case nothing that begins so spells anything either
 pub record RefusesInput (before after : Option (List ℕ)) : Type 0 where
   pub input : List ℕ
   pub taken : Consumes before after input
-  pub read : IsAtEnd after ⊎ (input_limit < length input)
+  pub read : IsAtEnd after ⊎ (length input ≡ input_limit + 1)
+  pub most : length input ≤ input_limit + 1
   pub refused : SpellsNothing input

@@ -16,9 +16,9 @@ use workspace::{Label, Workspace};
 /// evaluation.
 ///
 /// Its bytes are the answer's, and depend on the workspace, the labels and the limit alone. `rt` is
-/// the permission to start threads and to wait. The targets are analysed by so many workers, one in
+/// the permission to start threads and to wait. The labels are analysed by so many workers, one in
 /// the thread that calls and the others in threads of their own, which have ended when this
-/// returns. The gate is called round each target, by the worker that analyses it.
+/// returns. The gate is called round each label that isn't cyclic, by the worker that analyses it.
 ///
 /// # Errors
 ///

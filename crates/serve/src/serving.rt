@@ -69,7 +69,7 @@ fn report_of<R: Threads + Wait + Sync, G: Gate>(
 /// `words` are those of the command line, the program's name first. `Ok(true)` says that the report
 /// has a load fault, a failed target or a conflict. `rt` is the permission to start threads and to
 /// wait; what is asked for is analysed as [`analyse`](crate::analyse) says. `leftovers` says
-/// whether the memory of what the report is made of is given back before it is written.
+/// what becomes of the memory of what the report was made of, before that is written.
 ///
 /// # Errors
 ///

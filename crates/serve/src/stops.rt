@@ -49,7 +49,9 @@ pub enum ServeStop {
 }
 
 /// The exit status, and the line on standard error without its newline, or the empty text where
-/// there is none.
+/// there is none. The status is 0 after a report that isn't loud and 1 after one that is, 2 where
+/// words, input or the number of labels were refused, 3 where memory or a thread was, and 4 where a
+/// device failed.
 ///
 /// `Ok(true)` says that the report has a load fault, a failed target or a conflict.
 pub fn closing(served: &Result<bool, ServeStop>) -> (u8, &'static str)

@@ -1,4 +1,4 @@
-use Rattle.std.proofs.Common.{◌≡◌, ap, inl, List, ℕ, Err, map}
+use Rattle.std.proofs.Common.{◌≡◌, ap, inl, List, ℕ, Err, map, arith}
 use Rattle.std.proofs.KnownBytes.{Consumes-whole}
 use Rattle.request.specs.Asked.{asked_by}
 use Rattle.serve.specs.Requests.{SpellsNothing, WritesAnswer}
@@ -16,6 +16,7 @@ returns-in-Err-clause-input_refused g c e = record {
   input = c.in-Ok-read_input.input.items;
   taken = c.in-Ok-read_input.ensures.whole;
   read = inl c.in-Ok-read_input.ensures.end;
+  most = let few = c.in-Ok-read_input.ensures.limit in omega (arith, few);
   refused =
       let same : c.in-Err.stop ≡ Input = cc in
       c.in-Err.ensures.input_only (ap (λ s. Err s) same);
@@ -34,6 +35,7 @@ returns-in-Ok-write_parts-clause-ok g c =
         words_part = c.in-Ok.ensures.ok;
         input_part = c.in-Ok-report_of.ensures.ok.1;
         answers = c.in-Ok-report_of.ensures.ok.2.answers;
+        few = c.in-Ok-report_of.ensures.ok.2.few;
       };
       written = rw (c.deref.ensures.value, c.in-Ok-report_of.ensures.ok.2.told) at c.in-Ok-write_parts.ensures.ok;
       is_loud = c.in-Ok-report_of.ensures.ok.2.loud;
