@@ -1,9 +1,9 @@
 //! Calls of the built-in functions and of the methods of values, with their arguments.
 //!
-//! Each call does what its definition in `operations` says, for every state, or answers that memory
-//! was refused; after a fault, and after such a refusal, the heap and the number of depsets are as
-//! they were. `provider`, `rule`, calls of rules and the methods of `attr` and of `ctx.actions` are
-//! those of one place, and aren't here.
+//! Each call does what its definition in `operations` says, for every state; those that may give a
+//! `Broken` may answer instead that memory was refused. After a fault, and after such a refusal,
+//! the heap and the number of depsets are as they were. `provider`, `rule`, calls of rules and the
+//! methods of `attr` and of `ctx.actions` are those of one place, and aren't here.
 #![tactic(auto)]
 
 mod arguments;

@@ -113,8 +113,7 @@ fn refuse_call(function: BuiltIn) -> Result<Value, Broken>
     ensures { (g : Given) (w : Held Declared) → Says (refused_call function g w) result w }
 {
     match function {
-        BuiltIn::Provider => Err(Broken::Kind(Kind::Place)),
-        BuiltIn::Rule => Err(Broken::Kind(Kind::Place)),
+        BuiltIn::Provider | BuiltIn::Rule => Err(Broken::Kind(Kind::Place)),
         _ => Err(Broken::Kind(Kind::Wrong)),
     }
 }

@@ -8,14 +8,13 @@ use contexts::ActionMethod;
 use field_names::{FieldName, KnownName};
 use values::{BuiltIn, Kind, Leaf, Object};
 
-/// The fault of a call of what isn't an implementation's: `place` for `provider`, `rule` and rules.
+/// The fault of a call that an implementation may not make: `place` for `provider`, `rule` and
+/// rules, else `type`.
 pub(crate) fn refused(callee: &Leaf) -> Kind
     ensures { result ≡ refused callee.now }
 {
     match callee {
-        Leaf::BuiltIn(BuiltIn::Provider) => Kind::Place,
-        Leaf::BuiltIn(BuiltIn::Rule) => Kind::Place,
-        Leaf::Rule(_) => Kind::Place,
+        Leaf::BuiltIn(BuiltIn::Provider | BuiltIn::Rule) | Leaf::Rule(_) => Kind::Place,
         _ => Kind::Wrong,
     }
 }

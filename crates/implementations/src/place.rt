@@ -19,7 +19,7 @@ use workspace::Label;
 
 /// What the implementation of the target of a label sees: the target, and its dependencies with
 /// their outcomes. What lies in these is lent, and so is what was made of the target's attributes.
-/// Its work are the Files that it declares and the actions that it registers.
+/// Its work is the Files that it declares and the actions that it registers.
 #[derive(Drop)]
 pub struct ImplementationPlace<'a, 'b, I: FileLists> {
     /// The target, its dependencies, and what is made of them once.

@@ -17,11 +17,14 @@ use values::{Item, MadeId, Value};
 /// file's number is its place among the paths.
 #[derive(Drop)]
 pub struct Files<'a, K> {
+    /// Where memory comes from.
     pub alloc: Global,
+    /// The paths, by the numbers of their files.
     pub paths: &'a [Text],
     /// For each file, where its module is looked for first among the modules: how many of these
     /// stand before it.
     pub module_numbers: &'a [usize],
+    /// The modules that are known.
     pub known: &'a K,
 }
 

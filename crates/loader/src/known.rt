@@ -16,8 +16,8 @@ pub trait KnownModules {
     fn module(&self, path: &Text) -> Option<&Module>
         ensures { option_copied result ≡ known self.now path.now };
 
-    /// The same, where the module is likely to have this number among all modules: that one is
-    /// looked at first.
+    /// The module at a path, if it is known. It is looked for first at this number among all
+    /// modules, where it is likely to be.
     fn module_near(&self, number: usize, path: &Text) -> Option<&Module>
         ensures { option_copied result ≡ known self.now path.now };
 }
@@ -25,6 +25,7 @@ pub trait KnownModules {
 /// The modules before one that is evaluated while all are loaded.
 #[derive(Drop)]
 pub struct Before<'a, 'k> {
+    /// The modules that have been evaluated.
     pub modules: &'a Known<'k, Module, FaultKind, Kind>,
 }
 
@@ -45,6 +46,7 @@ impl<'a, 'k> KnownModules for Before<'a, 'k> {
 /// All modules, once they are loaded.
 #[derive(Drop)]
 pub struct Loaded<'a> {
+    /// The modules of the whole workspace.
     pub modules: &'a Modules<Module, FaultKind, Kind>,
 }
 

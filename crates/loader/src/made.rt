@@ -11,6 +11,7 @@ use values::MadeId;
 /// The attributes and the rules that the modules of linked files declared.
 #[derive(Drop)]
 pub struct KnownMade<'a, 'b, K> {
+    /// The linked files, with the modules that are known.
     pub files: &'a Files<'b, K>,
 }
 

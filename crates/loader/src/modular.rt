@@ -30,7 +30,7 @@ fn ended(
         file.now.names.now whole.entry.value.state (made_of whole.entry.value.work)) }
 {
     let Whole { state, work } = Box::into_inner(whole);
-    end_run(alloc, &file, state, made_of(work))
+    end_run(alloc, file, state, made_of(work))
 }
 
 /// What the module of a number comes to, at a path, with the modules that are known: the fault of

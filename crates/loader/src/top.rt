@@ -26,7 +26,7 @@ fn no_names(alloc: Global) -> Result<Shared<TopNames>, AllocError>
     Shared::new(alloc, TopNames::of(IndexSet::new(alloc)))
 }
 
-/// A file's number, as runs have it. Of a number too great for them want of memory is told.
+/// A file's number as runs have it. One that is too great for them is refused as memory is.
 fn file_number(number: usize) -> Result<u32, AllocError>
     ensures { IfOk result (λ n. n ≡ number) }
 {

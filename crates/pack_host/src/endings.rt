@@ -7,7 +7,9 @@ use packing::{FileSize, LeftOut, PackStop, Packed, Unread};
 use std::alloc::{AllocError, Global};
 use std::io;
 
-/// The exit status.
+/// The exit status: 0 where the input was written, 1 where something would be left out that may
+/// not be, 2 where the input would be too long, 3 where memory was refused, 4 where the folder
+/// couldn't be read or the input couldn't be written.
 pub fn status(packed: &Result<Packed, PackStop>) -> u8
     ensures { result ≡ status_of packed.now }
 {

@@ -34,12 +34,17 @@ impl<'a, R: Files + AllocGlobal + Clone + Drop> HostFolder<'a, R> {
     }
 
     /// The system's path of a path in the folder.
-    fn place(&self, alloc: Global, path: &str) -> Result<String, AllocError> {
+    fn system_path(&self, alloc: Global, path: &str) -> Result<String, Unread> {
         let root = self.root;
-        if path.is_empty() {
-            return String::from_str(alloc, root);
+        let made = if path.is_empty() {
+            String::from_str(alloc, root)
+        } else {
+            format!(in alloc; "{root}/{path}")
+        };
+        match made {
+            Ok(path) => Ok(path),
+            Err(_) => Err(Unread::NoMemory),
         }
-        format!(in alloc; "{root}/{path}")
     }
 }
 
@@ -47,9 +52,9 @@ impl<'a, R: Files + AllocGlobal + Clone + Drop> HostFolder<'a, R> {
 fn names_at<R: Files + AllocGlobal + Clone + Drop>(
     rt: &R,
     alloc: Global,
-    place: &str,
+    path: &str,
 ) -> Result<Names, Unread> {
-    let entries = match fs::read_dir(rt, place) {
+    let entries = match fs::read_dir(rt, path) {
         Ok(entries) => entries,
         Err(error) => return Err(unread(&error)),
     };
@@ -70,7 +75,7 @@ fn names_at<R: Files + AllocGlobal + Clone + Drop>(
     Ok(Names { names, others })
 }
 
-/// A name behind the others.
+/// Puts a name behind the others.
 fn push_name(alloc: Global, names: &mut Vec<Text>, name: &str) -> Result<(), AllocError> {
     names.push(Text::new(alloc, name)?)?;
     Ok(())
@@ -80,17 +85,13 @@ impl<'a, R: Files + AllocGlobal + Clone + Drop> Folder for HostFolder<'a, R> {
     ghost at = { λ _ _. None };
 
     fn names(&self, alloc: Global, path: &str) -> Result<Names, Unread> {
-        match self.place(alloc, path) {
-            Ok(place) => names_at(self.rt, alloc, place.as_str()),
-            Err(_) => Err(Unread::NoMemory),
-        }
+        let path = self.system_path(alloc, path)?;
+        names_at(self.rt, alloc, path.as_str())
     }
 
     fn kind(&self, alloc: Global, path: &str) -> Result<Kind, Unread> {
-        let Ok(place) = self.place(alloc, path) else {
-            return Err(Unread::NoMemory);
-        };
-        let metadata = match fs::symlink_metadata(self.rt, place.as_str()) {
+        let path = self.system_path(alloc, path)?;
+        let metadata = match fs::symlink_metadata(self.rt, path.as_str()) {
             Ok(metadata) => metadata,
             Err(error) => return Err(unread(&error)),
         };
@@ -106,10 +107,8 @@ impl<'a, R: Files + AllocGlobal + Clone + Drop> Folder for HostFolder<'a, R> {
     }
 
     fn bytes(&self, alloc: Global, path: &str, limit: usize) -> Result<Vec<u8>, Unread> {
-        let Ok(place) = self.place(alloc, path) else {
-            return Err(Unread::NoMemory);
-        };
-        let file = match fs::open(self.rt, place.as_str()) {
+        let path = self.system_path(alloc, path)?;
+        let file = match fs::open(self.rt, path.as_str()) {
             Ok(file) => file,
             Err(error) => return Err(unread(&error)),
         };

@@ -58,7 +58,8 @@ impl Model for Targets {
         AreAll t.files.files t.files.limit t.packages.entries t.faults.items };
 }
 
-/// What a label names, but that a source file isn't looked for.
+/// What is declared of a label. One that no target has may still name a source file, which
+/// [`Targets::named`] looks for.
 pub(crate) enum Declaration<'a> {
     /// A declared target, with what it depends on.
     Target(&'a Target, &'a Needed),
@@ -117,7 +118,8 @@ impl Targets {
         &self.faults
     }
 
-    /// The same files and reasons; all else is let go.
+    /// The files that failed, with the reasons, as [`faults`](Targets::faults) lends them; all else
+    /// is let go.
     pub fn into_faults(self) -> Vec<FileFault<FaultKind, Kind>>
         ensures { result.items ≡ faults self.files self.limit }
     {

@@ -17,7 +17,9 @@ use targets::Outcome;
 /// A node, and how its actions are told.
 #[derive(Clone, Copy)]
 pub(crate) struct Block<'a> {
+    /// The node.
     pub node: Node<'a>,
+    /// How each of its actions is told, in their order.
     pub tellings: &'a [Telling],
 }
 
@@ -83,14 +85,14 @@ pub(crate) fn tell_nodes(alloc: Global, nodes: &[Node<'_>]) -> Result<Told, Allo
     Ok(told)
 }
 
-/// How many of the tellings a node's actions take.
+/// The first `count` tellings, or all of them where there are fewer.
 fn front(tellings: &[Telling], count: usize) -> &[Telling]
     ensures { result.now ≡ take count tellings.now }
 {
     &tellings[..count.min(tellings.len())]
 }
 
-/// Those behind them.
+/// The tellings behind the first `count`.
 fn behind(tellings: &[Telling], count: usize) -> &[Telling]
     ensures { result.now ≡ drop count tellings.now }
 {

@@ -1,8 +1,8 @@
 //! A report, and its lines: load faults, what becomes of each label, and conflicts.
 //!
 //! [`make_report`] writes all of it, in parts, by several threads; the `put_` functions append what
-//! `specs/Lines` defines. A depset is written by its listing, whose walk skips what it has seen; of
-//! what is coherent that is the text of the plain meaning.
+//! `specs/Lines` defines. A depset is written by the listing that skips each id that it has
+//! seen; where an id has one tree, that is the text of the plain listing too.
 #![tactic(auto)]
 
 mod action_lines;

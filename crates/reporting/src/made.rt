@@ -20,13 +20,13 @@ use std::alloc::{AllocError, Global};
 use std::thread::Threads;
 use values::Kind;
 
-/// The text of a report, and whether it is loud: whether it tells of a file that failed, a label
-/// that failed (also one that names nothing) or a conflict.
+/// A report: its text, and whether it is loud.
 #[derive(Drop)]
 pub struct Report {
     /// Parts of the text, which stand one after the other.
     pub parts: Vec<String>,
-    /// Whether it tells of a file that failed, a label that failed or a conflict.
+    /// Whether it is loud: it tells of a file that failed, a label that failed (also one that names
+    /// nothing) or a conflict.
     pub loud: bool,
 }
 
@@ -83,14 +83,14 @@ fn is_failed(node: &Node<'_>) -> bool
     node.outcome.is_failed()
 }
 
-/// Whether one of the nodes is a label that failed, of the nodes where they lie.
+/// Whether one of the labels failed.
 fn any_failed(nodes: &[Node<'_>]) -> bool
     ensures { result ≡ list_any (λ n. is_failed (node_seen n).outcome) nodes.now }
 {
     nodes.iter().any(|node| is_failed(node))
 }
 
-/// Whether a target failed.
+/// The same, as the definition of a report has it.
 fn has_failed(nodes: &[Node<'_>]) -> bool
     ensures { result ≡ list_any (λ n. is_failed n.outcome) (nodes_seen nodes.now) }
 {

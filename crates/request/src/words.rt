@@ -1,13 +1,12 @@
 //! The words of the command line.
 
 ghost use Rattle.std.specs.Prelude.{◌≤◌, ◌≡◌, IfOk, IfSome, None, Some, false, true, Err, map};
-ghost use Rattle.std.specs.Prelude.{option_and_then};
 ghost use Rattle.clap.specs.Walk.{is_empty};
-ghost use Rattle.clap.specs.Words.{fault_of, app_of, found_of, one_of, rows_of, rule_of};
+ghost use Rattle.clap.specs.Words.{fault_of, app_of, found_of, rows_of, rule_of};
 ghost use Rattle.clap.specs.declared.builder.value_parser.ValueParser.TheVariants as vp;
 ghost use Rattle.request.specs.Asked.{asked, asked_by, each_label, written_by};
 ghost use Rattle.request.specs.CommandLine.{Takes, command_line, texts_of, labels_rule};
-ghost use Rattle.request.specs.CommandLine.{number_within, steps_rule, workers_of, workers_rule};
+ghost use Rattle.request.specs.CommandLine.{steps_of, steps_rule, workers_of, workers_rule};
 ghost use Rattle.request.specs.CommandLine.{written};
 
 use clap::builder::ValueParser;
@@ -101,22 +100,21 @@ fn command<'a>(alloc: Global) -> Result<Command<'a>, AllocError>
         .arg(labels_argument(alloc))
 }
 
-/// The number of an option, where it lies within the limits.
+/// The limit of steps, where it is one.
 ///
 /// The command has refused all others before, but no contract of `clap` says so of the number that
 /// it reads.
-fn number(matches: &ArgMatches<'_>, id: &str, low: u64, high: u64) -> Option<u64>
-    ensures within { IfSome result (λ n. (low ≤ n) × (n ≤ high)) }
-    ensures value { result ≡ option_and_then (number_within low high)
-        (one_of id.now (rows_of (found_of matches.now))) }
+fn steps(matches: &ArgMatches<'_>) -> Option<u64>
+    ensures within { IfSome result (λ n. (1 ≤ n) × (n ≤ 1000000000)) }
+    ensures value { result ≡ steps_of (rows_of (found_of matches.now)) }
 {
-    match matches.get_one::<u64>(id) {
-        Some(n) if low <= n && n <= high => Some(n),
+    match matches.get_one::<u64>("steps") {
+        Some(n) if 1 <= n && n <= 1_000_000_000 => Some(n),
         _ => None,
     }
 }
 
-/// The number of workers, where it is one. As with [`number`], the command has refused all others.
+/// The number of workers, where it is one. As with [`steps`], the command has refused all others.
 fn workers(matches: &ArgMatches<'_>) -> Option<Workers>
     ensures within { IfSome result (λ w. (1 ≤ w) × (w ≤ 64)) }
     ensures value { result ≡ workers_of (rows_of (found_of matches.now)) }
@@ -176,7 +174,7 @@ fn take_words<'a, S: AsStr>(alloc: Global, words: &'a [S]) -> Result<Taken<'a>, 
     let Some(workers) = workers(&matches) else {
         return Err(WordsStop::Words);
     };
-    let Some(steps) = number(&matches, "steps", 1, 1_000_000_000) else {
+    let Some(steps) = steps(&matches) else {
         return Err(WordsStop::Words);
     };
     match texts(alloc, &matches) {

@@ -81,8 +81,8 @@ pub(crate) fn first_of_file<'a, L, P, W: Drop>(
     Ok(Box::new(setting.alloc, Whole { state, work })?)
 }
 
-/// The number that no file has: how many there are. Files of which there are too many are answered
-/// as want of memory.
+/// The number that no file has: how many there are. More files than a `u32` counts are refused as
+/// memory is.
 fn number_past(paths: &[Text]) -> Result<u32, AllocError>
     ensures { IfOk result (λ n. n ≡ length paths.now) }
 {

@@ -10,9 +10,9 @@ use operations::State;
 use std::alloc::{AllocError, Global};
 use values::Kind;
 
-/// What the module of a file comes to whose top level ended in this state, and that made this: what
-/// it hands on, once it is frozen and named. (No run changes the number of its file; it is set
-/// here, so that nothing rests on that.)
+/// What a module comes to whose top level ended in this state, and that made this: what it hands
+/// on, frozen and named. (The number of its file is set here, so that no proof is needed that a run
+/// keeps it.)
 ///
 /// # Errors
 ///

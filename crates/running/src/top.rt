@@ -78,7 +78,8 @@ pub(crate) fn run<'a, L: Link<'a>, P: Place<'a>>(
 }
 
 /// Runs the top level of a file, from its beginning: the state after it, with the work of its
-/// place, or its fault. The codes are those of files: what these mean is what it answers.
+/// place, or its fault. The codes are those of some files; where the names and the count of
+/// functions are its own among them, the answer is what its top level means.
 ///
 /// # Errors
 ///

@@ -54,7 +54,9 @@ impl Model for Kept {
 /// What is kept of a file, and its code.
 #[derive(Drop)]
 pub struct FileDone {
+    /// What is kept of it.
     pub kept: Kept,
+    /// Its code.
     pub code: Code,
 }
 
@@ -122,6 +124,7 @@ fn faulty(alloc: Global, path: &Text, fault: SyntaxFault) -> Result<FileDone, Al
     ensures kept { IfOk result (λ d. d.kept ≡ kept_as path.now (Err fault)) }
     ensures code { IfOk result (λ d. d.code ≡ file_code no_program) }
 {
+    // Only the contract speaks of the path.
     let _path = path;
     compiled(
         alloc,

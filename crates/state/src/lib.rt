@@ -1,8 +1,9 @@
 //! What an evaluation does to its state: a call for each operation of the language.
 //!
-//! Each call does what its definition in `operations` says, for every state, or answers that memory
-//! was refused; after a fault, and after such a refusal, the heap is as it was. What is only read
-//! is taken where it lies, and nothing is shared or copied to look.
+//! Each call does what its definition in `operations` says, for every state; those that may give a
+//! `Broken` or an `AllocError` may answer instead that memory was refused. After a fault, and after
+//! such a refusal, the heap is as it was. What is only read is taken where it lies, and nothing is
+//! shared or copied to look.
 #![tactic(auto)]
 
 mod changes;

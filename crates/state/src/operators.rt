@@ -229,8 +229,8 @@ pub fn calculate(
     a: Item<'_>,
     b: Item<'_>,
 ) -> Result<Value, Kind>
-    ensures { DoesKind (calculate operator (item_value a.entry) (item_value b.entry)) state.now result
-        state.now }
+    ensures { DoesKind (calculate operator (item_value a.entry) (item_value b.entry)) state.now
+        result state.now }
 {
     let Some(x) = number_of(&state.heap.see_item(a)) else {
         return Err(Kind::Wrong);

@@ -7,7 +7,8 @@ use analysis::{Dependency, Needed};
 use std::alloc::{AllocError, Global};
 use targets::Outcome;
 
-/// Labels with their outcomes, which stand in their order.
+/// Each label that a target depends on, with its outcome; the outcomes stand in the order of the
+/// labels.
 pub(crate) fn with_outcomes<'a>(
     alloc: Global,
     needed: &'a Needed,

@@ -55,7 +55,7 @@ fn implementation_fault(placed: Placed<Kind>) -> Outcome
 }
 
 impl<'a> Analysis<'a> {
-    /// That of the targets of a workspace.
+    /// The analysis of the targets of a workspace with these files.
     ///
     /// # Errors
     ///
@@ -127,7 +127,7 @@ impl<'a> Analysis<'a> {
         Ok(Outcome::Failed(TargetFault::DependencyFailed(failed)))
     }
 
-    /// That of one of which no dependency failed.
+    /// The outcome of a target of which no dependency failed.
     fn unless_refused(
         &self,
         alloc: Global,
@@ -145,7 +145,7 @@ impl<'a> Analysis<'a> {
         }
     }
 
-    /// That of one whose dependencies are fit, by the call of its implementation.
+    /// The outcome of a target whose dependencies are fit, by the call of its implementation.
     fn finished(
         &self,
         alloc: Global,

@@ -25,7 +25,9 @@ use visits::freeze;
 /// What an implementation gave: its result, frozen, and what it did.
 #[derive(Drop)]
 pub(crate) struct Implemented {
+    /// The value that it returned, frozen.
     pub result: Frozen,
+    /// The Files that it declared and the actions that it registered.
     pub work: Work,
 }
 

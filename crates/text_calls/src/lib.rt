@@ -1,7 +1,8 @@
 //! The methods of strings, and what is in a list, a tuple, a dict or a string.
 //!
-//! Each call does what its definition in `operations` says, for every state, or answers that memory
-//! was refused; after a fault, and after such a refusal, the heap is as it was.
+//! Each call does what its definition in `operations` says, for every state; those that may give a
+//! `Broken` may answer instead that memory was refused. After a fault, and after such a refusal,
+//! the heap is as it was.
 #![tactic(auto)]
 
 mod affixes;

@@ -15,15 +15,15 @@ returns-in_default-clause-words_only g c e =
     written-without (map g.S.AsStr.text c.args.words.now) rows c.in-Ok.ensures.ok.0 c.in-Ok.ensures.ok.1
     (written_in-no_workers rows (sym c.in_default.ensures.value))
 
-pub returns-in_default-number-clause-words_only : goal.returns-in_default-number-clause-words_only
-returns-in_default-number-clause-words_only g c e =
+pub returns-in_default-steps-clause-words_only : goal.returns-in_default-steps-clause-words_only
+returns-in_default-steps-clause-words_only g c e =
     let rows = rows_of (found_of c.in-Ok.matches) in
     written-without (map g.S.AsStr.text c.args.words.now) rows c.in-Ok.ensures.ok.0 c.in-Ok.ensures.ok.1
-    (written_in-no_steps rows (sym c.in_default-number.ensures.value))
+    (written_in-no_steps rows (sym c.in_default-steps.ensures.value))
 
 pub returns-in-Ok-texts-clause-ok : goal.returns-in-Ok-texts-clause-ok
 returns-in-Ok-texts-clause-ok g c =
     let rows = rows_of (found_of c.in-Ok.matches) in
     written-taken (map g.S.AsStr.text c.args.words.now) rows _ c.in-Ok.ensures.ok.0 c.in-Ok.ensures.ok.1
-    (written_in-whole rows c.in-Some.workers c.in-Some-number.steps (sym c.in-Some.ensures.value) (sym c.in-Some-number.ensures.value)
-    ∙ ap (λ ls. Some (record { workers = c.in-Some.workers; steps = c.in-Some-number.steps; labels = ls })) (sym c.in-Ok-texts.ensures))
+    (written_in-whole rows c.in-Some.workers c.in-Some-steps.steps (sym c.in-Some.ensures.value) (sym c.in-Some-steps.ensures.value)
+    ∙ ap (λ ls. Some (record { workers = c.in-Some.workers; steps = c.in-Some-steps.steps; labels = ls })) (sym c.in-Ok-texts.ensures))
