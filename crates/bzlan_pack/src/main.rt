@@ -32,21 +32,46 @@ fn refuse(rt: &HostRuntime, error: &Error) -> u8 {
     }
 }
 
+/// Why there are no words of the command line.
+enum NoWords {
+    /// One of them isn't UTF-8.
+    NotUtf8,
+    /// Memory was refused.
+    NoMemory,
+}
+
+/// The words of the command line, the program's name first.
+///
+/// # Errors
+///
+/// `NotUtf8` where one of them isn't UTF-8, and `NoMemory` where memory was refused.
+fn command_line<R: env::Env + AllocGlobal>(rt: &R) -> Result<Vec<String>, NoWords> {
+    match env::args(rt) {
+        Ok(words) => match words.collect(rt.alloc()) {
+            Ok(words) => Ok(words),
+            Err(_) => Err(NoWords::NoMemory),
+        },
+        Err(error) => match error.kind() {
+            io::ErrorKind::OutOfMemory => Err(NoWords::NoMemory),
+            _ => Err(NoWords::NotUtf8),
+        },
+    }
+}
+
 fn main(rt: HostRuntime) -> ExitCode {
-    let words = match env::args(&rt) {
-        Ok(words) => words,
-        Err(_) => {
+    let ended = match command_line(&rt) {
+        Ok(words) => match read_pack_words(rt.alloc(), words.as_slice()) {
+            Ok(words) => run(&rt, words),
+            Err(error) => refuse(&rt, &error),
+        },
+        Err(NoWords::NotUtf8) => {
             let _ = eprintln!(rt; "bzlan_pack: the words aren't UTF-8");
-            return ExitCode::from(2);
+            2
         }
-    };
-    let Ok(words) = words.collect::<Vec<String>>(rt.alloc()) else {
-        let _ = eprintln!(rt; "bzlan_pack: no memory");
-        return ExitCode::from(3);
-    };
-    let ended = match read_pack_words(rt.alloc(), words.as_slice()) {
-        Ok(words) => run(&rt, words),
-        Err(error) => refuse(&rt, &error),
+        Err(NoWords::NoMemory) => {
+            let _ = eprintln!(rt; "bzlan_pack: no memory");
+            3
+        }
     };
     ExitCode::from(ended)
 }

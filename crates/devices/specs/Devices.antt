@@ -40,6 +40,10 @@ pub record TakesMore (old new : Option (List ℕ)) (before after : List ℕ)
 abbrev pub GaveBytes : Option (List ℕ) → Option (List ℕ) → ℕ → Type 0
 GaveBytes old new n = (bytes : List ℕ) × Consumes old new bytes × (length bytes ≡ n)
 
+-- a source gave at most this many bytes
+abbrev pub GaveAtMost : Option (List ℕ) → Option (List ℕ) → ℕ → Type 0
+GaveAtMost old new most = (bytes : List ℕ) × Consumes old new bytes × (length bytes ≤ most)
+
 -- a beginning of a text was written, perhaps none of it and perhaps all
 abbrev pub WritesBeginning : Option (List ℕ) → Option (List ℕ) → List ℕ → Type 0
 WritesBeginning old new text = (n : ℕ) × (n ≤ length text) × Appends old new (take n text)

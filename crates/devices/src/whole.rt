@@ -4,7 +4,8 @@ ghost use Rattle.std.specs.Prelude.{◌≡◌, ◌≢◌, ◌<◌, ◌≤◌, �
 ghost use Rattle.std.specs.Prelude.{string_bytes, vec_len};
 ghost use Rattle.std.specs.List.{flat_map};
 ghost use Rattle.std.specs.Io.KnownBytes.{Appends, Consumes, IsAtEnd, Keeps};
-ghost use Rattle.devices.specs.Devices.{Failed, GaveBytes, TakesMore, WritesBeginning};
+ghost use Rattle.devices.specs.Devices.{Failed, GaveAtMost, GaveBytes, TakesMore};
+ghost use Rattle.devices.specs.Devices.{WritesBeginning};
 
 use crate::counted::{Sink, Source};
 use std::alloc::Global;
@@ -34,6 +35,8 @@ fn read_some<S: Source>(source: &mut S, input: &mut Vec<u8>, room: usize) -> Res
         → S.failures source.new ≡ S.failures source.old }
     ensures failed { result ≡ Err InputStop.Read
         → Failed (S.failures source.old) (S.failures source.new) }
+    ensures kept { result ≡ Err InputStop.Read
+        → Keeps (S.remaining source.old) (S.remaining source.new) }
     ensures not_long { result ≡ Err InputStop.TooLong → ⊥ }
 {
     let mut chunk = [0u8; CHUNK];
@@ -51,8 +54,8 @@ fn read_some<S: Source>(source: &mut S, input: &mut Vec<u8>, room: usize) -> Res
 ///
 /// # Errors
 ///
-/// `Read` at the first read that fails, `TooLong` at the first byte past the limit, `NoMemory`
-/// where memory was refused.
+/// `Read` at the first read that fails, before any byte past the limit is read; `TooLong` at the
+/// first byte past it; `NoMemory` where memory was refused.
 pub fn read_input<S: Source>(
     alloc: Global,
     source: &mut S,
@@ -66,6 +69,8 @@ pub fn read_input<S: Source>(
         → S.failures source.new ≡ S.failures source.old }
     ensures read_only { result ≡ Err InputStop.Read
         → Failed (S.failures source.old) (S.failures source.new) }
+    ensures read_within { result ≡ Err InputStop.Read
+        → GaveAtMost (S.remaining source.old) (S.remaining source.new) limit }
     ensures long_only { result ≡ Err InputStop.TooLong
         → GaveBytes (S.remaining source.old) (S.remaining source.new) (limit + 1) }
 {

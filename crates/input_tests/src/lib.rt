@@ -15,6 +15,8 @@ mod pack_words;
 #[cfg(test)]
 mod packs;
 #[cfg(test)]
+mod singles;
+#[cfg(test)]
 mod streams;
 #[cfg(test)]
 mod trees;

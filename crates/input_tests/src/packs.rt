@@ -1,5 +1,6 @@
 //! Folders in memory, and what is packed of them.
 
+use crate::singles::{Single, pack_single};
 use crate::trees::{Crowd, Tree};
 use fakes::tapes::{Failing, Page, long_text};
 use packing::{Folder, LeftOut, PackStop, Packed, pack};
@@ -126,6 +127,19 @@ fn nothing_is_written_after_a_refusal(rt: HostRuntime) -> Result<(), Fail> {
     assert!(rt; is_packed(alloc, 15, whole, true));
     assert!(rt; is_packed(alloc, 1, more, false));
     assert!(rt; is_packed(alloc, 0, more, true));
+    Ok(())
+}
+
+#[test]
+fn one_file_is_packed(rt: HostRuntime) -> Result<(), Fail> {
+    let alloc = rt.alloc();
+    let mut page = Page::new(alloc, 100, None, Failing::Interrupted);
+    let folder = Single {
+        name: "a.bzl",
+        bytes: b"A = 1",
+    };
+    assert!(rt; pack_single(&folder, alloc, &mut page).is_ok());
+    assert!(rt; read_back(alloc, page.bytes.as_slice())?.as_str() == "a.bzl=A = 1\n");
     Ok(())
 }
 

@@ -1,7 +1,8 @@
 //! Folders in memory.
 
-ghost use Rattle.std.specs.Prelude.{◌≤◌, IfOk, None, vec_len};
+ghost use Rattle.std.specs.Prelude.{None};
 
+use crate::singles::given;
 use packing::{Folder, Kind, Names, Unread};
 use plain::Text;
 use std::alloc::{AllocError, Global};
@@ -59,19 +60,6 @@ impl<'a> Tree<'a> {
             }
         }
         Ok(Names { names, others })
-    }
-}
-
-/// Bytes of one's own, if there aren't too many.
-fn given(alloc: Global, bytes: &[u8], limit: usize) -> Result<Vec<u8>, Unread>
-    ensures { IfOk result (λ b. vec_len b ≤ limit) }
-{
-    if bytes.len() > limit {
-        return Err(Unread::TooLong);
-    }
-    match Vec::from_slice(alloc, bytes) {
-        Ok(bytes) => Ok(bytes),
-        Err(_) => Err(Unread::NoMemory),
     }
 }
 

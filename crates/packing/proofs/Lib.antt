@@ -1,3 +1,4 @@
 pub mod WalkLemmas
 pub mod InputTexts
 pub mod WritingLemmas
+pub mod SizesLemmas

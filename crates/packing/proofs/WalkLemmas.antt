@@ -1,5 +1,5 @@
 -- Steps of a walk.
-use Rattle.std.proofs.Common.{◌≡◌, ◌∙◌, ◌⊎◌, ◌<◌, ◌+◌, ◌++◌, ℕ, false, List, [], ◌∷◌, length, refl, ap, sym, subst, inl, inr, arith, take, get_or}
+use Rattle.std.proofs.Common.{◌≡◌, ◌∙◌, ◌≢◌, ◌⊎◌, ◌<◌, ◌+◌, ◌++◌, ℕ, false, List, [], ◌∷◌, length, refl, ap, sym, subst, inl, inr, arith, take, get_or, true≢false}
 use Rattle.std.specs.Prelude.{All, Contains, IsSome, Option, Some, None}
 use Rattle.std.specs.declared.cmp.Ordering.{Ordering}
 use Rattle.std.specs.declared.cmp.Ordering.TheVariants.{Less, Equal, Greater}
@@ -11,11 +11,12 @@ use Rattle.std.proofs.lemmas.List.Elements.{All-cons, All-nil, All-pop, All-push
 use Rattle.std.proofs.lemmas.Map.Text.{is_eq-slice_cmp}
 use Rattle.std.proofs.lemmas.Slice.Eq.{bytes_eq-Decides}
 use Rattle.std.proofs.lemmas.Map.Views.{All-insert_key}
-use Rattle.packing.specs.Folders.{At, Comes, HasKind, HasNames, IsFile, IsHiddenFolder, IsKnown, Node, Reaches, below, file, folder, here, inside, is_output, link, onward, special, start}
-use Rattle.packing.specs.Packs.{HasCause, IsNamed}
-use Rattle.packing.specs.Walks.{ComesBy, CoversFrom, CoversName, Grows, IsCovered, IsWithin, Stays}
+use Rattle.packing.specs.Folders.{Asks, At, Comes, HasKind, HasNames, IsFile, IsFolder, IsHiddenFolder, IsKnown, IsListed, Node, Reaches, below, by_name, file, folder, here, inside, is_hidden, is_output, link, onward, root, special, start}
+use Rattle.packing.specs.Packs.{HasReason, IsNamed}
+use Rattle.packing.specs.Walks.{CoversFrom, CoversName, Grows, IsCovered, IsWithin, Stays}
 use Rattle.packing.specs.declared.folders.Kind.TheVariants as kind
 use Rattle.packing.specs.declared.leaving.LeftOut.{LeftOut}
+use Rattle.packing.specs.declared.leaving.Reason.TheVariants as reason
 use Rattle.packing.specs.declared.walk.Walk.{Walk}
 
 same-contains : {X : Type 0} (xs ys : List X) (x : X) → ys ≡ xs → Contains xs x → Contains ys x
@@ -23,12 +24,12 @@ same-contains xs ys x same h = subst (λ zs. Contains zs x) (sym same) h
 
 named-same : (at : At) (left more : List LeftOut) (l : LeftOut) (path : List ℕ) → more ≡ left ++ l ∷ [] → IsNamed at left path → IsNamed at more path
 named-same at left more l path is n =
-    (n.0, same-contains (left ++ l ∷ []) more n.0 is (Contains-append_left left (l ∷ []) n.0 n.1), n.2)
+    (n.0, same-contains (left ++ l ∷ []) more n.0 is (Contains-append_left left (l ∷ []) n.0 n.1), n.2, n.3)
 
 -- something more is named
 pub grows-left : (at : At) (old new : Walk) (l : LeftOut) → new.files.keys ≡ old.files.keys → new.waiting.items ≡ old.waiting.items
-    → new.left.items ≡ old.left.items ++ l ∷ [] → HasCause at l → Grows at old new
-grows-left at old new l files waiting left cause = record {
+    → new.left.items ≡ old.left.items ++ l ∷ [] → HasReason at l → Grows at old new
+grows-left at old new l files waiting left reason = record {
   covered = λ path h. elim h [
     | inl found ↦ inl (same-contains old.files.keys new.files.keys path files found)
     | inr rest ↦ elim rest [
@@ -37,21 +38,22 @@ grows-left at old new l files waiting left cause = record {
     ]
   ];
   files = λ h. subst (λ ks. All (λ p. IsFile (at p)) ks) (sym files) h;
-  causes = λ h. subst (λ ls. All (HasCause at) ls) (sym left) (All-push (HasCause at) old.left.items l h cause);
+  reasons = λ h. subst (λ ls. All (HasReason at) ls) (sym left) (All-push (HasReason at) old.left.items l h reason);
 }
 
-pub covers-left : (at : At) (new : Walk) (left : List LeftOut) (l : LeftOut) → new.left.items ≡ left ++ l ∷ [] → CoversFrom at new l.path
-covers-left at new left l is path h =
-    inr (inl (l, same-contains (left ++ l ∷ []) new.left.items l is (Contains-push left l), h))
+pub covers-left : (at : At) (new : Walk) (left : List LeftOut) (l : LeftOut) → new.left.items ≡ left ++ l ∷ [] → l.reason ≢ reason.NamesNotUtf8
+    → CoversFrom at new l.path
+covers-left at new left l is itself path h =
+    inr (inl (l, same-contains (left ++ l ∷ []) new.left.items l is (Contains-push left l), itself, h))
 
 pub grows-same : (at : At) (w : Walk) → Grows at w w
-grows-same at w = record { covered = λ path h. h; files = λ h. h; causes = λ h. h }
+grows-same at w = record { covered = λ path h. h; files = λ h. h; reasons = λ h. h }
 
 pub grows-then : (at : At) (a b c : Walk) → Grows at a b → Grows at b c → Grows at a c
 grows-then at a b c g h = record {
   covered = λ path k. h.covered path (g.covered path k);
   files = λ k. h.files (g.files k);
-  causes = λ k. h.causes (g.causes k);
+  reasons = λ k. h.reasons (g.reasons k);
 }
 
 -- ---- paths in order
@@ -95,12 +97,12 @@ grows-found at old new path files waiting left is = record {
   covered = λ p h. elim h [
     | inl found ↦ inl (same-contains (insert_key order old.files.keys path) new.files.keys p files (insert-keeps old.files.keys path p found))
     | inr rest ↦ elim rest [
-      | inl named ↦ inr (inl (named.0, same-contains old.left.items new.left.items named.0 left named.1, named.2))
+      | inl named ↦ inr (inl (named.0, same-contains old.left.items new.left.items named.0 left named.1, named.2, named.3))
       | inr waits ↦ inr (inr (waits.0, same-contains old.waiting.items new.waiting.items waits.0 waiting waits.1, waits.2))
     ]
   ];
   files = λ h. subst (λ ks. All (λ p. IsFile (at p)) ks) (sym files) (All-insert_key order path (λ p. IsFile (at p)) old.files.keys h is);
-  causes = λ h. subst (λ ls. All (HasCause at) ls) (sym left) h;
+  reasons = λ h. subst (λ ls. All (HasReason at) ls) (sym left) h;
 }
 
 -- from a regular file only itself is reached
@@ -140,11 +142,22 @@ covers-more at a b from names i d lt g before now name h =
 
 -- a file more is found
 pub stays-found : (at : At) (old new : Walk) (path : List ℕ) → new.files.keys ≡ insert_key order old.files.keys path
-    → new.waiting.items ≡ old.waiting.items → Reaches at [] path → Stays at old new
-stays-found at old new path files waiting reached k h = record {
+    → new.waiting.items ≡ old.waiting.items → new.left.items ≡ old.left.items → Reaches at [] path → Stays at old new
+stays-found at old new path files waiting left reached k h = record {
   files = All-same (Reaches at []) new.files.keys (insert_key order old.files.keys path) files
       (All-insert_key order path (Reaches at []) old.files.keys h.files reached);
   waiting = All-same (Comes at) new.waiting.items old.waiting.items waiting h.waiting;
+  left = All-same (λ (l : LeftOut). Asks at l.path) new.left.items old.left.items left h.left;
+}
+
+-- something more is left out
+pub stays-left : (at : At) (old new : Walk) (l : LeftOut) → new.files.keys ≡ old.files.keys → new.waiting.items ≡ old.waiting.items
+    → new.left.items ≡ old.left.items ++ l ∷ [] → Asks at l.path → Stays at old new
+stays-left at old new l files waiting left asked k h = record {
+  files = All-same (Reaches at []) new.files.keys old.files.keys files h.files;
+  waiting = All-same (Comes at) new.waiting.items old.waiting.items waiting h.waiting;
+  left = All-same (λ (l : LeftOut). Asks at l.path) new.left.items (old.left.items ++ l ∷ []) left
+      (All-push (λ (l : LeftOut). Asks at l.path) old.left.items l h.left asked);
 }
 
 known-folder : (n : Option Node) (told : List (List ℕ)) → IsSome n → HasNames n told → n ≡ Some (folder told)
@@ -169,6 +182,14 @@ seen-file (Some (file bytes)) name has h = h
 seen-file (Some link) name has h = h
 seen-file (Some special) name has h = h
 
+-- nor is a name that begins with no dot
+pub seen-name : (n : Option Node) (name : List ℕ) → is_hidden name ≡ false → IsHiddenFolder n name → ⊥
+seen-name None name shown h = h
+seen-name (Some (folder names)) name shown h = absurd (true≢false (sym h ∙ shown))
+seen-name (Some (file bytes)) name shown h = h
+seen-name (Some link) name shown h = h
+seen-name (Some special) name shown h = h
+
 -- what is reached from where a walk comes to is reached from the root
 comes-reaches : (at : At) (from path : List ℕ) → Comes at from → Reaches at from path → Reaches at [] path
 comes-reaches at from path start r = r
@@ -176,18 +197,42 @@ comes-reaches at from path (onward f name names c there listed kept seen) r =
     comes-reaches at f path c (inside f name path names there listed kept seen r)
 
 -- by a name that a known folder tells
-pub comes-by : (at : At) (from : List ℕ) (told : List (List ℕ)) (name : List ℕ) → IsKnown at → Comes at from → HasNames (at from) told
-    → Contains told name → ComesBy at from name
-comes-by at from told name k c has listed kept seen =
-    onward from name told c (known-folder (at from) told (k from c) has) listed kept seen
+pub listed-by : (at : At) (from : List ℕ) (told : List (List ℕ)) (name : List ℕ) → IsKnown at → Comes at from → HasNames (at from) told
+    → Contains told name → IsListed at from name
+listed-by at from told name k c has listed = (told, c, known-folder (at from) told (k from c) has, listed)
+
+pub comes-by : (at : At) (from name : List ℕ) → IsListed at from name → is_output from name ≡ false → (IsHiddenFolder (at (below from name)) name → ⊥)
+    → Comes at (below from name)
+comes-by at from name l kept seen = onward from name l.0 l.1 l.2 l.3 kept seen
 
 -- to a regular file
 pub reached-file : (at : At) (from name : List ℕ) → HasKind (at (below from name)) kind.File → is_output from name ≡ false
-    → IsKnown at → ComesBy at from name → Reaches at [] (below from name)
-reached-file at from name is kept k by_name =
-    let c : Comes at (below from name) = by_name kept (seen-file (at (below from name)) name is) in
+    → IsKnown at → IsListed at from name → Reaches at [] (below from name)
+reached-file at from name is kept k l =
+    let c : Comes at (below from name) = comes-by at from name l kept (seen-file (at (below from name)) name is) in
     let f = known-file (at (below from name)) (k (below from name) c) is in
     comes-reaches at (below from name) (below from name) c (here (below from name) f.0 f.1)
+
+-- where a walk comes to, it asked what stands there
+pub comes-asks : (at : At) (path : List ℕ) → Comes at path → Asks at path
+comes-asks at path start = root
+comes-asks at path (onward from name names c there listed kept seen) = by_name from name (names, c, there, listed) kept
+
+comes-along : (at : At) (from path : List ℕ) → Comes at from → Reaches at from path → Comes at path
+comes-along at from path c (here p bytes there) = c
+comes-along at from path c (inside f name p names there listed kept seen later) =
+    comes-along at (below f name) p (onward f name names c there listed kept seen) later
+
+pub reaches-asks : (at : At) (path : List ℕ) → Reaches at [] path → Asks at path
+reaches-asks at path r = comes-asks at path (comes-along at [] path start r)
+
+-- whose names are told is a folder
+pub told-folder : (n : Option Node) (told : List (List ℕ)) → HasNames n told → IsFolder n
+told-folder None told has = has
+told-folder (Some (folder names)) told has = tt
+told-folder (Some (file bytes)) told has = has
+told-folder (Some link) told has = has
+told-folder (Some special) told has = has
 
 -- ---- the whole walk
 
@@ -195,18 +240,23 @@ reached-file at from name is kept k by_name =
 pub covers-root : (at : At) (w : Walk) → w.waiting.items ≡ [] ∷ [] → CoversFrom at w []
 covers-root at w waiting path r = inr (inr ([], same-contains ([] ∷ []) w.waiting.items [] waiting (one [] [] [] refl), r))
 
-pub within-root : (at : At) (w : Walk) → w.files.keys ≡ [] → w.waiting.items ≡ [] ∷ [] → IsWithin at w
-within-root at w files waiting = record {
+pub within-root : (at : At) (w : Walk) → w.files.keys ≡ [] → w.waiting.items ≡ [] ∷ [] → w.left.items ≡ [] → IsWithin at w
+within-root at w files waiting left = record {
   files = All-same (Reaches at []) w.files.keys [] files (All-nil (Reaches at []));
   waiting = All-same (Comes at) w.waiting.items ([] ∷ []) waiting (All-cons (Comes at) [] [] start (All-nil (Comes at)));
+  left = All-same (λ (l : LeftOut). Asks at l.path) w.left.items [] left (All-nil (λ (l : LeftOut). Asks at l.path));
 }
 
 -- a folder that waited is taken out
-pub within-taken : (at : At) (old new : Walk) (from : List ℕ) → new.files.keys ≡ old.files.keys
+pub within-taken : (at : At) (old new : Walk) (from : List ℕ) → new.files.keys ≡ old.files.keys → new.left.items ≡ old.left.items
     → old.waiting.items ≡ new.waiting.items ++ from ∷ [] → IsWithin at old → IsWithin at new × Comes at from
-within-taken at old new from files waiting h =
+within-taken at old new from files left waiting h =
     let both = All-pop (Comes at) old.waiting.items new.waiting.items (Some from) waiting h.waiting in (
-      record { files = All-same (Reaches at []) new.files.keys old.files.keys files h.files; waiting = both.0 },
+      record {
+        files = All-same (Reaches at []) new.files.keys old.files.keys files h.files;
+        waiting = both.0;
+        left = All-same (λ (l : LeftOut). Asks at l.path) new.left.items old.left.items left h.left;
+      },
       both.1,
     )
 
@@ -215,7 +265,7 @@ pub taken-covered : (at : At) (old new : Walk) (from path : List ℕ) → new.fi
 taken-covered at old new from path files left waiting h = elim h [
   | inl found ↦ inl (inl (same-contains old.files.keys new.files.keys path files found))
   | inr rest ↦ elim rest [
-    | inl named ↦ inl (inr (inl (named.0, same-contains old.left.items new.left.items named.0 left named.1, named.2)))
+    | inl named ↦ inl (inr (inl (named.0, same-contains old.left.items new.left.items named.0 left named.1, named.2, named.3)))
     | inr waits ↦ elim (Contains-push_cases new.waiting.items from waits.0 (subst (λ (xs : List (List ℕ)). Contains xs waits.0) waiting waits.1)) [
       | inl other ↦ inl (inr (inr (waits.0, other, waits.2)))
       | inr this ↦ inr (subst (λ (f : List ℕ). Reaches at f path) (sym this) waits.2)

@@ -1,5 +1,5 @@
 -- An input that grows by a file.
-use Rattle.std.proofs.Common.{◌≡◌, ◌∙◌, ◌⊎◌, ◌<◌, ◌≤◌, ◌+◌, ◌++◌, ℕ, suc, Bool, true, false, List, [], ◌∷◌, length, refl, ap, ap₂, sym, subst, inl, inr, arith, drop, take, get_or, length-append, length-drop, lit<}
+use Rattle.std.proofs.Common.{◌≡◌, ◌≢◌, ◌∙◌, ◌⊎◌, ◌<◌, ◌≤◌, ◌+◌, ◌++◌, ℕ, suc, Bool, true, false, List, [], ◌∷◌, length, refl, ap, ap₂, sym, subst, inl, inr, arith, drop, take, get_or, length-append, length-drop, lit<}
 use Rattle.std.specs.Prelude.{All, Contains, IfOk, IsUtf8, Result, Ok, Err, if◌then◌else◌, nat_lt, min, not, cond, ◌^◌, ◌-◌}
 use Rattle.std.specs.declared.cmp.Ordering.{Ordering}
 use Rattle.std.specs.declared.cmp.Ordering.TheVariants.{Less}
@@ -11,7 +11,7 @@ use Rattle.std.specs.Str.{bytes_eq}
 use Rattle.std.specs.Cmp.Derive.{both_true}
 use Rattle.std.proofs.lemmas.List.{get_or-take, get_or_default, length-take-le, map-append, take_all, take_more}
 use Rattle.std.proofs.Math.Seq.{drop-cons}
-use Rattle.std.proofs.lemmas.List.Elements.{All-contains, All-head, All-nil, All-push, All-tail, All-weaker, Contains-append_left, Contains-push, Contains-push_cases}
+use Rattle.std.proofs.lemmas.List.Elements.{All-contains, All-head, All-nil, All-push, All-tail, All-weaker, Contains-append_left, Contains-get_or, Contains-push, Contains-push_cases}
 use Rattle.std.proofs.lemmas.List.Folds.{list_all-append}
 use Rattle.std.proofs.lemmas.List.Sums.{sum_by-append}
 use Rattle.std.proofs.lemmas.Map.Keys.{Less-from_sorted}
@@ -21,17 +21,20 @@ use Rattle.json.proofs.Printed.Utf8.{IsUtf8-are_ascii}
 use Rattle.request.specs.Input.{Spells, input_limit}
 use Rattle.workspace.specs.FileKinds.{is_build_file, is_module}
 use Rattle.workspace.specs.Workspaces.{IsWorkspace, Pair, is_file, paths_of}
-use Rattle.packing.specs.Folders.{At, Reaches, below, here, inside}
+use Rattle.packing.specs.Folders.{At, IsFound, Reaches, below, here, inside}
 use Rattle.packing.specs.Inputs.{begun_text, comma, input_text, pair_text}
-use Rattle.packing.specs.Packs.{AreAscending, HasCause, IsOf, Packs, counts_of, how_many, is_used}
+use Rattle.packing.specs.Packs.{AreAscending, HasCause, Holds, IsOf, Packs, counts_of, how_many, is_used}
 use Rattle.packing.specs.Walks.{IsWalked}
-use Rattle.packing.specs.Writing.{ArePacked, Exceeds, IsTooMuch, Leaves, Puts, Takes, Written, counted_too, one_more}
+use Rattle.packing.specs.Writing.{ArePacked, AreTooMuch, Exceeds, Leaves, Names, Puts, Takes, Written, counted_too, one_more}
 use Rattle.packing.specs.declared.leaving.LeftOut.{LeftOut}
+use Rattle.packing.specs.declared.leaving.Reason.{Reason}
+use Rattle.packing.specs.declared.leaving.Reason.TheVariants as kinds
 use Rattle.packing.specs.declared.whole.PackStop.{PackStop}
 use Rattle.packing.specs.declared.whole.Packed.{Packed}
 use Rattle.packing.specs.declared.walk.Walk.{Walk}
 use Rattle.packing.specs.declared.writing.Writing.{Writing}
 use Rattle.packing.specs.declared.writing.WriteStop.{WriteStop}
+use Rattle.packing.proofs.WalkLemmas.{reaches-asks}
 use Rattle.packing.proofs.InputTexts.{begun-closed, begun-nil, begun-push, text_spells}
 
 abbrev order : List ℕ → List ℕ → Ordering
@@ -88,6 +91,23 @@ takes-put at path text old (Ok w) input utf8 limit left counted file of = record
     comma_utf8 true = IsUtf8-are_ascii (44 ∷ []) refl
     comma_utf8 false = IsUtf8-nil
 
+-- the file is left out
+pub takes-left : (at : At) (path : List ℕ) (reason : Reason) (old : Writing) (r : Result Writing WriteStop)
+    → IfOk r (λ w. w.input ≡ old.input) → IfOk r (λ w. w.left.items ≡ old.left.items ++ record { path = path; reason = reason } ∷ [])
+    → IfOk r (λ w. w.counts ≡ old.counts) → Holds at path reason → reason ≢ kinds.NamesNotUtf8 → IsFound at path → IfOk r (Takes at path old)
+takes-left at path reason old (Err e) input left counted holds itself found = tt
+takes-left at path reason old (Ok w) input left counted holds itself found = record {
+  taken = λ pairs begun. inr (record {
+    input = ap (λ v. v.items) input;
+    named = record { path = path; reason = reason };
+    names = (refl, itself);
+    left = left;
+    cause = (holds, λ k. reaches-asks at path (found.1 k));
+    counted = counted;
+  });
+  utf8 = λ h. subst (λ v. IsUtf8 v.items) (sym input) h;
+}
+
 list_all-push : (ps : List Pair) (p : Pair) → list_all is_file ps ≡ true → is_file p ≡ true → list_all is_file (ps ++ p ∷ []) ≡ true
 list_all-push ps p all last = list_all-append is_file ps (p ∷ []) ∙ both_true all (both_true last refl)
 
@@ -131,7 +151,7 @@ counts-push : (xs : List (List ℕ)) (x : List ℕ) → counted_too x (counts_of
 counts-push xs x = rw (how_many-push is_build_file xs x, how_many-push is_module xs x, how_many-push (λ y. not (is_used y)) xs x) refl
 
 abbrev Done : List LeftOut → List Pair → List ℕ → Type 0
-Done left ps path = Contains (paths_of ps) path ⊎ ((l : LeftOut) × Contains left l × (l.path ≡ path))
+Done left ps path = Contains (paths_of ps) path ⊎ ((l : LeftOut) × Contains left l × Names l path)
 
 pub written-step : (at : At) (keys : List (List ℕ)) (i : ℕ) (d : List ℕ) (before : List LeftOut) (old new : Writing) → AreAscending keys
     → i < length keys → Written at (take i keys) before old → Takes at (get_or keys i d) old new → Written at (take (i + 1) keys) before new
@@ -192,7 +212,7 @@ written-step at keys i d before old new ascending lt h t = elim (t.taken h.pairs
           | inl there ↦ inl there
           | inr named ↦ inr (named.0, subst (λ (ls : List LeftOut). Contains ls named.0) (sym n.left) (Contains-append_left old.left.items (n.named ∷ []) named.0 named.1), named.2)
         ]
-        | inr this ↦ inr (n.named, subst (λ (ls : List LeftOut). Contains ls n.named) (sym n.left) (Contains-push old.left.items n.named), n.names ∙ this)
+        | inr this ↦ inr (n.named, subst (λ (ls : List LeftOut). Contains ls n.named) (sym n.left) (Contains-push old.left.items n.named), (n.names.0 ∙ this, n.names.1))
       ];
       kept = λ l k. subst (λ (ls : List LeftOut). Contains ls l) (sym n.left) (Contains-append_left old.left.items (n.named ∷ []) l (h.kept l k));
       causes = subst (All (HasCause at)) (sym n.left) (All-push (HasCause at) old.left.items n.named h.causes n.cause);
@@ -249,21 +269,30 @@ written-all at keys i before w is h =
     let past : length keys ≤ i = omega (arith, ap length is, length-drop i keys) in
     subst (λ (done : List (List ℕ)). Written at done before w) (take_all i keys past) h
 
+taken-within : (keys : List (List ℕ)) (i : ℕ) (x : List ℕ) → i < length keys → Contains (take i keys) x → Contains keys x
+taken-within keys i x lt h =
+    let early : h.0 < i = omega (arith, h.1, length-take-le i keys) in
+    (h.0, omega arith, sym (get_or-take i keys h.0 x early) ∙ h.2)
+
 -- a pair more would be too much
 pub too_much : (at : At) (keys rest : List (List ℕ)) (i : ℕ) (x : List ℕ) (before : List LeftOut) (w : Writing) → AreAscending keys
-    → x ∷ rest ≡ drop i keys → Written at (take i keys) before w → Exceeds at x w.input.items → IsTooMuch at
+    → x ∷ rest ≡ drop i keys → Written at (take i keys) before w → Exceeds at x w.input.items → AreTooMuch at keys
 too_much at keys rest i x before w ascending is h e =
     let head = at_head keys rest i x is in
     let path : x ≡ get_or keys i x = sym head.1 in
     let pairs : List Pair = h.pairs ++ (get_or keys i x, e.0) ∷ [] in
     let text : input_text pairs ≡ (w.input.items ++ (comma w.input.items ++ pair_text (x, e.0))) ++ 93 ∷ []
     = begun-closed pairs ∙ ap (λ (bs : List ℕ). bs ++ 93 ∷ []) (begun-push h.pairs (get_or keys i x, e.0)
-    ∙ ap₂ (λ (i : List ℕ) (p : List ℕ). i ++ (comma i ++ pair_text (p, e.0))) (sym h.begun) head.1) in (
-      pairs,
-      packed-push at keys i x h.pairs e.0 ascending head.0 h.within h.packed
-          (subst (λ (p : List ℕ). is_file (p, e.0) ≡ true) path e.1) (subst (λ (p : List ℕ). IsOf (at p) (p, e.0)) path e.2),
-      omega (arith, e.3, ap length text, length-append (w.input.items ++ (comma w.input.items ++ pair_text (x, e.0))) (93 ∷ [])),
-    )
+    ∙ ap₂ (λ (i : List ℕ) (p : List ℕ). i ++ (comma i ++ pair_text (p, e.0))) (sym h.begun) head.1) in record {
+      pairs = pairs;
+      packed = packed-push at keys i x h.pairs e.0 ascending head.0 h.within h.packed
+          (subst (λ (p : List ℕ). is_file (p, e.0) ≡ true) path e.1) (subst (λ (p : List ℕ). IsOf (at p) (p, e.0)) path e.2);
+      within = subst (All (Contains keys)) (sym (paths-push h.pairs (get_or keys i x) e.0))
+          (All-push (Contains keys) (paths_of h.pairs) (get_or keys i x)
+          (All-weaker (Contains (take i keys)) (Contains keys) (λ y. taken-within keys i y head.0) (paths_of h.pairs) h.within)
+          (Contains-get_or keys i x head.0));
+      long = omega (arith, e.3, ap length text, length-append (w.input.items ++ (comma w.input.items ++ pair_text (x, e.0))) (93 ∷ []));
+    }
 
 -- ---- the whole input
 
@@ -302,7 +331,8 @@ packs-closed at walk w (Ok p) walked h input left counted = record {
       | inr out ↦ inr (
         out.0,
         subst (λ (ls : List LeftOut). Contains ls out.0) (sym same) out.1,
-        subst (λ (from : List ℕ). Reaches at from path) (sym out.2) (reaches_itself at [] path r),
+        out.2.1,
+        subst (λ (from : List ℕ). Reaches at from path) (sym out.2.0) (reaches_itself at [] path r),
       )
     ]
     | inr out ↦ inr (
@@ -310,10 +340,11 @@ packs-closed at walk w (Ok p) walked h input left counted = record {
       subst (λ (ls : List LeftOut). Contains ls out.0) (sym same)
           (h.kept out.0 out.1),
       out.2,
+      out.3,
     )
   ];
   only = λ k. All-weaker (Contains walk.files.keys) (Reaches at [])
-      (λ path found. All-contains (Reaches at []) walk.files.keys path (walked.only k) found) (paths_of h.pairs) h.within;
+      (λ path there. (All-contains (IsFound at) walk.files.keys path walked.found there).1 k) (paths_of h.pairs) h.within;
   causes = subst (All (HasCause at)) (sym same) h.causes;
   counted = counted ∙ h.counted;
 }

@@ -61,6 +61,18 @@ pub data Comes (at : At) : List ℕ → Type 0 where
       → is_output from name ≡ false → (IsHiddenFolder (at (below from name)) name → ⊥)
       → Comes at (below from name)
 
+-- a name stands in a folder that a walk comes to
+abbrev pub IsListed : At → List ℕ → List ℕ → Type 0
+IsListed at from name = (names : List (List ℕ)) × Comes at from
+    × (at from ≡ Some (folder names)) × Contains names name
+
+-- a walk asks what stands at a path: that of the folder itself, and of each name in a folder that
+-- it comes to, but not of Bazel's links
+pub data Asks (at : At) : List ℕ → Type 0 where
+  root : Asks at []
+  by_name : (from name : List ℕ) → IsListed at from name → is_output from name ≡ false
+      → Asks at (below from name)
+
 -- what stands at each path that a walk comes to is known
 abbrev pub IsKnown : At → Type 0
 IsKnown at = (path : List ℕ) → Comes at path → IsSome (at path)
@@ -97,6 +109,14 @@ IsLonger (Some (file bytes)) limit = limit < length bytes
 IsLonger (Some link) limit = ⊥
 IsLonger (Some special) limit = ⊥
 
+-- a folder, where it is known
+abbrev pub IsFolder : Option Node → Type 0
+IsFolder None = ⊤
+IsFolder (Some (folder names)) = ⊤
+IsFolder (Some (file bytes)) = ⊥
+IsFolder (Some link) = ⊥
+IsFolder (Some special) = ⊥
+
 -- a regular file, where it is known
 abbrev pub IsFile : Option Node → Type 0
 IsFile None = ⊤
@@ -104,3 +124,8 @@ IsFile (Some (folder names)) = ⊥
 IsFile (Some (file bytes)) = ⊤
 IsFile (Some link) = ⊥
 IsFile (Some special) = ⊥
+
+-- the path of a file that a walk found: a regular file stands there, where it is known, and where
+-- all is known that a walk comes to, it reaches the file
+abbrev pub IsFound : At → List ℕ → Type 0
+IsFound at path = IsFile (at path) × (IsKnown at → Reaches at [] path)

@@ -1,6 +1,6 @@
 -- What is packed of a folder, and what is left out (docs/REPORT.md, "From a folder to an input";
 -- this project's own choice).
-use Rattle.std.specs.Prelude.{◌≡◌, ◌⊎◌, ◌-◌, ◌^◌, ℕ, Bool, true, false, not, ◌||◌, min}
+use Rattle.std.specs.Prelude.{◌≡◌, ◌≢◌, ◌⊎◌, ◌-◌, ◌^◌, ℕ, Bool, true, false, not, ◌||◌, min}
 use Rattle.std.specs.Prelude.{if◌then◌else◌, List, [], codes, Option, Some, None, Contains, All}
 use Rattle.std.specs.Prelude.{IsUtf8, ⊤}
 use Rattle.std.specs.Cmp.Lexicographic.{slice_cmp}
@@ -12,7 +12,8 @@ use Rattle.request.specs.Input.{Spells}
 use Rattle.workspace.specs.FileKinds.{is_build_file, is_module}
 use Rattle.workspace.specs.Paths.{is_path, last_segment}
 use Rattle.workspace.specs.Workspaces.{Pair, paths_of, text_limit}
-use Rattle.packing.specs.Folders.{At, IsKnown, IsLonger, Node, Reaches, file, folder, link, special}
+use Rattle.packing.specs.Folders.{Asks, At, IsFile, IsFolder, IsKnown, IsLonger, Node, Reaches}
+use Rattle.packing.specs.Folders.{file, folder, link, special}
 use Rattle.packing.specs.declared.leaving.LeftOut.{LeftOut}
 use Rattle.packing.specs.declared.leaving.Reason.{Reason}
 use Rattle.packing.specs.declared.leaving.Reason.TheVariants as reason
@@ -57,26 +58,34 @@ IsSpecial (Some (file bytes)) = ⊥
 IsSpecial (Some link) = ⊥
 IsSpecial (Some special) = ⊤
 
--- the reason holds of the path. What couldn't be read, no definition tells
+-- the reason holds of the path. The first four are told of a regular file, and of these the last
+-- two only where its text is used. What couldn't be read and which names aren't UTF-8, no
+-- definition tells
 abbrev pub Holds : At → List ℕ → Reason → Type 0
-Holds at path reason.IllegalPath = is_path path ≡ false
-Holds at path reason.BazelFile = is_bazel_file path ≡ true
-Holds at path reason.NotUtf8 = IsNoText (at path)
-Holds at path reason.TooLong = IsLonger (at path) text_limit
+Holds at path reason.IllegalPath = IsFile (at path) × (is_path path ≡ false)
+Holds at path reason.BazelFile = IsFile (at path) × (is_bazel_file path ≡ true)
+Holds at path reason.NotUtf8 = IsNoText (at path) × (is_used path ≡ true)
+Holds at path reason.TooLong = IsLonger (at path) text_limit × (is_used path ≡ true)
 Holds at path reason.Special = IsSpecial (at path)
-Holds at path reason.NamesNotUtf8 = ⊤
+Holds at path reason.NamesNotUtf8 = IsFolder (at path)
 Holds at path reason.Gone = ⊤
 Holds at path reason.Denied = ⊤
 Holds at path reason.NameTooLong = ⊤
 Holds at path reason.Failed = ⊤
 
 -- what is named as left out has the reason that is told for it
-abbrev pub HasCause : At → LeftOut → Type 0
-HasCause at l = Holds at l.path l.reason
+abbrev pub HasReason : At → LeftOut → Type 0
+HasReason at l = Holds at l.path l.reason
 
--- the file at a path, or a folder on the way to it, is named as left out
+-- and where all is known that a walk comes to, the walk asked what stands there
+abbrev pub HasCause : At → LeftOut → Type 0
+HasCause at l = HasReason at l × (IsKnown at → Asks at l.path)
+
+-- the file at a path, or a folder on the way to it, is named as left out. That a folder has names
+-- that aren't UTF-8 leaves out no file that is reached by others
 abbrev pub IsNamed : At → List LeftOut → List ℕ → Type 0
-IsNamed at left path = (l : LeftOut) × Contains left l × Reaches at l.path path
+IsNamed at left path = (l : LeftOut) × Contains left l × (l.reason ≢ reason.NamesNotUtf8)
+    × Reaches at l.path path
 
 -- the paths ascend by their bytes
 abbrev pub AreAscending : List (List ℕ) → Type 0

@@ -1,23 +1,50 @@
 -- Why nothing is packed (docs/REPORT.md, "From a folder to an input"; this project's own choice).
-use Rattle.std.specs.Prelude.{◌≡◌, ◌<◌, ℕ, Bool, true, List, Option, length, All, ⊤}
+use Rattle.std.specs.Prelude.{◌≡◌, ◌≢◌, ◌<◌, ◌≤◌, ℕ, Bool, true, List, [], Option, Some, None}
+use Rattle.std.specs.Prelude.{length, slice_index_or, All, ⊤}
 use Rattle.devices.specs.Devices.{WritesBeginning}
-use Rattle.packing.specs.Folders.{At}
-use Rattle.packing.specs.Packs.{HasCause, Packs}
+use Rattle.packing.specs.Folders.{At, IsFound, Node, file, folder, link, special}
+use Rattle.packing.specs.Packs.{HasCause, Packs, is_used}
 use Rattle.packing.specs.Writing.{IsTooMuch}
+use Rattle.packing.specs.declared.folders.Unread.TheVariants as why
+use Rattle.packing.specs.declared.whole.FileSize.{FileSize}
 use Rattle.packing.specs.declared.whole.Packed.{Packed}
 use Rattle.packing.specs.declared.whole.PackStop.{PackStop}
 use Rattle.packing.specs.declared.whole.PackStop.TheVariants as stop
 
--- each refusal has its cause. That the folder couldn't be read, that memory was refused and that
--- the writer failed, no definition tells
+-- a regular file of so many bytes, where it is known
+abbrev pub HasSize : Option Node → ℕ → Type 0
+HasSize None n = ⊤
+HasSize (Some (folder names)) n = ⊥
+HasSize (Some (file bytes)) n = n ≡ length bytes
+HasSize (Some link) n = ⊥
+HasSize (Some special) n = ⊥
+
+-- a file that a walk found, whose text is used, with the number of its bytes
+pub record IsSize (at : At) (s : FileSize) : Type 0 where
+  pub found : IsFound at s.path
+  pub used : is_used s.path ≡ true
+  pub bytes : HasSize (at s.path) s.bytes
+
+-- at most five files with their sizes, the greatest first. Whether a greater one is missing, as one
+-- that couldn't be read again, no definition tells
+pub record AreSizes (at : At) (sizes : List FileSize) : Type 0 where
+  pub few : length sizes ≤ 5
+  pub each : All (IsSize at) sizes
+  pub falling : (i j : ℕ) (d : FileSize) → i ≤ j → j < length sizes
+      → (slice_index_or sizes j d).bytes ≤ (slice_index_or sizes i d).bytes
+
+-- each refusal has its cause. That the folder couldn't be read and that memory was refused, no
+-- definition tells, but want of memory isn't told of the folder. Of a failed write the clauses of
+-- `pack` tell
 abbrev pub Refuses : At → Bool → PackStop → Type 0
-Refuses at strict (stop.Root unread) = ⊤
-Refuses at strict (stop.TooLong sizes) = IsTooMuch at
+Refuses at strict (stop.Root unread) = unread ≢ why.NoMemory
+Refuses at strict (stop.TooLong sizes) = IsTooMuch at × AreSizes at sizes.items
 Refuses at strict (stop.LeftOut left) = (strict ≡ true) × (0 < length left.items)
     × All (HasCause at) left.items
 Refuses at strict stop.NoMemory = ⊤
 Refuses at strict stop.Write = ⊤
 
--- a beginning of an input was written
-abbrev pub BeginsInput : At → Option (List ℕ) → Option (List ℕ) → Type 0
-BeginsInput at old new = (p : Packed) × Packs at p × WritesBeginning old new p.input.items
+-- a beginning of the folder's input was written; where nothing may be left out, nothing is
+abbrev pub BeginsInput : At → Bool → Option (List ℕ) → Option (List ℕ) → Type 0
+BeginsInput at strict old new = (p : Packed) × Packs at p × (strict ≡ true → p.left.items ≡ [])
+    × WritesBeginning old new p.input.items

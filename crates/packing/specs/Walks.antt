@@ -1,8 +1,8 @@
 -- A walk through a folder on its way.
 use Rattle.std.specs.Prelude.{◌≡◌, ◌⊎◌, ℕ, false, List, [], All, Contains}
-use Rattle.packing.specs.Folders.{At, Comes, IsFile, IsHiddenFolder, IsKnown, Reaches, below}
-use Rattle.packing.specs.Folders.{is_output}
-use Rattle.packing.specs.Packs.{HasCause, IsNamed}
+use Rattle.packing.specs.Folders.{Asks, At, Comes, IsFile, IsFound, IsHiddenFolder, IsKnown}
+use Rattle.packing.specs.Folders.{Reaches, below, is_output}
+use Rattle.packing.specs.Packs.{HasCause, HasReason, IsNamed}
 use Rattle.packing.specs.declared.walk.Walk.{Walk}
 
 -- a folder waits from which the path is reached
@@ -24,32 +24,27 @@ CoversName at w from name =
     is_output from name ≡ false → (IsHiddenFolder (at (below from name)) name → ⊥)
     → CoversFrom at w (below from name)
 
--- a step of a walk loses nothing, takes files alone, and leaves nothing out without a cause
+-- a step of a walk loses nothing, takes files alone, and leaves nothing out without a reason
 pub record Grows (at : At) (old new : Walk) : Type 0 where
   pub covered : (path : List ℕ) → IsCovered at old path → IsCovered at new path
   pub files : All (λ p. IsFile (at p)) old.files.keys → All (λ p. IsFile (at p)) new.files.keys
-  pub causes : All (HasCause at) old.left.items → All (HasCause at) new.left.items
+  pub reasons : All (HasReason at) old.left.items → All (HasReason at) new.left.items
 
--- the walk comes to what a name in a folder stands for, if that isn't passed over
-abbrev pub ComesBy : At → List ℕ → List ℕ → Type 0
-ComesBy at from name =
-    is_output from name ≡ false → (IsHiddenFolder (at (below from name)) name → ⊥)
-    → Comes at (below from name)
-
--- each file that was found is reached, and a walk comes to each folder that waits
+-- each file that was found is reached, a walk comes to each folder that waits, and it asked what
+-- stands where something is left out
 pub record IsWithin (at : At) (w : Walk) : Type 0 where
   pub files : All (Reaches at []) w.files.keys
   pub waiting : All (Comes at) w.waiting.items
+  pub left : All (λ l. Asks at l.path) w.left.items
 
 -- a step of a walk goes nowhere else, where all that it comes to is known
 abbrev pub Stays : At → Walk → Walk → Type 0
 Stays at old new = IsKnown at → IsWithin at old → IsWithin at new
 
--- a whole walk: each file that it reaches was found or is named as left out, and no other was found
--- where all is known that it comes to; it found files alone, and left nothing out without a cause
+-- a whole walk: each file that it reaches was found or is named as left out, what it found are
+-- files that it reaches, and it left nothing out without a cause
 pub record IsWalked (at : At) (w : Walk) : Type 0 where
   pub whole : (path : List ℕ) → Reaches at [] path
       → Contains w.files.keys path ⊎ IsNamed at w.left.items path
-  pub only : IsKnown at → All (Reaches at []) w.files.keys
-  pub files : All (λ p. IsFile (at p)) w.files.keys
+  pub found : All (IsFound at) w.files.keys
   pub causes : All (HasCause at) w.left.items

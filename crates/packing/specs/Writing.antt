@@ -1,14 +1,15 @@
 -- An input that is written file by file.
-use Rattle.std.specs.Prelude.{◌≡◌, ◌<◌, ◌≤◌, ◌⊎◌, ◌++◌, ◌+◌, ◌-◌, ◌^◌, ℕ, Bool, true, false, not}
-use Rattle.std.specs.Prelude.{min, List, [], ◌∷◌, length, All, Contains, IsUtf8, ⊤}
+use Rattle.std.specs.Prelude.{◌≡◌, ◌≢◌, ◌<◌, ◌≤◌, ◌⊎◌, ◌++◌, ◌+◌, ◌-◌, ◌^◌, ℕ, Bool, true, false}
+use Rattle.std.specs.Prelude.{not, min, List, [], ◌∷◌, length, All, Contains, IsUtf8, ⊤}
 use Rattle.std.specs.List.{list_all}
 use Rattle.request.specs.Input.{input_limit}
 use Rattle.workspace.specs.FileKinds.{is_build_file, is_module}
 use Rattle.workspace.specs.Workspaces.{Pair, is_file, paths_of}
-use Rattle.packing.specs.Folders.{At}
+use Rattle.packing.specs.Folders.{At, IsFound}
 use Rattle.packing.specs.Inputs.{begun_text, comma, input_text, pair_text}
 use Rattle.packing.specs.Packs.{AreAscending, HasCause, IsOf, counts_of, is_used}
 use Rattle.packing.specs.declared.leaving.LeftOut.{LeftOut}
+use Rattle.packing.specs.declared.leaving.Reason.TheVariants as reason
 use Rattle.packing.specs.declared.writing.Counts.{Counts}
 use Rattle.packing.specs.declared.writing.Writing.{Writing}
 use Rattle.packing.specs.declared.writing.WriteStop.{WriteStop}
@@ -37,11 +38,15 @@ pub record Puts (at : At) (path : List ℕ) (old new : Writing) (pairs : List Pa
   pub left : new.left.items ≡ old.left.items
   pub counted : new.counts ≡ counted_too path old.counts
 
+-- the file at this path is named, by a reason that speaks of itself
+abbrev pub Names : LeftOut → List ℕ → Type 0
+Names l path = (l.path ≡ path) × (l.reason ≢ reason.NamesNotUtf8)
+
 -- the file is named as left out
 pub record Leaves (at : At) (path : List ℕ) (old new : Writing) : Type 0 where
   pub input : new.input.items ≡ old.input.items
   pub named : LeftOut
-  pub names : named.path ≡ path
+  pub names : Names named path
   pub left : new.left.items ≡ old.left.items ++ named ∷ []
   pub cause : HasCause at named
   pub counted : new.counts ≡ old.counts
@@ -75,17 +80,24 @@ pub record Written (at : At) (done : List (List ℕ)) (before : List LeftOut)
   pub utf8 : IsUtf8 w.input.items
   pub within : All (Contains done) (paths_of pairs)
   pub whole : (path : List ℕ) → Contains done path
-      → Contains (paths_of pairs) path ⊎ ((l : LeftOut) × Contains w.left.items l × (l.path ≡ path))
+      → Contains (paths_of pairs) path ⊎ ((l : LeftOut) × Contains w.left.items l × Names l path)
   pub kept : (l : LeftOut) → Contains before l → Contains w.left.items l
   pub causes : All (HasCause at) w.left.items
   pub counted : w.counts ≡ counts_of (paths_of pairs)
 
--- the pairs of some files spell more than the limit
-abbrev pub IsTooMuch : At → Type 0
-IsTooMuch at = (pairs : List Pair) × ArePacked at pairs × (input_limit < length (input_text pairs))
+-- the pairs of some of these files spell more than the limit
+pub record AreTooMuch (at : At) (files : List (List ℕ)) : Type 0 where
+  pub pairs : List Pair
+  pub packed : ArePacked at pairs
+  pub within : All (Contains files) (paths_of pairs)
+  pub long : input_limit < length (input_text pairs)
 
--- why the writing stopped: too many bytes have their cause; that memory was refused, no definition
--- tells
-abbrev pub Stops : At → WriteStop → Type 0
-Stops at stop.TooLong = IsTooMuch at
-Stops at stop.NoMemory = ⊤
+-- the pairs of some files that a walk found spell more than the limit
+abbrev pub IsTooMuch : At → Type 0
+IsTooMuch at = (files : List (List ℕ)) × All (IsFound at) files × AreTooMuch at files
+
+-- why the writing of these files stopped: too many bytes have their cause; that memory was refused,
+-- no definition tells
+abbrev pub Stops : At → List (List ℕ) → WriteStop → Type 0
+Stops at files stop.TooLong = AreTooMuch at files
+Stops at files stop.NoMemory = ⊤

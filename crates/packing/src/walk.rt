@@ -2,10 +2,11 @@
 //!
 //! Folders that wait stand in a list, so that nothing recurses by their depth.
 
-ghost use Rattle.std.specs.Prelude.{◌≡◌, ◌∷◌, ℕ, List, [], Contains, IfOk, OnOk};
-ghost use Rattle.packing.specs.Folders.{At, Comes, IsFile, Reaches, is_hidden, is_output};
+ghost use Rattle.std.specs.Prelude.{◌≡◌, ◌≢◌, ◌∷◌, ℕ, List, [], Contains, IfOk, OnOk};
+ghost use Rattle.packing.specs.Folders.{Asks, At, Comes, IsFile, IsListed, Reaches, is_hidden};
+ghost use Rattle.packing.specs.Folders.{is_output};
 ghost use Rattle.packing.specs.Packs.{Holds};
-ghost use Rattle.packing.specs.Walks.{ComesBy, CoversFrom, CoversName, Grows, IsWalked, Stays};
+ghost use Rattle.packing.specs.Walks.{CoversFrom, CoversName, Grows, IsWalked, Stays};
 
 use crate::folders::{Folder, Kind, Unread, below};
 use crate::leaving::{LeftOut, Reason};
@@ -44,7 +45,8 @@ fn is_hidden(name: &str) -> bool
 ///
 /// `AllocError` where it couldn't be read because memory was refused.
 pub fn unread_reason(unread: Unread) -> Result<Reason, AllocError>
-    ensures { IfOk result (λ r. (at : At) (path : List ℕ) → Holds at path r) }
+    ensures holds { IfOk result (λ r. (at : At) (path : List ℕ) → Holds at path r) }
+    ensures itself { IfOk result (λ r. r ≢ Reason.NamesNotUtf8) }
 {
     match unread {
         Unread::Gone => Ok(Reason::Gone),
@@ -75,8 +77,9 @@ impl Walk {
     fn leave(&mut self, path: Text, reason: Reason) -> Result<(), AllocError>
         ensures grows { OnOk result ((at : At) → Holds at path reason
             → Grows at self.old self.new) }
-        ensures covers { OnOk result ((at : At) → CoversFrom at self.new path) }
-        ensures only { OnOk result ((at : At) → Stays at self.old self.new) }
+        ensures covers { OnOk result (reason ≢ Reason.NamesNotUtf8 → (at : At)
+            → CoversFrom at self.new path) }
+        ensures only { OnOk result ((at : At) → Asks at path → Stays at self.old self.new) }
     {
         self.left.push(LeftOut { path, reason })?;
         Ok(())
@@ -112,7 +115,7 @@ impl Walk {
     ) -> Result<(), AllocError>
         ensures grows { OnOk result (Grows (F.at folder.now) self.old self.new) }
         ensures covers { OnOk result (CoversName (F.at folder.now) self.new from.now name.now) }
-        ensures only { OnOk result (ComesBy (F.at folder.now) from.now name.now
+        ensures only { OnOk result (IsListed (F.at folder.now) from.now name.now
             → Stays (F.at folder.now) self.old self.new) }
     {
         if is_output(from, name) {
@@ -148,7 +151,7 @@ impl Walk {
         ensures covers { OnOk result ((name : List ℕ) → Contains names.now name
             → CoversName (F.at folder.now) self.new from.now name) }
         ensures only { OnOk result (((name : List ℕ) → Contains names.now name
-            → ComesBy (F.at folder.now) from.now name)
+            → IsListed (F.at folder.now) from.now name)
             → Stays (F.at folder.now) self.old self.new) }
     {
         for name in names {

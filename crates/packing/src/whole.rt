@@ -1,11 +1,12 @@
 //! A whole folder packed: from its walk to the input that is written.
 
-ghost use Rattle.std.specs.Prelude.{◌≡◌, ◌≢◌, ◌++◌, ◌∷◌, [], Bool, true, Err, IfErr, IfOk};
+ghost use Rattle.std.specs.Prelude.{◌≡◌, ◌≢◌, ◌++◌, ◌∷◌, [], Bool, true, All, Err, IfErr, IfOk};
 ghost use Rattle.std.specs.Prelude.{OnOk};
 ghost use Rattle.std.specs.Io.KnownBytes.{Appends};
 ghost use Rattle.devices.specs.Devices.{Failed};
+ghost use Rattle.packing.specs.Folders.{IsFound};
 ghost use Rattle.packing.specs.Packs.{Packs};
-ghost use Rattle.packing.specs.Refusals.{BeginsInput, Refuses};
+ghost use Rattle.packing.specs.Refusals.{AreSizes, BeginsInput, IsSize, Refuses};
 
 use crate::folders::{Folder, Unread};
 use crate::leaving::LeftOut;
@@ -56,23 +57,56 @@ pub enum PackStop {
     Write,
 }
 
+/// The size of a file behind the others, if its text is used and can be read.
+fn push_size<F: Folder>(
+    folder: &F,
+    alloc: Global,
+    path: &Text,
+    sizes: &mut Vec<FileSize>,
+) -> Result<(), AllocError>
+    requires { IsFound (F.at folder.now) path.now }
+    ensures { OnOk result (All (IsSize (F.at folder.now)) sizes.old.items
+        → All (IsSize (F.at folder.now)) sizes.new.items) }
+{
+    if !is_used(path.as_str()) {
+        return Ok(());
+    }
+    let Ok(bytes) = folder.bytes(alloc, path.as_str(), TEXT_LIMIT) else {
+        return Ok(());
+    };
+    sizes.push(FileSize {
+        bytes: bytes.len(),
+        path: path.share()?,
+    })?;
+    Ok(())
+}
+
+/// The sizes of the files whose texts are used, where these can be read.
+fn sizes_of<F: Folder>(
+    folder: &F,
+    alloc: Global,
+    files: &BTreeSet<Text>,
+) -> Result<Vec<FileSize>, AllocError>
+    requires { All (IsFound (F.at folder.now)) files.now.keys }
+    ensures { IfOk result (λ v. All (IsSize (F.at folder.now)) v.items) }
+{
+    let mut sizes = Vec::new(alloc);
+    for path in files {
+        push_size(folder, alloc, path, &mut sizes)?;
+    }
+    Ok(sizes)
+}
+
 /// The greatest of the files whose texts are used, the greatest first.
 fn greatest<F: Folder>(
     folder: &F,
     alloc: Global,
     files: &BTreeSet<Text>,
-) -> Result<Vec<FileSize>, AllocError> {
-    let mut sizes = Vec::new(alloc);
-    for path in files {
-        if is_used(path.as_str())
-            && let Ok(bytes) = folder.bytes(alloc, path.as_str(), TEXT_LIMIT)
-        {
-            sizes.push(FileSize {
-                bytes: bytes.len(),
-                path: path.share()?,
-            })?;
-        }
-    }
+) -> Result<Vec<FileSize>, AllocError>
+    requires { All (IsFound (F.at folder.now)) files.now.keys }
+    ensures { IfOk result (λ v. AreSizes (F.at folder.now) v.items) }
+{
+    let mut sizes = sizes_of(folder, alloc, files)?;
     sizes.sort_unstable();
     sizes.reverse();
     sizes.truncate(GREATEST);
@@ -147,12 +181,13 @@ pub fn pack<F: Folder, K: Sink>(
     ensures writes { IfOk result
         (λ p. Appends (K.contents sink.old) (K.contents sink.new) p.input.items) }
     ensures flushed { OnOk result (K.flushed sink.new ≡ true) }
+    ensures counted { OnOk result (K.failures sink.new ≡ K.failures sink.old) }
     ensures refuses { IfErr result (Refuses (F.at folder.now) strict) }
     ensures nothing { IfErr result (λ e. e ≢ PackStop.Write → sink.new ≡ sink.old) }
     ensures write_only { result ≡ Err PackStop.Write
         → Failed (K.failures sink.old) (K.failures sink.new) }
     ensures beginning { result ≡ Err PackStop.Write
-        → BeginsInput (F.at folder.now) (K.contents sink.old) (K.contents sink.new) }
+        → BeginsInput (F.at folder.now) strict (K.contents sink.old) (K.contents sink.new) }
 {
     let packed = match pack_folder(folder, alloc) {
         Ok(packed) => packed,

@@ -4,7 +4,7 @@
 
 ghost use Rattle.std.specs.Prelude.{◌≡◌, ◌≤◌, ◌++◌, [], ◌∷◌, Err, IfErr, IfOk, OnOk, All};
 ghost use Rattle.std.specs.Prelude.{length, ◌<◌, IsUtf8, string_bytes, string_len, true};
-ghost use Rattle.packing.specs.Folders.{IsFile};
+ghost use Rattle.packing.specs.Folders.{IsFile, IsFound};
 ghost use Rattle.packing.specs.Inputs.{begun_text, comma, pair_text};
 ghost use Rattle.packing.specs.Packs.{HasCause, Holds, IsOf, counts_of};
 ghost use Rattle.packing.specs.Packs.{is_bazel_file, is_used};
@@ -104,6 +104,7 @@ fn used_text<F: Folder>(folder: &F, alloc: Global, path: &str) -> Result<String,
     ensures of { IfOk result (λ s. IsOf (F.at folder.now path.now) (path.now, string_bytes s)) }
     ensures limit { IfOk result (λ s. string_len s ≤ text_limit) }
     ensures cause { (r : Reason) → result ≡ Err (Skip.Left r) → Holds (F.at folder.now) path.now r }
+    ensures itself { result ≡ Err (Skip.Left Reason.NamesNotUtf8) → ⊥ }
 {
     if !is_used(path) {
         return Ok(String::new(alloc));
@@ -130,6 +131,7 @@ fn packed_text<F: Folder>(folder: &F, alloc: Global, path: &str) -> Result<Strin
     ensures of { IfOk result (λ s. IsOf (F.at folder.now path.now) (path.now, string_bytes s)) }
     ensures file { IfOk result (λ s. is_file (path.now, string_bytes s) ≡ true) }
     ensures cause { (r : Reason) → result ≡ Err (Skip.Left r) → Holds (F.at folder.now) path.now r }
+    ensures itself { result ≡ Err (Skip.Left Reason.NamesNotUtf8) → ⊥ }
 {
     if !is_path(path) {
         return Err(Skip::Left(Reason::IllegalPath));
@@ -170,10 +172,10 @@ impl Writing {
         files: &BTreeSet<Text>,
         left: Vec<LeftOut>,
     ) -> Result<Writing, WriteStop>
-        requires files { All (λ p. IsFile (F.at folder.now p)) files.now.keys }
+        requires files { All (IsFound (F.at folder.now)) files.now.keys }
         requires causes { All (HasCause (F.at folder.now)) left.items }
         ensures written { IfOk result (Written (F.at folder.now) files.now.keys left.items) }
-        ensures stops { IfErr result (Stops (F.at folder.now)) }
+        ensures stops { IfErr result (Stops (F.at folder.now) files.now.keys) }
     {
         let Ok(mut writing) = Writing::new(alloc, left) else {
             return Err(WriteStop::NoMemory);
@@ -254,7 +256,7 @@ impl Writing {
         alloc: Global,
         path: &Text,
     ) -> Result<Writing, WriteStop>
-        requires { IsFile (F.at folder.now path.now) }
+        requires { IsFound (F.at folder.now) path.now }
         ensures takes { IfOk result (Takes (F.at folder.now) path.now self) }
         ensures long { result ≡ Err WriteStop.TooLong
             → Exceeds (F.at folder.now) path.now self.input.items }

@@ -1,4 +1,4 @@
-use Rattle.std.proofs.Common.{ap, sym, subst, suc, take, drop, flat_map, string_bytes, ◌++◌}
+use Rattle.std.proofs.Common.{sym, subst, suc, take, drop, flat_map, string_bytes}
 use Rattle.devices.specs.Devices.{WritesBeginning}
 use Rattle.devices.proofs.DeviceLemmas.{beginning_next, cut_at}
 use Rattle.devices.proofs.whole.write_each.Goals as goal

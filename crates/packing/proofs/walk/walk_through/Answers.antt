@@ -1,7 +1,7 @@
 use Rattle.std.proofs.Common.{refl, inl, inr, []}
 use Rattle.std.proofs.lemmas.List.Elements.{All-nil, All-same}
 use Rattle.packing.specs.Folders.{IsFile}
-use Rattle.packing.specs.Packs.{HasCause}
+use Rattle.packing.specs.Packs.{HasReason}
 use Rattle.packing.specs.declared.walk.Walk.{Walk}
 use Rattle.packing.proofs.WalkLemmas.{covers-root, taken-covered, within-root, within-taken}
 use Rattle.packing.proofs.walk.walk_through.Goals as goal
@@ -12,9 +12,9 @@ loop-init g c =
     let w = c.in_ok-walk.walk in
     let new = c.in_ok-walk.ensures in record {
       covers = covers-root at w new.waiting;
-      only = λ k. within-root at w new.files new.waiting;
+      only = λ k. within-root at w new.files new.waiting new.left;
       files = All-same (λ p. IsFile (at p)) w.files.keys [] new.files (All-nil (λ p. IsFile (at p)));
-      causes = All-same (HasCause at) w.left.items [] new.left (All-nil (HasCause at));
+      reasons = All-same (HasReason at) w.left.items [] new.left (All-nil (HasReason at));
     }
 
 pub loop-preserved : goal.loop-preserved
@@ -26,8 +26,8 @@ loop-preserved g c =
         | inr this ↦ c.in_ok-visit.ensures.covers path this
       ];
       only = λ k.
-          let taken = within-taken at c.loop.walk rest c.in-Some.from refl c.in-Some.ensures.items (c.loop.invariant.only k) in
+          let taken = within-taken at c.loop.walk rest c.in-Some.from refl refl c.in-Some.ensures.items (c.loop.invariant.only k) in
           c.in_ok-visit.ensures.only taken.1 k taken.0;
       files = c.in_ok-visit.ensures.grows.files c.loop.invariant.files;
-      causes = c.in_ok-visit.ensures.grows.causes c.loop.invariant.causes;
+      reasons = c.in_ok-visit.ensures.grows.reasons c.loop.invariant.reasons;
     }

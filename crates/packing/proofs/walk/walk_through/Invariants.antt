@@ -1,7 +1,7 @@
 use Rattle.std.proofs.Common.{[]}
 use Rattle.std.specs.Prelude.{All}
 use Rattle.packing.specs.Folders.{IsFile, IsKnown}
-use Rattle.packing.specs.Packs.{HasCause}
+use Rattle.packing.specs.Packs.{HasReason}
 use Rattle.packing.specs.Walks.{CoversFrom, IsWithin}
 use Rattle.packing.proofs.walk.walk_through.Given as goal
 
@@ -10,5 +10,5 @@ invariant-loop g l = record {
   covers : CoversFrom (g.F.Folder.at l.fn.folder) l.walk [];
   only : IsKnown (g.F.Folder.at l.fn.folder) → IsWithin (g.F.Folder.at l.fn.folder) l.walk;
   files : All (λ p. IsFile (g.F.Folder.at l.fn.folder p)) l.walk.files.keys;
-  causes : All (HasCause (g.F.Folder.at l.fn.folder)) l.walk.left.items;
+  reasons : All (HasReason (g.F.Folder.at l.fn.folder)) l.walk.left.items;
 }

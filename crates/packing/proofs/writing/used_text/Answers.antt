@@ -10,5 +10,6 @@ returns-in-Ok-unread_reason g c = record {
   cause = λ r e.
       let at = g.F.Folder.at c.args.folder.now in
       let same : c.in-Ok-unread_reason.reason ≡ r = cc in
-      subst (λ (x : Reason). Holds at c.args.path.now x) same (c.in-Ok-unread_reason.ensures at c.args.path.now);
+      subst (λ (x : Reason). Holds at c.args.path.now x) same (c.in-Ok-unread_reason.ensures.holds at c.args.path.now);
+  itself = λ e. c.in-Ok-unread_reason.ensures.itself (cc);
 }

@@ -11,4 +11,4 @@ returns-clause-has c =
     subst (λ (ks : List (List ℕ)). Contains ks c.args.path) (sym c.in_ok-insert.ensures.keys) (insert-has c.args.self.now.files.keys c.args.path)
 
 pub returns-clause-only : goal.returns-clause-only
-returns-clause-only c at reached = stays-found at c.args.self.now _ c.args.path c.in_ok-insert.ensures.keys refl reached
+returns-clause-only c at reached = stays-found at c.args.self.now _ c.args.path c.in_ok-insert.ensures.keys refl refl reached

@@ -1,10 +1,11 @@
 use Rattle.std.proofs.Common.{◌≡◌, ◌∙◌, [], false, subst, sym}
 use Rattle.std.proofs.lemmas.Result.{IfOk-weaker}
 use Rattle.std.specs.Prelude.{Contains, List, ℕ}
-use Rattle.packing.specs.Folders.{HasKind, Reaches, below, is_output}
+use Rattle.packing.specs.Folders.{Asks, At, Comes, HasKind, IsListed, Reaches, below, by_name, is_hidden, is_output}
 use Rattle.packing.specs.declared.folders.Kind.{Kind}
 use Rattle.packing.specs.declared.folders.Kind.TheVariants as kind
-use Rattle.packing.proofs.WalkLemmas.{covers-found, reached-file}
+use Rattle.packing.specs.Walks.{CoversFrom, Stays}
+use Rattle.packing.proofs.WalkLemmas.{comes-by, covers-found, reached-file, seen-name}
 use Rattle.packing.proofs.walk.Walk.take.Goals as goal
 
 pub returns-in-Ok-File-clause-covers : goal.returns-in-Ok-File-clause-covers
@@ -18,7 +19,7 @@ returns-in-Ok-File-clause-covers g c =
 
 pub returns-in_ok-reason-in-Err-clause-grows : goal.returns-in_ok-reason-in-Err-clause-grows
 returns-in_ok-reason-in-Err-clause-grows g c =
-    IfOk-weaker c.leave-in-Err.result _ _ (λ r h. h (g.F.Folder.at c.args.folder.now) (c.in_ok-reason-in-Err.ensures (g.F.Folder.at c.args.folder.now) c.in_ok-path.path)) c.leave-in-Err.ensures.grows
+    IfOk-weaker c.leave-in-Err.result _ _ (λ r h. h (g.F.Folder.at c.args.folder.now) (c.in_ok-reason-in-Err.ensures.holds (g.F.Folder.at c.args.folder.now) c.in_ok-path.path)) c.leave-in-Err.ensures.grows
 
 pub returns-in-Ok-File-clause-only : goal.returns-in-Ok-File-clause-only
 returns-in-Ok-File-clause-only g c =
@@ -27,13 +28,35 @@ returns-in-Ok-File-clause-only g c =
     let told : HasKind (at c.as_str.result.now) kind.File = subst (λ (k : Kind). HasKind (at c.as_str.result.now) k) c.in-Ok-File.field-0-is c.in-Ok-File.ensures in
     let there : HasKind (at (below c.args.from.now c.args.name.now)) kind.File = subst (λ (p : List ℕ). HasKind (at p) kind.File) named told in
     let kept : is_output c.args.from.now c.args.name.now ≡ false = sym c.is_output.ensures ∙ c.if-is_output.false in
-    IfOk-weaker c.find.result _ _ (λ r h by_name k. h at (subst (λ (p : List ℕ). Reaches at [] p) (sym c.in_ok-path.ensures)
-    (reached-file at c.args.from.now c.args.name.now there kept k by_name)) k) c.find.ensures.only
+    IfOk-weaker c.find.result _ _ (λ r h listed k. h at (subst (λ (p : List ℕ). Reaches at [] p) (sym c.in_ok-path.ensures)
+    (reached-file at c.args.from.now c.args.name.now there kept k listed)) k) c.find.ensures.only
 
 pub returns-in-Ok-Special-clause-only : goal.returns-in-Ok-Special-clause-only
 returns-in-Ok-Special-clause-only g c =
-    IfOk-weaker c.leave.result _ _ (λ r h by_name. h (g.F.Folder.at c.args.folder.now)) c.leave.ensures.only
+    let at = g.F.Folder.at c.args.folder.now in
+    let kept : is_output c.args.from.now c.args.name.now ≡ false = sym c.is_output.ensures ∙ c.if-is_output.false in
+    IfOk-weaker c.leave.result (λ _. (a : At) → Asks a c.in_ok-path.path → Stays a c.args.self.now c.leave.new.self)
+    (λ _. IsListed at c.args.from.now c.args.name.now → Stays at c.args.self.now c.leave.new.self) (λ r h listed. h at (subst (Asks at) (sym c.in_ok-path.ensures) (by_name c.args.from.now c.args.name.now listed kept)))
+    c.leave.ensures.only
 
 pub returns-in_ok-reason-in-Err-clause-only : goal.returns-in_ok-reason-in-Err-clause-only
 returns-in_ok-reason-in-Err-clause-only g c =
-    IfOk-weaker c.leave-in-Err.result _ _ (λ r h by_name. h (g.F.Folder.at c.args.folder.now)) c.leave-in-Err.ensures.only
+    let at = g.F.Folder.at c.args.folder.now in
+    let kept : is_output c.args.from.now c.args.name.now ≡ false = sym c.is_output.ensures ∙ c.if-is_output.false in
+    IfOk-weaker c.leave-in-Err.result (λ _. (a : At) → Asks a c.in_ok-path.path → Stays a c.args.self.now c.leave-in-Err.new.self)
+    (λ _. IsListed at c.args.from.now c.args.name.now → Stays at c.args.self.now c.leave-in-Err.new.self) (λ r h listed. h at (subst (Asks at) (sym c.in_ok-path.ensures) (by_name c.args.from.now c.args.name.now listed kept)))
+    c.leave-in-Err.ensures.only
+
+pub returns-in_ok-reason-in-Err-clause-covers : goal.returns-in_ok-reason-in-Err-clause-covers
+returns-in_ok-reason-in-Err-clause-covers g c =
+    let at = g.F.Folder.at c.args.folder.now in
+    IfOk-weaker c.leave-in-Err.result _ _ (λ r h kept seen. subst (λ (p : List ℕ). CoversFrom at c.leave-in-Err.new.self p) c.in_ok-path.ensures (h c.in_ok-reason-in-Err.ensures.itself at))
+    c.leave-in-Err.ensures.covers
+
+pub returns-else-is_hidden-clause-only : goal.returns-else-is_hidden-clause-only
+returns-else-is_hidden-clause-only g c =
+    let at = g.F.Folder.at c.args.folder.now in
+    let kept : is_output c.args.from.now c.args.name.now ≡ false = sym c.is_output.ensures ∙ c.if-is_output.false in
+    let shown : is_hidden c.args.name.now ≡ false = sym c.is_hidden.ensures ∙ c.if-is_hidden.false in
+    IfOk-weaker c.wait.result _ _ (λ r h listed. h at (subst (Comes at) (sym c.in_ok-path.ensures)
+    (comes-by at c.args.from.now c.args.name.now listed kept (seen-name (at (below c.args.from.now c.args.name.now)) c.args.name.now shown)))) c.wait.ensures.only

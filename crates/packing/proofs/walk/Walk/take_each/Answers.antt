@@ -1,7 +1,8 @@
 use Rattle.std.proofs.Common.{◌≡◌, ◌∙◌, ◌≤◌, List, ℕ, arith, length, subst, sym, take}
 use Rattle.std.proofs.lemmas.List.{take_all}
 use Rattle.std.proofs.lemmas.List.Elements.{Contains-get_or}
-use Rattle.packing.specs.Walks.{ComesBy, CoversName}
+use Rattle.packing.specs.Folders.{IsListed}
+use Rattle.packing.specs.Walks.{CoversName}
 use Rattle.packing.proofs.WalkLemmas.{covers-more, grows-then}
 use Rattle.packing.proofs.walk.Walk.take_each.Goals as goal
 
@@ -13,7 +14,7 @@ loop-name-preserved g c =
           covers-more at c.loop-name.self c.take.new.self c.args.from.now c.args.names.now c.loop-name.name-index _ c.loop-name-test.true c.in_ok-take.ensures.grows
           c.loop-name.invariant.covers (subst (λ (n : List ℕ). CoversName at c.take.new.self c.args.from.now n) (c.as_str.ensures ∙ c.name-item.is) c.in_ok-take.ensures.covers);
       only = λ each k within. c.in_ok-take.ensures.only
-          (subst (λ (n : List ℕ). ComesBy at c.args.from.now n) (sym (c.as_str.ensures ∙ c.name-item.is))
+          (subst (λ (n : List ℕ). IsListed at c.args.from.now n) (sym (c.as_str.ensures ∙ c.name-item.is))
           (each _ (Contains-get_or c.args.names.now c.loop-name.name-index _ c.loop-name-test.true)))
           k (c.loop-name.invariant.only each k within);
     }

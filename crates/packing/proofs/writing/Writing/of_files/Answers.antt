@@ -43,7 +43,7 @@ returns-clause-written g c =
 pub returns-in-Err-clause-stops : goal.returns-in-Err-clause-stops
 returns-in-Err-clause-stops g c = go c.in-Err.stop refl
   where
-    go : (s : WriteStop) → c.in-Err.stop ≡ s → Stops (g.F.Folder.at c.args.folder.now) s
+    go : (s : WriteStop) → c.in-Err.stop ≡ s → Stops (g.F.Folder.at c.args.folder.now) c.args.files.now.keys s
     go stop.NoMemory is = tt
     go stop.TooLong is =
         too_much (g.F.Folder.at c.args.folder.now) c.args.files.now.keys c.next.new.self c.loop-path.invariant.3.0 c.in-Some.path.now c.args.left.items c.loop-path.writing

@@ -1,8 +1,9 @@
-use Rattle.std.proofs.Common.{◌≡◌, ◌∙◌, List, ℕ, IfOk, ap₂, string_bytes, subst, sym, true}
+use Rattle.std.proofs.Common.{◌≡◌, ◌∙◌, List, ℕ, IfOk, ap₂, string_bytes, subst, sym, true, Err, ap}
 use Rattle.workspace.specs.Workspaces.{Pair, is_file}
-use Rattle.packing.specs.Packs.{IsOf}
+use Rattle.packing.specs.Packs.{Holds, IsOf}
 use Rattle.packing.specs.Writing.{Takes}
-use Rattle.packing.proofs.WritingLemmas.{takes-put}
+use Rattle.packing.specs.declared.writing.Skip.TheVariants as skip
+use Rattle.packing.proofs.WritingLemmas.{takes-left, takes-put}
 use Rattle.packing.proofs.writing.Writing.with_file.Goals as goal
 
 pub returns-in-Ok-clause-takes : goal.returns-in-Ok-clause-takes
@@ -16,3 +17,11 @@ returns-in-Ok-clause-takes g c =
     c.with_text.ensures.input c.with_text.ensures.utf8 c.with_text.ensures.limit c.with_text.ensures.left c.with_text.ensures.counted
     (subst (λ (q : Pair). is_file q ≡ true) pairs c.in-Ok.ensures.file)
     (subst (λ (q : Pair). IsOf (at q.0) q) pairs c.in-Ok.ensures.of))
+
+pub returns-in-Err-Left-clause-takes : goal.returns-in-Err-Left-clause-takes
+returns-in-Err-Left-clause-takes g c =
+    let at = g.F.Folder.at c.args.folder.now in
+    takes-left at c.args.path.now c.in-Err-Left.reason c.args.self c.without.result c.without.ensures.input c.without.ensures.left c.without.ensures.counted
+    (subst (λ (p : List ℕ). Holds at p c.in-Err-Left.reason) c.as_str.ensures
+    (c.in-Err-Left.ensures.cause c.in-Err-Left.reason (ap (λ s. Err s) c.in-Err-Left.field-0-is)))
+    (λ is. c.in-Err-Left.ensures.itself (ap (λ s. Err s) (c.in-Err-Left.field-0-is ∙ ap (λ r. skip.Left r) is))) c.requires

@@ -1,0 +1,116 @@
+-- What `pack` says of a folder with one file comes to that file's pair.
+use Rattle.std.proofs.Common.{◌≡◌, ◌≢◌, ◌∙◌, ℕ, Bool, true, false, List, [], ◌∷◌, refl, ap, ap₂, sym, subst, inl, inr, arith, true≢false}
+use Rattle.std.specs.Prelude.{All, Contains, IfOk, IsSome, Option, Some, None, Result, Ok, Err, if◌then◌else◌}
+use Rattle.std.specs.List.{IsDistinct}
+use Rattle.std.specs.Str.{bytes_eq}
+use Rattle.std.proofs.lemmas.List.Elements.{All-head, All-tail, All-weaker, Contains-push, Contains-push_cases}
+use Rattle.std.proofs.lemmas.Slice.Eq.{bytes_eq-Decides}
+use Rattle.request.specs.Input.{Spells}
+use Rattle.workspace.specs.Workspaces.{Pair, paths_of}
+use Rattle.packing.specs.Folders.{IsHiddenFolder, IsKnown, Node, Reaches, below, file, folder, here, inside, is_output, onward, start}
+use Rattle.packing.specs.Packs.{AreAscending, IsOf, Packs, used_text}
+use Rattle.packing.specs.declared.leaving.LeftOut.{LeftOut}
+use Rattle.packing.specs.declared.whole.PackStop.{PackStop}
+use Rattle.packing.specs.declared.whole.Packed.{Packed}
+use Rattle.packing.proofs.WritingLemmas.{ascending-distinct}
+use Rattle.input_tests.specs.Singles.{single}
+
+same : (xs : List ℕ) → bytes_eq xs xs ≡ true
+same xs = (bytes_eq-Decides xs xs).1 refl
+
+none_in : {X : Type 0} (x : X) → Contains [] x → ⊥
+none_in x h = omega (arith, h.1)
+
+one_in : {X : Type 0} (x y : X) → Contains (x ∷ []) y → x ≡ y
+one_in x y h = elim (Contains-push_cases [] x y h) [ inl none ↦ absurd (none_in y none) | inr is ↦ is ]
+
+-- ---- what stands where
+
+is_file : (name bytes : List ℕ) → name ≢ [] → single name bytes name ≡ Some (file bytes)
+is_file [] bytes some = absurd (some refl)
+is_file (c ∷ cs) bytes some = ap (λ b. if b then Some (file bytes) else None) (same (c ∷ cs))
+
+choice : List ℕ → Bool → Option Node
+choice bytes b = if b then Some (file bytes) else None
+
+no_folder : (bytes : List ℕ) (names : List (List ℕ)) (b : Bool) → choice bytes b ≡ Some (folder names) → ⊥
+unfolding choice
+no_folder bytes names true is = cc
+no_folder bytes names false is = cc
+
+only_root : (name bytes from : List ℕ) (names : List (List ℕ)) → single name bytes from ≡ Some (folder names) → (from ≡ []) × (names ≡ name ∷ [])
+unfolding choice
+only_root name bytes [] names is = (refl, cc)
+only_root name bytes (c ∷ cs) names is = absurd (no_folder bytes names (bytes_eq (c ∷ cs) name) is)
+
+no_file : (bytes there : List ℕ) (b : Bool) → choice bytes b ≡ Some (file there) → b ≡ true
+unfolding choice
+no_file bytes there true is = refl
+no_file bytes there false is = absurd (cc)
+
+only_file : (name bytes path there : List ℕ) → single name bytes path ≡ Some (file there) → path ≡ name
+unfolding choice
+only_file name bytes [] there is = absurd (cc)
+only_file name bytes (c ∷ cs) there is = (bytes_eq-Decides (c ∷ cs) name).0 (no_file bytes there (bytes_eq (c ∷ cs) name) is)
+
+-- ---- what a walk reaches
+
+known : (name bytes : List ℕ) → name ≢ [] → IsKnown (single name bytes)
+known name bytes some path start = refl
+known name bytes some path (onward from n names c there listed kept seen) =
+    let r = only_root name bytes from names there in
+    let is : name ≡ n = one_in name n (subst (λ (ns : List (List ℕ)). Contains ns n) r.1 listed) in
+    let at_root : below from n ≡ name = ap (λ f. below f n) r.0 ∙ sym is in
+    subst IsSome (sym (ap (single name bytes) at_root ∙ is_file name bytes some)) refl
+
+reached : (name bytes from path : List ℕ) → Reaches (single name bytes) from path → path ≡ name
+reached name bytes from path (here p there is) = only_file name bytes p there is
+reached name bytes from path (inside f n p names there listed kept seen later) = reached name bytes (below f n) p later
+
+reaches : (name bytes : List ℕ) → name ≢ [] → is_output [] name ≡ false → Reaches (single name bytes) [] name
+reaches name bytes some kept =
+    inside [] name name (name ∷ []) refl (Contains-push [] name) kept
+    (λ hidden. subst (λ (n : Option Node). IsHiddenFolder n name) (is_file name bytes some) hidden)
+    (here name bytes (is_file name bytes some))
+
+-- ---- one pair
+
+one_distinct : (xs : List (List ℕ)) (x : List ℕ) → IsDistinct bytes_eq xs → All (λ y. y ≡ x) xs → Contains xs x → xs ≡ x ∷ []
+unfolding IsDistinct
+one_distinct [] x distinct all there = absurd (none_in x there)
+one_distinct (y ∷ []) x distinct all there = ap (λ z. z ∷ []) (All-head (λ z. z ≡ x) y [] all)
+one_distinct (y ∷ z ∷ zs) x distinct all there =
+    let first : y ≡ x = All-head (λ w. w ≡ x) y (z ∷ zs) all in
+    let second : z ≡ x = All-head (λ w. w ≡ x) z zs (All-tail (λ w. w ≡ x) y (z ∷ zs) all) in
+    absurd (true≢false (sym (same x) ∙ sym (ap₂ bytes_eq first second) ∙ distinct.0.0))
+
+one_path : (xs : List (List ℕ)) (x : List ℕ) → AreAscending xs → All (λ y. y ≡ x) xs → Contains xs x → xs ≡ x ∷ []
+one_path xs x ascending all there = one_distinct xs x (ascending-distinct xs ascending) all there
+
+one_pair : (name bytes : List ℕ) (ps : List Pair) → name ≢ [] → paths_of ps ≡ name ∷ [] → All (λ q. IsOf (single name bytes q.0) q) ps
+    → ps ≡ (name, used_text name bytes) ∷ []
+one_pair name bytes [] some is of = absurd (cc)
+one_pair name bytes (p ∷ []) some is of =
+    let path : p.0 ≡ name = cc in
+    let at : single name bytes p.0 ≡ Some (file bytes) = ap (single name bytes) path ∙ is_file name bytes some in
+    let text : p.1 ≡ used_text p.0 bytes = subst (λ (n : Option Node). IsOf n p) at (All-head (λ (q : Pair). IsOf (single name bytes q.0) q) p [] of) in
+    ap (λ q. q ∷ []) (ap₂ (λ (a b : List ℕ). (a, b)) path (text ∙ ap (λ a. used_text a bytes) path))
+one_pair name bytes (p ∷ q ∷ ps) some is of = absurd (cc)
+
+-- ---- the input
+
+spells_single : (name bytes : List ℕ) (p : Packed) → Packs (single name bytes) p → p.left.items ≡ [] → name ≢ [] → is_output [] name ≡ false
+    → Spells p.input.items ((name, used_text name bytes) ∷ [])
+spells_single name bytes p h left some kept =
+    let all : All (λ y. y ≡ name) (paths_of h.workspace) =
+    All-weaker (Reaches (single name bytes) []) (λ y. y ≡ name) (λ y r. reached name bytes [] y r) (paths_of h.workspace) (h.only (known name bytes some)) in
+    let there : Contains (paths_of h.workspace) name = elim (h.whole name (reaches name bytes some kept)) [
+      | inl has ↦ has
+      | inr out ↦ absurd (none_in out.0 (subst (λ (ls : List LeftOut). Contains ls out.0) left out.1))
+    ] in
+    subst (Spells p.input.items) (one_pair name bytes h.workspace some (one_path (paths_of h.workspace) name h.ascending all there) h.of) h.spelt
+
+pub packs-single : (name bytes : List ℕ) (r : Result Packed PackStop) → IfOk r (Packs (single name bytes)) → IfOk r (λ p. true ≡ true → p.left.items ≡ [])
+    → IfOk r (λ p. name ≢ [] → is_output [] name ≡ false → Spells p.input.items ((name, used_text name bytes) ∷ []))
+packs-single name bytes (Ok p) packs strict = λ some kept. spells_single name bytes p packs (strict refl) some kept
+packs-single name bytes (Err e) packs strict = tt
