@@ -7,7 +7,7 @@ use Rattle.modules.specs.declared.sorting.FileFault.{FileFault}
 use Rattle.reporting.specs.declared.made.Report.{Report}
 use Rattle.reporting.specs.Reported.{report_bytes}
 use Rattle.loader.specs.Loaded.{AreFilesOf}
-use Rattle.answers.specs.Reports.{IsTooMany, Reports}
+use Rattle.answers.specs.Reports.{IsTooMany, Reports, node_limit}
 use Rattle.std.proofs.lemmas.List.{length-map}
 use Rattle.std.proofs.lemmas.List.Elements.{All-map}
 use Rattle.actions.specs.Ascending.{AreAscending}
@@ -24,7 +24,6 @@ use Rattle.workspace_laws.specs.Workspaces.{evaluated}
 use Rattle.workspace_laws.proofs.Files.{faults_same}
 use Rattle.workspace_laws.proofs.Outcomes.{dependencies_same, outcomes_same}
 use Rattle.answers.specs.Answers.{Answer, IsAnswerOf}
-use Rattle.answers.specs.declared.report.TheConstants.{NODE_LIMIT}
 use Rattle.label_order.specs.Ordered.{Entry, AreInOrder}
 use Rattle.answers.specs.Nodes.{AreOutcomesOf, node_of, nodes_of}
 use Rattle.label_order.proofs.Ordered.{map_twice}
@@ -49,7 +48,7 @@ module _ (files : List Pair) (limit : ℕ) (asked : List LabelParts) (g : GraphV
       All-map (λ (n : Node). n.outcome ≡ outcome_of (evaluated files limit) n.label) (node_of r) es
       (λ k d low. let at = order.numbered k d low in found _ at.0 ∙ ap (outcome_of (evaluated files limit)) at.1)
 
-  few_nodes : length g.labels ≤ NODE_LIMIT → length (nodes_of r es) ≤ NODE_LIMIT
+  few_nodes : length g.labels ≤ node_limit → length (nodes_of r es) ≤ node_limit
   few_nodes few =
       let size = order.size in
       let nodes : length (nodes_of r es) ≡ length es = length-map es (node_of r) in
@@ -72,7 +71,7 @@ module _ (files : List Pair) (limit : ℕ) (asked : List LabelParts) (g : GraphV
           (outcomes_same files limit workspace legal are) outcomes_are;
     }
 
-    pub reports : {E : Type 0} → length g.labels ≤ NODE_LIMIT → (fs : List (FileFault FaultKind Kind)) (ns : List Node) (result : Result Report E) → fs ≡ faults files limit → ns ≡ nodes_of r es
+    pub reports : {E : Type 0} → length g.labels ≤ node_limit → (fs : List (FileFault FaultKind Kind)) (ns : List Node) (result : Result Report E) → fs ≡ faults files limit → ns ≡ nodes_of r es
         → IfOk result (λ m. report_bytes m ≡ report_text walked fs ns) → IfOk result (λ m. m.loud ≡ is_loud walked fs ns) → IfOk result (Reports workspace asked limit)
     reports few fs ns (Err e) ef en t l = t
     reports few fs ns (Ok m) ef en t l = record {
@@ -88,11 +87,11 @@ module _ (files : List Pair) (limit : ℕ) (asked : List LabelParts) (g : GraphV
     }
 
 -- too many labels are reached by plain listings, where they are as the code lists
-pub too_many : (workspace files : List Pair) (limit : ℕ) (asked : List LabelParts) (bound : ℕ) → AreFilesOf workspace files
-    → TooManyReached (dependencies (evaluated files limit)) asked same_label bound → IsTooMany workspace asked limit bound
-too_many workspace files limit asked bound are many = record {
+pub too_many : (workspace files : List Pair) (limit : ℕ) (asked : List LabelParts) → AreFilesOf workspace files
+    → TooManyReached (dependencies (evaluated files limit)) asked same_label node_limit → IsTooMany workspace asked limit
+too_many workspace files limit asked are many = record {
   files = files;
   are_files = are;
   many =
-      subst (λ (deps : LabelParts → List LabelParts). TooManyReached deps asked same_label bound) (dependencies_same files limit) many;
+      subst (λ (deps : LabelParts → List LabelParts). TooManyReached deps asked same_label node_limit) (dependencies_same files limit) many;
 }

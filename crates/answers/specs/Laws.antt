@@ -16,7 +16,7 @@ WorkspacesAreCoherent =
     (workspace files : List Pair) (limit : ℕ) → IsWorkspace workspace → AreFilesOf workspace files
     → AllCoherent (graph (plain_workspace files limit))
 
--- Labels of a workspace have one answer under a limit, in whichever order the files stand.
+-- Labels of a workspace have at most one answer under a limit, in whichever order the files stand.
 abbrev pub WorkspacesHaveOneAnswer : Type 0
 WorkspacesHaveOneAnswer =
     (workspace other : List Pair) (labels : List LabelParts) (limit : ℕ) (a b : Answer)

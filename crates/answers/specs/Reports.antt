@@ -9,7 +9,10 @@ use Rattle.reporting.specs.Reported.{report_bytes}
 use Rattle.loader.specs.Loaded.{AreFilesOf}
 use Rattle.workspace_laws.specs.Workspaces.{plain_workspace}
 use Rattle.answers.specs.Answers.{Answer, IsAnswer, answer_text, is_loud_answer}
-use Rattle.answers.specs.declared.report.TheConstants.{NODE_LIMIT}
+
+-- how many labels an answer has at most (this project's own limit)
+abbrev pub node_limit : ℕ
+node_limit = 1048576
 
 -- A report says just what the answer to labels of a workspace is, where each evaluation may use so
 -- many ticks; and it has no more labels than an answer may have.
@@ -17,7 +20,7 @@ pub record Reports (workspace : List Pair) (labels : List LabelParts) (limit : �
     (r : Report) : Type 0 where
   pub answer : Answer
   pub answers : IsAnswer workspace labels limit answer
-  pub few : length answer.nodes ≤ NODE_LIMIT
+  pub few : length answer.nodes ≤ node_limit
   pub told : report_bytes r ≡ answer_text answer
   pub loud : r.loud ≡ is_loud_answer answer
 
@@ -27,12 +30,12 @@ pub record AnswersIn (workspace : List Pair) (labels : List LabelParts) (limit :
     (bytes : List ℕ) : Type 0 where
   pub answer : Answer
   pub answers : IsAnswer workspace labels limit answer
-  pub few : length answer.nodes ≤ NODE_LIMIT
+  pub few : length answer.nodes ≤ node_limit
   pub told : bytes ≡ answer_text answer
 
--- more labels are reached than a bound
+-- more labels are reached than an answer may have
 pub record IsTooMany (workspace : List Pair) (labels : List LabelParts)
-    (limit bound : ℕ) : Type 0 where
+    (limit : ℕ) : Type 0 where
   pub files : List Pair
   pub are_files : AreFilesOf workspace files
-  pub many : TooManyReached (dependencies (plain_workspace files limit)) labels same_label bound
+  pub many : TooManyReached (dependencies (plain_workspace files limit)) labels same_label node_limit

@@ -7,8 +7,8 @@ pub fn workspaces_are_coherent()
     ensures { WorkspacesAreCoherent }
 {}
 
-/// Labels of a workspace have one answer under a limit of steps, in whichever order its files
-/// stand.
+/// Labels of a workspace have at most one answer under a limit of steps, in whichever order its
+/// files stand.
 pub fn workspaces_have_one_answer()
     ensures { WorkspacesHaveOneAnswer }
 {}

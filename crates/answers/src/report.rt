@@ -12,7 +12,7 @@ ghost use Rattle.outcomes.specs.Workspaces.{dependencies};
 ghost use Rattle.answers.specs.Nodes.{AreOutcomesOf, nodes_of};
 ghost use Rattle.label_order.specs.Ordered.{entry_seen};
 ghost use Rattle.workspace_laws.specs.Workspaces.{evaluated};
-ghost use Rattle.answers.specs.Reports.{IsTooMany, Reports};
+ghost use Rattle.answers.specs.Reports.{IsTooMany, Reports, node_limit};
 
 use crate::found::found;
 use crate::letting_go::Leftovers;
@@ -69,7 +69,7 @@ fn told<R: Threads + Sync>(
     threads: usize,
 ) -> Result<Report, AllocError>
     requires nodes { found.now.nodes ≡ length graph.now.labels }
-    requires few { length graph.now.labels ≤ NODE_LIMIT }
+    requires few { length graph.now.labels ≤ node_limit }
     ensures { (files workspace : List Pair) (limit : ℕ) (asked : List LabelParts)
         → failing.now ≡ faults files limit → IsWorkspace workspace → AreFilesOf workspace files
         → IsGraphOf (dependencies (evaluated files limit)) asked graph.now
@@ -102,10 +102,10 @@ fn targets_of<R: Threads + Sync>(
 fn graph_of(alloc: Global, targets: &Targets, labels: &[Label]) -> Result<Graph, NoReport>
     ensures graph { let w = evaluated targets.now.files targets.now.limit in
         IfOk result (IsGraphOf (dependencies w) labels.now) }
-    ensures within { IfOk result (λ g. length g.labels ≤ NODE_LIMIT) }
+    ensures within { IfOk result (λ g. length g.labels ≤ node_limit) }
     ensures many { let w = evaluated targets.now.files targets.now.limit in
         result ≡ Err NoReport.TooMany
-        → TooManyReached (dependencies w) labels.now same_label NODE_LIMIT }
+        → TooManyReached (dependencies w) labels.now same_label node_limit }
     ensures threads { result ≡ Err NoReport.NoThread → ⊥ }
 {
     match Graph::of(alloc, targets, labels, NODE_LIMIT) {
@@ -125,7 +125,7 @@ fn told_alone<R: Threads + Sync>(
     leftovers: Leftovers,
 ) -> Result<Report, AllocError>
     requires nodes { found.nodes ≡ length graph.labels }
-    requires few { length graph.labels ≤ NODE_LIMIT }
+    requires few { length graph.labels ≤ node_limit }
     ensures { let w = evaluated targets.files targets.limit in
         (workspace : List Pair) (asked : List LabelParts) → IsWorkspace workspace
         → AreFilesOf workspace targets.files → IsGraphOf (dependencies w) asked graph
@@ -150,7 +150,7 @@ fn told_together<R: Threads + Sync>(
     leftovers: Leftovers,
 ) -> Result<Report, AllocError>
     requires nodes { found.nodes ≡ length graph.labels }
-    requires few { length graph.labels ≤ NODE_LIMIT }
+    requires few { length graph.labels ≤ node_limit }
     ensures { let w = evaluated targets.files targets.limit in
         (workspace : List Pair) (asked : List LabelParts) → IsWorkspace workspace
         → AreFilesOf workspace targets.files → IsGraphOf (dependencies w) asked graph
@@ -173,7 +173,7 @@ fn told_of<R: Threads + Sync>(
     leftovers: Leftovers,
 ) -> Result<Report, AllocError>
     requires nodes { found.nodes ≡ length graph.labels }
-    requires few { length graph.labels ≤ NODE_LIMIT }
+    requires few { length graph.labels ≤ node_limit }
     ensures { let w = evaluated targets.files targets.limit in
         (workspace : List Pair) (asked : List LabelParts) → IsWorkspace workspace
         → AreFilesOf workspace targets.files → IsGraphOf (dependencies w) asked graph
@@ -200,7 +200,7 @@ where
     S: Shelf + Send,
     F: Shelving<S>,
     G: Gate,
-    requires few { length graph.labels ≤ NODE_LIMIT }
+    requires few { length graph.labels ≤ node_limit }
     ensures report { let w = evaluated targets.files targets.limit in
         (workspace : List Pair) (asked : List LabelParts) → IsWorkspace workspace
         → AreFilesOf workspace targets.files → IsGraphOf (dependencies w) asked graph
@@ -243,7 +243,7 @@ pub fn report_on<R: Threads + Wait + Sync, G: Gate>(
 ) -> Result<Report, NoReport>
     ensures report { IfOk result (Reports workspace.now labels.now limit) }
     ensures many { result ≡ Err NoReport.TooMany
-        → IsTooMany workspace.now labels.now limit NODE_LIMIT }
+        → IsTooMany workspace.now labels.now limit }
     ensures threads { result ≡ Err NoReport.NoThread → 1 < workers }
 {
     let team = Team {
@@ -282,7 +282,7 @@ where
     G: Gate,
     ensures report { IfOk result (Reports workspace.now labels.now limit) }
     ensures many { result ≡ Err NoReport.TooMany
-        → IsTooMany workspace.now labels.now limit NODE_LIMIT }
+        → IsTooMany workspace.now labels.now limit }
     ensures threads { result ≡ Err NoReport.NoThread → 1 < team.now.workers }
 {
     // Called for its contract alone: the paths are legal, and none of them stands twice.

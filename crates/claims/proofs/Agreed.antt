@@ -48,10 +48,6 @@ module _ (one other : Rose Own → List Element) where
   pub telling_same : (os : List Owned) → Each Agree os → (a : Owned) → Agree a → telling one os a ≡ telling other os a
   telling_same os h a g = ap (λ es. telling_of (map (λ p. p.label) es) a.label) (equals_same a g os h)
 
-  pub tellings_same : (os : List Owned) → Each Agree os → (rest : List Owned) → Each Agree rest → map (telling one os) rest ≡ map (telling other os) rest
-  tellings_same os h [] g = refl
-  tellings_same os h (a ∷ rest) g = λ i. telling_same os h a g.0 i ∷ tellings_same os h rest g.1 i
-
   -- ---- conflicts
 
   clash_same : (a b : Owned) → Agree a → Agree b → clash one a b ≡ clash other a b

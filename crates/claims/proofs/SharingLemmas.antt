@@ -1,6 +1,6 @@
 -- The sets that are found of shared actions meet their law, and no others do.
 use Rattle.std.proofs.Common.{◌≡◌, ◌∙◌, inl, inr, ◌<◌, ◌≤◌, ◌+◌, ◌&&◌, ◌||◌, ℕ, zero, suc, Bool, true, false, not, List, [], ◌∷◌, ◌++◌, length, map, get_or, Contains, Option, Some, None, refl, sym, ap, subst, arith}
-use Rattle.std.specs.Prelude.{slice_get, slice_index_or, nat_eq, nat_lt, is_some, unwrap_or, if◌then◌else◌}
+use Rattle.std.specs.Prelude.{slice_get, slice_index_or, nat_eq, nat_lt, is_some, unwrap_or, if◌then◌else◌, option_to_list}
 use Rattle.std.specs.List.{AllZip, filter, flat_map, list_any}
 use Rattle.std.specs.Option.{option_map_or}
 use Rattle.std.specs.Str.{bytes_eq}
@@ -26,7 +26,7 @@ use Rattle.claims.specs.Leaders.{leader, leaders}
 use Rattle.claims.specs.Members.{label_of, place_of}
 use Rattle.claims.specs.Owned.{Owned}
 use Rattle.claims.specs.Same.{same_action}
-use Rattle.claims.specs.Sets.{AreSetsOf, IsSetOf, kept}
+use Rattle.claims.specs.Sets.{AreSetsOf, IsSetOf}
 use Rattle.claims.specs.Sets as found
 use Rattle.claims.specs.Sharing.{AreByPlace, AreShared, IsBefore, IsSharedSet, label_at}
 use Rattle.claims.specs.Telling.{equals, is_shared}
@@ -270,7 +270,7 @@ module _ (listing : Rose Own → List Element) (os : List Owned) (d : Owned) whe
   OptIsOf l (Some s) = IsOf l s
 
   all_later : (l : ℕ) (rest : List (Option Shared)) → l + length rest ≡ length os → ((k : ℕ) → k < length rest → OptIsOf (l + k) (get_or rest k None))
-      → Each (IsLater l) (flat_map kept rest) × AreByPlace (flat_map kept rest)
+      → Each (IsLater l) (flat_map option_to_list rest) × AreByPlace (flat_map option_to_list rest)
   all_later l [] size are = (tt, tt)
   all_later l (r ∷ rest) size are =
       let more = all_later (l + 1) rest (omega (arith, size)) (λ k low. subst (λ n. OptIsOf n (get_or rest k None)) (let e : l + suc k ≡ l + 1 + k = omega arith in e) (are (suc k) (omega (arith, low)))) in
@@ -287,13 +287,13 @@ module _ (listing : Rose Own → List Element) (os : List Owned) (d : Owned) whe
       all_behind s is [] h = tt
       all_behind s is (t ∷ ts) h = let m = h.0.less in (before l h.0.leader s t (omega (arith, m)) low is h.0.is, all_behind s is ts h.1)
 
-      at : (o : Option Shared) → OptIsOf l o → Each (IsLater (l + 1)) (flat_map kept rest) × AreByPlace (flat_map kept rest)
-          → Each (IsLater l) (kept o ++ flat_map kept rest) × AreByPlace (kept o ++ flat_map kept rest)
-      at None is more = (weaker (flat_map kept rest) more.0, more.1)
+      at : (o : Option Shared) → OptIsOf l o → Each (IsLater (l + 1)) (flat_map option_to_list rest) × AreByPlace (flat_map option_to_list rest)
+          → Each (IsLater l) (option_to_list o ++ flat_map option_to_list rest) × AreByPlace (option_to_list o ++ flat_map option_to_list rest)
+      at None is more = (weaker (flat_map option_to_list rest) more.0, more.1)
       at (Some s) is more =
-          ((record { leader = l; less = omega arith; low = low; is = is }, weaker (flat_map kept rest) more.0), (all_behind s is (flat_map kept rest) more.0, more.1))
+          ((record { leader = l; less = omega arith; low = low; is = is }, weaker (flat_map option_to_list rest) more.0), (all_behind s is (flat_map option_to_list rest) more.0, more.1))
 
-  kept_among : (l : ℕ) (rest : List (Option Shared)) (s : Shared) → get_or rest l None ≡ Some s → IsAmong s (flat_map kept rest)
+  kept_among : (l : ℕ) (rest : List (Option Shared)) (s : Shared) → get_or rest l None ≡ Some s → IsAmong s (flat_map option_to_list rest)
   kept_among l [] s e = absurd (true≢false (sym (ap is_some e)))
   kept_among zero (None ∷ rest) s e = absurd (true≢false (sym (ap is_some e)))
   kept_among zero (Some t ∷ rest) s e = inl (sym (ap (λ o. unwrap_or o s) e))
@@ -320,7 +320,7 @@ module _ (listing : Rose Own → List Element) (os : List Owned) (d : Owned) whe
     size : length sets ≡ length os
     size = as_long (put_all ls (map no_members os) 0 os) sets are ∙ long_all ls (map no_members os) 0 os ∙ long_empty [] 0 os
 
-    each_later : Each (IsLater 0) (flat_map kept sets) × AreByPlace (flat_map kept sets)
+    each_later : Each (IsLater 0) (flat_map option_to_list sets) × AreByPlace (flat_map option_to_list sets)
     each_later =
         all_later 0 sets (let e = size in omega (arith, e)) (λ k low.
         let e = size in
@@ -332,14 +332,14 @@ module _ (listing : Rose Own → List Element) (os : List Owned) (d : Owned) whe
     laws_of (s ∷ ss) h = (h.0.is.law, laws_of ss h.1)
 
     stands_in : (i : ℕ) → i < length os → is_shared (map (λ p. p.label) (equals listing os (one_at i))) ≡ true
-        → (r : Option Shared) → get_or sets (leads i) None ≡ r → IsSetOf (bucket (leads i)) r → (s : Shared) × IsAmong s (flat_map kept sets) × Contains s.places i
+        → (r : Option Shared) → get_or sets (leads i) None ≡ r → IsSetOf (bucket (leads i)) r → (s : Shared) × IsAmong s (flat_map option_to_list sets) × Contains s.places i
     stands_in i low h None e is =
         absurd (true≢false (sym h ∙ ap is_shared (sym (ap (map label_of) (sym (bucket_is ls (leads i) os (leader_low listing os d i low))) ∙ bucket_labels listing os d i low)) ∙ is))
     stands_in i low h (Some s) e is = (s, kept_among (leads i) sets s e, (set_of (leads i) s is).has i low refl)
 
-    pub sets_law : AreShared listing os (flat_map kept sets)
+    pub sets_law : AreShared listing os (flat_map option_to_list sets)
     sets_law = record {
-      only = laws_of (flat_map kept sets) each_later.0;
+      only = laws_of (flat_map option_to_list sets) each_later.0;
       all = λ i a g h.
           let at = get_here i a g in
           stands_in i at.0 (ap (λ o. is_shared (map (λ p. p.label) (equals listing os o))) at.1 ∙ h) (get_or sets (leads i) None) refl
@@ -356,7 +356,7 @@ shared_law listing [] ss h = subst (AreShared listing []) (sym (h.all ∙ nothin
   ordered = tt;
 })
   where
-    nothing : (rs : List (Option Shared)) → AllZip IsSetOf [] rs → flat_map kept rs ≡ []
+    nothing : (rs : List (Option Shared)) → AllZip IsSetOf [] rs → flat_map option_to_list rs ≡ []
     nothing [] g = refl
     nothing (r ∷ rs) g = absurd g
 shared_law listing (o ∷ os) ss h = subst (AreShared listing (o ∷ os)) (sym h.all) (sets_law listing (o ∷ os) o h.sets h.are)

@@ -5,13 +5,14 @@ use Rattle.std.proofs.lemmas.List.{drop_more, map_more, take_more}
 use Rattle.std.proofs.lemmas.Grind.{flat_map-append}
 use Rattle.std.proofs.lemmas.List.{append-nil}
 use Rattle.std.proofs.lemmas.Slice.Zip.{all_zipped_more}
+use Rattle.std.specs.Prelude.{option_to_list}
 use Rattle.depsets.specs.Listed.{walked}
 use Rattle.claims.specs.Buckets.{member_at, put_all, put_at}
 use Rattle.claims.specs.Commons.{common_of, gathered}
 use Rattle.claims.specs.Leaders.{Firsts, leaders_from, next_firsts, next_leader}
 use Rattle.claims.specs.Owned.{Owned}
 use Rattle.claims.specs.Same.{compared}
-use Rattle.claims.specs.Sets.{IsSetOf, AddsSetOf, AreSetsOf, kept}
+use Rattle.claims.specs.Sets.{IsSetOf, AddsSetOf, AreSetsOf}
 use Rattle.claims.specs.Tellings.{telling_by, tellings_from}
 use Rattle.claims.specs.declared.claiming.Claim.{Claim}
 use Rattle.claims.specs.declared.commons.Common.{Common}
@@ -53,8 +54,8 @@ sets_more bs i b old new low p had adds = record {
   sets = had.sets ++ adds.set ∷ [];
   are = zipped_more IsSetOf bs had.sets i b adds.set low p had.are adds.is;
   all =
-      adds.added ∙ ap (λ l. l ++ kept adds.set) had.all ∙ ap (λ l. flat_map kept had.sets ++ l) (sym (append-nil (kept adds.set)))
-      ∙ sym (flat_map-append kept had.sets (adds.set ∷ []));
+      adds.added ∙ ap (λ l. l ++ option_to_list adds.set) had.all ∙ ap (λ l. flat_map option_to_list had.sets ++ l) (sym (append-nil (option_to_list adds.set)))
+      ∙ sym (flat_map-append option_to_list had.sets (adds.set ∷ []));
 }
 
 -- ---- what is found so far and what is to be found among the rest, one turn later

@@ -4,6 +4,7 @@ use Rattle.std.specs.Prelude.{Option, None, Some}
 use Rattle.std.specs.List.{AllZip, flat_map}
 use Rattle.std.specs.List.Sorted.{IsPermutation, IsSorted}
 use Rattle.std.specs.Str.{bytes_eq}
+use Rattle.std.specs.Prelude.{option_to_list}
 use Rattle.actions.specs.Ascending.{AreAscending}
 use Rattle.claims.specs.Members.{label_of, place_of, member_cmp}
 use Rattle.claims.specs.Telling.{is_shared}
@@ -44,19 +45,14 @@ abbrev pub IsSetOf : List Member → Option Shared → Type 0
 IsSetOf ms None = is_shared (map label_of ms) ≡ false
 IsSetOf ms (Some s) = (is_shared (map label_of ms) ≡ true) × IsSet ms s
 
--- what a set adds to a list of sets: itself, if there is one
-abbrev pub kept : Option Shared → List Shared
-kept None = []
-kept (Some s) = s ∷ []
-
 -- the set of a bucket was put last, if it is one
 pub record AddsSetOf (ms : List Member) (old new : List Shared) : Type 0 where
   pub set : Option Shared
   pub is : IsSetOf ms set
-  pub added : new ≡ old ++ kept set
+  pub added : new ≡ old ++ option_to_list set
 
 -- these are the sets of buckets, of those that are one
 pub record AreSetsOf (buckets : List (List Member)) (found : List Shared) : Type 0 where
   pub sets : List (Option Shared)
   pub are : AllZip IsSetOf buckets sets
-  pub all : found ≡ flat_map kept sets
+  pub all : found ≡ flat_map option_to_list sets

@@ -17,7 +17,7 @@ mod told;
 
 pub use clashes::Conflict;
 pub use laws::{
-    actions_have_one_list_of_conflicts, actions_have_one_list_of_sets,
+    actions_have_one_list_of_conflicts, actions_have_one_list_of_sets, conflicts_are_the_clashes,
     owners_of_a_path_are_its_labels,
 };
 pub use members::Places;

@@ -13,9 +13,9 @@ use Rattle.claims.specs.Owned.{Owned}
 use Rattle.claims.specs.Telling.{telling}
 use Rattle.claims.specs.declared.telling.Telling.{Telling}
 use Rattle.workspace.specs.Labels.{label_text}
-use Rattle.reporting.specs.Answers.{Node as Told, actions_of, node_actions, node_tellings, node_text, owned_actions, owned_by}
-use Rattle.reporting.specs.Lines.{action_line, action_lines, outcome_text, telling_at}
-use Rattle.reporting.specs.Seen.{block_seen, block_text, blocks_of, node_seen, nodes_seen}
+use Rattle.reporting.specs.Answers.{Node as Told, actions_of, node_actions, node_text, owned_actions, owned_by, told_line}
+use Rattle.reporting.specs.Lines.{action_line, outcome_text}
+use Rattle.reporting.specs.Seen.{action_lines, block_seen, block_text, blocks_of, node_seen, nodes_seen, telling_at}
 use Rattle.reporting.specs.declared.blocks.Block.{Block}
 use Rattle.reporting.specs.declared.node_lines.Node.{Node}
 
@@ -75,20 +75,32 @@ long_map f [] = refl
 long_map f (x ∷ xs) = ap suc (long_map f xs)
 
 module _ (listing : Rose Own → List Element) (all : List Owned) where
-  tellings_long : (n : Told) → length (actions_of n.outcome) ≡ length (node_tellings listing all n)
+  -- how the actions of a node are told
+  abbrev tellings_of : Told → List Telling
+  tellings_of n = map (telling listing all) (node_actions n)
+
+  tellings_long : (n : Told) → length (actions_of n.outcome) ≡ length (tellings_of n)
   tellings_long n =
       sym (long_map (telling listing all) (node_actions n) ∙ long_map (owned_by (label_text n.label)) (actions_of n.outcome))
+
+  lines_told : (text : List ℕ) (acts : List Action)
+      → action_lines listing (map (telling listing all) (map (owned_by text) acts)) acts ≡ flat_map (told_line listing all) (map (owned_by text) acts)
+  lines_told text [] = refl
+  lines_told text (a ∷ rest) = ap (λ l. told_line listing all (owned_by text a) ++ l) (lines_told text rest)
+
+  node_told : (n : Told) → block_text listing (tellings_of n, n) ≡ node_text listing all n
+  node_told n = ap (λ l. outcome_text listing l n.label n.outcome) (lines_told (label_text n.label) (actions_of n.outcome))
 
   pub blocks_told : (ns : List Told) → flat_map (block_text listing) (blocks_of (map (telling listing all) (owned_actions ns)) ns) ≡ flat_map (node_text listing all) ns
   blocks_told [] = refl
   blocks_told (n ∷ ns) =
       let rest = map (telling listing all) (owned_actions ns) in
-      let own = node_tellings listing all n in
+      let own = tellings_of n in
       let split : map (telling listing all) (owned_actions (n ∷ ns)) ≡ own ++ rest = map-append (telling listing all) (node_actions n) (owned_actions ns) in
       ap (λ ts. flat_map (block_text listing) (blocks_of ts (n ∷ ns))) split
-      ∙ ap (λ k. outcome_text listing (take k (own ++ rest)) n.label n.outcome ++ flat_map (block_text listing) (blocks_of (drop k (own ++ rest)) ns)) (tellings_long n)
-      ∙ (λ i. outcome_text listing (take-append_seam own rest i) n.label n.outcome ++ flat_map (block_text listing) (blocks_of (drop_front own rest i) ns))
-      ∙ ap (λ l. outcome_text listing own n.label n.outcome ++ l) (blocks_told ns)
+      ∙ ap (λ k. block_text listing (take k (own ++ rest), n) ++ flat_map (block_text listing) (blocks_of (drop k (own ++ rest)) ns)) (tellings_long n)
+      ∙ (λ i. block_text listing (take-append_seam own rest i, n) ++ flat_map (block_text listing) (blocks_of (drop_front own rest i) ns))
+      ∙ (λ i. node_told n i ++ blocks_told ns i)
 
 pub any_seen : {A B : Type 0} (f : A → B) (p : B → Bool) (xs : List A) → list_any (λ x. p (f x)) xs ≡ list_any p (map f xs)
 any_seen f p [] = refl

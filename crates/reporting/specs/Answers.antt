@@ -12,13 +12,12 @@ use Rattle.claims.specs.Conflicts.{conflicts_of}
 use Rattle.actions.specs.declared.action.Action.{Action}
 use Rattle.claims.specs.Owned.{Owned}
 use Rattle.claims.specs.Telling.{telling}
-use Rattle.claims.specs.declared.telling.Telling.{Telling}
 use Rattle.workspace.specs.Labels.{LabelParts, label_text}
 use Rattle.modules.specs.declared.sorting.FileFault.{FileFault}
 use Rattle.targets.specs.Steps.{is_failed}
 use Rattle.targets.specs.declared.outcome.Outcome.{Outcome}
 use Rattle.targets.specs.declared.outcome.Outcome.TheVariants.{Source, Done, Failed}
-use Rattle.reporting.specs.Lines.{load_fault_line, outcome_text, conflict_line}
+use Rattle.reporting.specs.Lines.{load_fault_line, action_line, outcome_text, conflict_line}
 
 -- a label, and what becomes of it
 pub record Node : Type 0 where
@@ -54,13 +53,14 @@ has_some (x ∷ xs) = true
 
 -- with the listing of depsets by which the report is told
 module _ (listing : Rose Own → List Element) where
-  -- how the actions of a node are told, among those of all nodes
-  abbrev pub node_tellings : List Owned → Node → List Telling
-  node_tellings all n = map (telling listing all) (node_actions n)
+  -- the line of an action, if it has one here, by how it is told among the actions of all labels
+  abbrev pub told_line : List Owned → Owned → List ℕ
+  told_line all o = action_line listing (telling listing all o) o.action
 
   -- the lines of a label, where these are the actions of all labels
   abbrev pub node_text : List Owned → Node → List ℕ
-  node_text all n = outcome_text listing (node_tellings all n) n.label n.outcome
+  node_text all n =
+      outcome_text listing (flat_map (told_line all) (node_actions n)) n.label n.outcome
 
   -- The bytes: of the files that failed, of each label, and of the conflicts of the actions of
   -- these labels.

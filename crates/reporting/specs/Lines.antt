@@ -2,7 +2,6 @@
 -- Each line ends with a newline. The texts of values are those of `printing`, with the listings of
 -- their depsets.
 use Rattle.std.specs.Prelude.{ℕ, List, [], ◌∷◌, ◌++◌, map, Option, Some, None, codes, decimal}
-use Rattle.std.specs.Prelude.{slice_index_or}
 use Rattle.std.specs.List.{flat_map}
 use Rattle.lexer.specs.declared.fault.FaultKind.{FaultKind}
 use Rattle.lexer.specs.FaultText as syntax
@@ -116,10 +115,6 @@ given_words a = codes " words " ++ (strings_text a.words ++ content_text a.conte
 abbrev pub spaced : List ℕ → List ℕ
 spaced text = codes " " ++ text
 
--- how the action at a place is told: alone where nothing is said of it
-abbrev pub telling_at : List Telling → ℕ → Telling
-telling_at ts n = slice_index_or ts n Alone
-
 -- what stands behind an action that is told for all its owners
 abbrev pub owners_text : List (List ℕ) → List ℕ
 owners_text labels = codes " owners" ++ flat_map spaced labels
@@ -165,23 +160,17 @@ module _ (listing : Rose Own → List Element) where
   action_line (Owners labels) a = line (action_text a ++ owners_text labels)
   action_line Elsewhere a = []
 
-  -- the lines of actions, by how each is told
-  abbrev pub action_lines : List Telling → List Action → List ℕ
-  action_lines ts [] = []
-  action_lines [] (a ∷ rest) = action_line Alone a ++ action_lines [] rest
-  action_lines (t ∷ ts) (a ∷ rest) = action_line t a ++ action_lines ts rest
-
   -- ---- what becomes of a label
 
-  -- its lines, where its actions are told so: a source file's path, a target's providers and
+  -- its lines, where those of its actions are these: a source file's path, a target's providers and
   -- actions, or why it failed
-  abbrev pub outcome_text : List Telling → LabelParts → Outcome → List ℕ
-  outcome_text ts l (Source f) =
+  abbrev pub outcome_text : List ℕ → LabelParts → Outcome → List ℕ
+  outcome_text lines l (Source f) =
       line (codes "source " ++ (label_text l ++ (codes " " ++ path_of f)))
-  outcome_text ts l (Done providers actions) =
+  outcome_text lines l (Done providers actions) =
       line (codes "target " ++ (label_text l ++ codes " ok"))
-      ++ (flat_map provider_line providers ++ action_lines ts actions)
-  outcome_text ts l (Failed f) =
+      ++ (flat_map provider_line providers ++ lines)
+  outcome_text lines l (Failed f) =
       line (codes "target " ++ (label_text l ++ (codes " failed " ++ target_fault_text f)))
 
 -- ---- conflicts

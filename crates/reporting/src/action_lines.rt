@@ -2,9 +2,9 @@
 ghost use Rattle.std.specs.Prelude.{◌≡◌, ◌++◌, string_bytes, OnOk};
 ghost use Rattle.depsets.specs.Listed.{walked};
 ghost use Rattle.claims.specs.Same.{input_paths};
-ghost use Rattle.reporting.specs.Lines.{action_line, action_lines, action_text, content_text};
+ghost use Rattle.reporting.specs.Lines.{action_line, action_text, content_text};
 ghost use Rattle.reporting.specs.Lines.{given_words, line, outputs_text, owners_text, strings_text};
-ghost use Rattle.reporting.specs.Lines.{telling_at};
+ghost use Rattle.reporting.specs.Seen.{action_lines, telling_at};
 
 use crate::conflict_lines::put_spaced;
 use crate::strings_in::{put_element_list, put_file_list, put_text_list};

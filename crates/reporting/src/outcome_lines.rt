@@ -5,6 +5,8 @@ ghost use Rattle.depsets.specs.Listed.{walked};
 ghost use Rattle.workspace.specs.Labels.{label_text};
 ghost use Rattle.reporting.specs.Lines.{evaluation_text, line, outcome_text, place_text};
 ghost use Rattle.reporting.specs.Lines.{refused_text, spaced_label, target_fault_text};
+ghost use Rattle.reporting.specs.Answers.{actions_of};
+ghost use Rattle.reporting.specs.Seen.{action_lines};
 
 use crate::action_lines::put_actions;
 use crate::fault_texts::put_kind_behind;
@@ -161,7 +163,8 @@ pub fn put_outcome(
     tellings: &[Telling],
 ) -> Result<(), AllocError>
     ensures { OnOk result (string_bytes out.new
-        ≡ string_bytes out.old ++ outcome_text walked tellings.now label.now outcome.now) }
+        ≡ string_bytes out.old ++ outcome_text walked
+        (action_lines walked tellings.now (actions_of outcome.now)) label.now outcome.now) }
 {
     match outcome {
         Outcome::Source(file) => put_source(out, label, file.file().path.text()),

@@ -3,8 +3,8 @@ use Rattle.std.specs.Prelude.{◌≡◌, ℕ, List}
 use Rattle.answers.specs.Answers.{Answer}
 use Rattle.serve.specs.Requests.{IsAnswered}
 
--- Requests that ask for the same labels of the same input, under the same limit of steps, have one
--- answer, by however many workers.
+-- Requests that ask for the same labels of the same input, under the same limit of steps, have at
+-- most one answer, by however many workers.
 abbrev pub RequestsHaveOneAnswer : Type 0
 RequestsHaveOneAnswer =
     (words others : List (List ℕ)) (input : List ℕ) (a b : Answer) (this : IsAnswered words input a)

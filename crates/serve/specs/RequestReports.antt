@@ -5,7 +5,6 @@ use Rattle.request.specs.Input.{Spells}
 use Rattle.workspace.specs.Workspaces.{Pair}
 use Rattle.reporting.specs.declared.made.Report.{Report}
 use Rattle.answers.specs.Reports.{IsTooMany, Reports}
-use Rattle.answers.specs.declared.report.TheConstants.{NODE_LIMIT}
 use Rattle.serve.specs.declared.stops.ServeStop.{ServeStop}
 use Rattle.serve.specs.declared.stops.ServeStop.TheVariants as stop
 
@@ -14,11 +13,10 @@ abbrev pub ReportsInput : Asked → List ℕ → Report → Type 0
 ReportsInput a input r =
     (workspace : List Pair) × Spells input workspace × Reports workspace a.labels a.steps r
 
--- the input spells a workspace in which more labels are reached than an answer has
+-- the input spells a workspace in which more labels are reached than an answer may have
 abbrev pub TooManyInput : Asked → List ℕ → Type 0
 TooManyInput a input =
-    (workspace : List Pair) × Spells input workspace
-    × IsTooMany workspace a.labels a.steps NODE_LIMIT
+    (workspace : List Pair) × Spells input workspace × IsTooMany workspace a.labels a.steps
 
 -- the refusals that come from an input and its analysis
 abbrev pub IsOfReport : ServeStop → Type 0

@@ -6,8 +6,7 @@ use Rattle.request.specs.Asked.{Asked, asked}
 use Rattle.devices.specs.Devices.{WritesBeginning}
 use Rattle.request.specs.Input.{Spells, input_limit}
 use Rattle.answers.specs.Answers.{Answer, IsAnswer, answer_text, is_loud_answer}
-use Rattle.answers.specs.Reports.{IsTooMany}
-use Rattle.answers.specs.declared.report.TheConstants.{NODE_LIMIT}
+use Rattle.answers.specs.Reports.{IsTooMany, node_limit}
 use Rattle.workspace.specs.Workspaces.{Pair}
 
 -- the words ask for this
@@ -26,7 +25,7 @@ pub record IsAnswered (words : List (List ℕ)) (input : List ℕ) (answer : Ans
   pub words_part : AsksFor words asked
   pub input_part : Spells input workspace
   pub answers : IsAnswer workspace asked.labels asked.steps answer
-  pub few : length answer.nodes ≤ NODE_LIMIT
+  pub few : length answer.nodes ≤ node_limit
 
 -- words and input make a request, the bytes of its answer were written and nothing else, and `loud`
 -- says whether the answer has a load fault, a failed target or a conflict
@@ -45,13 +44,13 @@ pub record BeginsAnswer (words : List (List ℕ)) (input : List ℕ)
   pub answered : IsAnswered words input answer
   pub written : WritesBeginning old new (answer_text answer)
 
--- words and input make a request, and more labels are reached than an answer has
+-- words and input make a request, and more labels are reached than an answer may have
 pub record AsksTooMany (words : List (List ℕ)) (input : List ℕ) : Type 0 where
   pub asked : Asked
   pub workspace : List Pair
   pub words_part : AsksFor words asked
   pub input_part : Spells input workspace
-  pub many : IsTooMany workspace asked.labels asked.steps NODE_LIMIT
+  pub many : IsTooMany workspace asked.labels asked.steps
 
 -- an input is no legal one: it spells no workspace
 abbrev pub SpellsNothing : List ℕ → Type 0
@@ -65,8 +64,9 @@ pub record OfWholeInput (before after : Option (List ℕ)) (P : List ℕ → Typ
   pub end : IsAtEnd after
   pub holds : P input
 
--- what a source gave spells nothing: it was read to its end, or to the first byte past the limit of
--- an input, in which case nothing that begins so spells anything either
+-- What a source gave spells nothing: it was read to its end, or to the first byte past the limit of
+-- an input, in which case nothing that begins so spells anything either. Where the source tells its
+-- bytes, these are those that it gave; where it doesn't, they are some bytes.
 pub record RefusesInput (before after : Option (List ℕ)) : Type 0 where
   pub input : List ℕ
   pub taken : Consumes before after input

@@ -4,7 +4,7 @@ ghost use Rattle.std.specs.Prelude.{◌≡◌, ◌↔◌, ◌⊎◌, ◌<◌, If
 ghost use Rattle.answers.specs.Reports.{AnswersIn, IsTooMany};
 
 use crate::stops::AnalyseStop;
-use answers::{NODE_LIMIT, NoReport, report_on};
+use answers::{NoReport, report_on};
 use parallel::Workers;
 use pool::Gate;
 use std::alloc::Global;
@@ -23,7 +23,7 @@ use workspace::{Label, Workspace};
 /// # Errors
 ///
 /// `Workers` exactly where the number of workers isn't one from 1 to 64. `TooMany` only where more
-/// than [`NODE_LIMIT`] labels are reached. `NoMemory` where memory was refused; `NoThread` where a
+/// than [`NODE_LIMIT`](crate::NODE_LIMIT) labels are reached. `NoMemory` where memory was refused; `NoThread` where a
 /// thread was refused, or the memory to start it, never with one worker.
 pub fn analyse<R: Threads + Wait + Sync, G: Gate>(
     rt: &R,
@@ -38,7 +38,7 @@ pub fn analyse<R: Threads + Wait + Sync, G: Gate>(
         (λ bytes. AnswersIn workspace.now labels.now limit bytes.items) }
     ensures workers { result ≡ Err AnalyseStop.Workers ↔ ((workers < 1) ⊎ (64 < workers)) }
     ensures many { result ≡ Err AnalyseStop.TooMany
-        → IsTooMany workspace.now labels.now limit NODE_LIMIT }
+        → IsTooMany workspace.now labels.now limit }
     ensures threads { result ≡ Err AnalyseStop.NoThread → 1 < workers }
 {
     let Some(workers) = Workers::new(workers) else {

@@ -3,8 +3,9 @@
 ghost use Rattle.std.specs.Prelude.{◌≡◌, ◌≢◌, ◌⊎◌, ◌<◌, IfErr, IfOk, IfSome, OnOk, Err, None};
 ghost use Rattle.std.specs.Prelude.{map};
 ghost use Rattle.std.specs.Prelude.{true};
-ghost use Rattle.devices.specs.Devices.{Failed};
+ghost use Rattle.devices.specs.Devices.{Failed, GaveAtMost};
 ghost use Rattle.request.specs.Asked.{Asked, asked, asked_by};
+ghost use Rattle.request.specs.Input.{input_limit};
 ghost use Rattle.serve.specs.Requests.{AsksFor, AsksForOthers, AsksTooMany, BeginsAnswer};
 ghost use Rattle.serve.specs.Requests.{OfWholeInput};
 ghost use Rattle.serve.specs.Requests.{RefusesInput, SpellsNothing, WritesAnswer};
@@ -107,6 +108,8 @@ where
     ensures unread { result ≡ Err ServeStop.Words → reader.new ≡ reader.old }
     ensures read_only { result ≡ Err ServeStop.Read
         → Failed (S.failures reader.old) (S.failures reader.new) }
+    ensures read_within { result ≡ Err ServeStop.Read
+        → GaveAtMost (S.remaining reader.old) (S.remaining reader.new) input_limit }
     ensures input_only { result ≡ Err ServeStop.Input
         → IfSome (S.remaining reader.old) SpellsNothing }
     ensures input_refused { result ≡ Err ServeStop.Input

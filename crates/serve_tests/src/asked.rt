@@ -1,7 +1,7 @@
 //! The files of the tests, and requests over memory.
 use fakes::tapes::{Failing, Page, Tape};
 use pool::NoGate;
-use serve::{Leftovers, closing, serve};
+use serve::{Leftovers, ServeStop, closing, serve};
 use std::alloc::{AllocError, Global};
 use std::sync::Wait;
 use std::thread::Threads;
@@ -31,6 +31,28 @@ pub(crate) fn split(alloc: Global, text: &str) -> Result<Vec<&str>, AllocError> 
         words.push(word)?;
     }
     Ok(words)
+}
+
+/// How a request ends whose words a space parts, for the module and a `BUILD` file, which JSON spells.
+pub(crate) fn ends<R: Threads + Wait + Sync + AllocGlobal>(
+    rt: &R,
+    words: &str,
+    build: &str,
+    page: &mut Page,
+) -> Result<Result<bool, ServeStop>, AllocError> {
+    let alloc = rt.alloc();
+    let words = split(alloc, words)?;
+    let input = input(alloc, build)?;
+    let mut tape = Tape::new(input.as_bytes(), 4096, None);
+    Ok(serve(
+        rt,
+        alloc,
+        &mut tape,
+        page,
+        words.as_slice(),
+        &NoGate,
+        Leftovers::Leave,
+    ))
 }
 
 /// What is to come of a request: the status, the line on standard error, and the report.

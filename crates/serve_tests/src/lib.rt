@@ -6,6 +6,8 @@ mod asked;
 #[cfg(test)]
 mod failing;
 #[cfg(test)]
+mod labels;
+#[cfg(test)]
 mod many;
 #[cfg(test)]
 mod reports;

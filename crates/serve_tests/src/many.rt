@@ -1,8 +1,7 @@
 //! The report on forty targets, some of which fail or are on a cycle: by numbers of workers, and on a page that is too small.
-use crate::asked::{input, split};
-use fakes::tapes::{Failing, Page, Tape};
-use pool::NoGate;
-use serve::{Leftovers, ServeStop, serve};
+use crate::asked::ends;
+use fakes::tapes::{Failing, Page};
+use serve::ServeStop;
 use std::alloc::AllocError;
 use std::sync::Wait;
 use std::test::Fail;
@@ -32,20 +31,8 @@ fn served<R: Threads + Wait + Sync + AllocGlobal>(
     workers: u64,
     page: &mut Page,
 ) -> Result<Result<bool, ServeStop>, AllocError> {
-    let alloc = rt.alloc();
-    let words = format!(in alloc; "bzlan --workers {workers} {LABELS}")?;
-    let words = split(alloc, words.as_str())?;
-    let input = input(alloc, FORTY)?;
-    let mut tape = Tape::new(input.as_bytes(), 4096, None);
-    Ok(serve(
-        rt,
-        alloc,
-        &mut tape,
-        page,
-        words.as_slice(),
-        &NoGate,
-        Leftovers::Leave,
-    ))
+    let words = format!(in rt.alloc(); "bzlan --workers {workers} {LABELS}")?;
+    ends(rt, words.as_str(), FORTY, page)
 }
 
 #[test]

@@ -34,7 +34,7 @@ use Rattle.targets.proofs.Facts.{none_in as no_element, head_in, tail_in, in_spl
 use Rattle.outcomes.specs.Found.{id_of, owner_of, in_target, has_depset, in_actions, in_implemented, gave, IsMadeBy}
 use Rattle.outcomes.specs.Workspaces.{Workspace, handed, IfGiven}
 use Rattle.evaluation.specs.Evaluated.{Known}
-use Rattle.evaluation.specs.Runs.{state_of_target, implemented_with, target_after, with_context, run_implementation}
+use Rattle.evaluation.specs.Runs.{state_of_target, implemented_with, target_after, context_alone, run_implementation}
 use Rattle.evaluation.specs.Worlds.{world}
 use Rattle.contexts.specs.declared.work.Work.{Work}
 use Rattle.implementations.specs.Implementations.{implementation_place, target_world}
@@ -137,8 +137,8 @@ module _ (w : Workspace) (limit : ℕ) (files : Files) (paths : List Path) (know
     call_is_made : IfGiven w (label_text l) (handed w ds) (run_implementation limit files paths target_world known l t ds)
     call_is_made =
         let ops = language (world paths known) (implementation_place l t ds) in
-        final_is_made t.rule.implementation (function_meaning ops files (function_id t.rule.implementation.id) (with_context limit files paths target_world) start)
-        (calls_keep kept ops files (function_id t.rule.implementation.id) (with_context limit files paths target_world) first start keeps ((none_in base, tt), tt) begins)
+        final_is_made t.rule.implementation (function_meaning ops files (function_id t.rule.implementation.id) context_alone start)
+        (calls_keep kept ops files (function_id t.rule.implementation.id) context_alone first start keeps ((none_in base, tt), tt) begins)
 
 pub calls_keep_coherence : CallsKeepCoherence
 calls_keep_coherence w limit files paths known is all l t ds alike fresh =

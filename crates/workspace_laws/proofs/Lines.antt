@@ -28,7 +28,7 @@ use Rattle.workspace.specs.Labels.{LabelParts, label_text}
 use Rattle.targets.specs.declared.outcome.Outcome.{Outcome}
 use Rattle.targets.specs.declared.outcome.Outcome.TheVariants.{Source, Done, Failed}
 use Rattle.outcomes.specs.Found.{in_inputs, in_actions, in_target}
-use Rattle.reporting.specs.Lines.{line, strings_text, outputs_text, given_words, fields_text, instance_line, provider_line, owners_text, action_text, action_line, action_lines, outcome_text}
+use Rattle.reporting.specs.Lines.{line, strings_text, outputs_text, given_words, fields_text, instance_line, provider_line, owners_text, action_text, action_line, outcome_text}
 
 -- ---- parts of what has one tree for an id
 
@@ -66,24 +66,17 @@ providers_same (t ∷ ts) k =
 
 -- ---- actions
 
-coherent_inputs : (i : Inputs) → IsOneTree (in_inputs i) → AreCoherentInputs i
+pub coherent_inputs : (i : Inputs) → IsOneTree (in_inputs i) → AreCoherentInputs i
 coherent_inputs (inputs.Files fs) k = tt
 coherent_inputs (inputs.Depset d) k = k
 
 text_same : (a : Action) → IsOneTree (in_inputs a.inputs) → action_text walked a ≡ action_text flat a
 text_same a k = ap (λ paths. outputs_text a ++ (codes " inputs " ++ (strings_text paths ++ given_words a))) (paths_plain a.inputs (coherent_inputs a.inputs k))
 
-action_same : (t : Telling) (a : Action) → IsOneTree (in_inputs a.inputs) → action_line walked t a ≡ action_line flat t a
+pub action_same : (t : Telling) (a : Action) → IsOneTree (in_inputs a.inputs) → action_line walked t a ≡ action_line flat t a
 action_same Alone a k = ap line (text_same a k)
 action_same (Owners labels) a k = ap (λ text. line (text ++ owners_text labels)) (text_same a k)
 action_same Elsewhere a k = refl
-
-actions_same : (ts : List Telling) (rest : List Action) → IsOneTree (in_actions rest) → action_lines walked ts rest ≡ action_lines flat ts rest
-actions_same ts [] k = refl
-actions_same [] (a ∷ rest) k =
-    λ i. action_same Alone a (front (in_inputs a.inputs) (in_actions rest) k) i ++ actions_same [] rest (behind (in_inputs a.inputs) (in_actions rest) k) i
-actions_same (t ∷ ts) (a ∷ rest) k =
-    λ i. action_same t a (front (in_inputs a.inputs) (in_actions rest) k) i ++ actions_same ts rest (behind (in_inputs a.inputs) (in_actions rest) k) i
 
 -- what is compared of actions is the same
 pub compared_same : (rest : List Action) → IsOneTree (in_actions rest) → Each (λ a. compared walked a ≡ compared flat a) rest
@@ -95,9 +88,8 @@ compared_same (a ∷ rest) k = (
 
 -- ---- outcomes
 
-pub outcome_same : (ts : List Telling) (l : LabelParts) (o : Outcome) → IsOneTree (in_target o) → outcome_text walked ts l o ≡ outcome_text flat ts l o
-outcome_same ts l (Source f) k = refl
-outcome_same ts l (Failed f) k = refl
-outcome_same ts l (Done ps rest) k =
-    λ i. line (codes "target " ++ (label_text l ++ codes " ok"))
-    ++ (providers_same ps (front (in_outcome ps) (in_actions rest) k) i ++ actions_same ts rest (behind (in_outcome ps) (in_actions rest) k) i)
+pub outcome_same : (text : List ℕ) (l : LabelParts) (o : Outcome) → IsOneTree (in_target o) → outcome_text walked text l o ≡ outcome_text flat text l o
+outcome_same text l (Source f) k = refl
+outcome_same text l (Failed f) k = refl
+outcome_same text l (Done ps rest) k =
+    λ i. line (codes "target " ++ (label_text l ++ codes " ok")) ++ (providers_same ps (front (in_outcome ps) (in_actions rest) k) i ++ text)

@@ -1,7 +1,7 @@
 -- What the modules that are known give to an evaluation has no depsets but theirs.
 use Rattle.std.proofs.Common.{◌≡◌, ℕ, zero, suc, List, [], ◌∷◌, ◌++◌, Option, Some, None, refl, subst}
 use Rattle.std.specs.Prelude.{option_and_then, position, bytes_eq, slice_get}
-use Rattle.std.specs.Option.{option_or}
+use Rattle.std.specs.Option.{option_or, option_flatten}
 use Rattle.std.specs.List.{flat_map}
 use Rattle.depsets.specs.Flat.{Among}
 use Rattle.values.specs.Shape.{value_of}
@@ -10,7 +10,7 @@ use Rattle.values.specs.declared.value.Value.{Value}
 use Rattle.operations.specs.Names.{listed}
 use Rattle.loading.specs.Loads.{Path, Name, path_at}
 use Rattle.evaluation.specs.declared.handed.Module.{Module}
-use Rattle.evaluation.specs.Evaluated.{Known, held, frozen_value, global_named, name_value}
+use Rattle.evaluation.specs.Evaluated.{Known, frozen_value, global_named, name_value}
 use Rattle.evaluation.specs.Worlds.{load_path, defaults_of, world}
 use Rattle.one_tree.specs.Found.{Set, in_tree, in_value, in_values, in_fields}
 use Rattle.one_tree.specs.Sets.{AreIn}
@@ -29,7 +29,7 @@ at_place f (y ∷ xs) zero x e =
     subst (λ z. AreIn (f z) (flat_map f (y ∷ xs))) a (λ d k. among_left d (f y) (flat_map f xs) k)
 at_place f (y ∷ xs) (suc n) x e = λ d k. among_right d (f y) (flat_map f xs) (at_place f xs n x e d k)
 
-field_at : (fs : List (Option Value)) (n : ℕ) (v : Value) → held (slice_get fs n) ≡ Some v
+field_at : (fs : List (Option Value)) (n : ℕ) (v : Value) → option_flatten (slice_get fs n) ≡ Some v
     → AreIn (in_value v) (in_fields fs)
 field_at [] n v e = absurd (cc)
 field_at (None ∷ fs) zero v e = absurd (cc)
@@ -74,7 +74,7 @@ module _ (m : Module) where
   name_in : (n : ℕ) (v : Value) → name_value n m ≡ Some v → AreIn (in_value v) (in_module m)
   name_in n v e = go (frozen_value m.globals n) refl e
     where
-      go : (o : Option Value) → frozen_value m.globals n ≡ o → option_or o (held (slice_get m.loaded n)) ≡ Some v
+      go : (o : Option Value) → frozen_value m.globals n ≡ o → option_or o (option_flatten (slice_get m.loaded n)) ≡ Some v
           → AreIn (in_value v) (in_module m)
       go (Some u) is e = λ d k. from_globals d (frozen_at m.globals n v (cc) d k)
       go None is e = λ d k. from_loaded d (field_at m.loaded n v e d k)

@@ -1,5 +1,6 @@
 -- What becomes of labels is the same by plain listings.
 use Rattle.std.proofs.Common.{◌≡◌, ◌∙◌, inl, inr, ⊎_elim, ℕ, List, [], ◌∷◌, length, map, Option, Some, None, Result, Contains, ap, arith, refl, subst}
+use Rattle.std.specs.Prelude.{zip}
 use Rattle.edges.proofs.Outcomes.{outcomes_alone}
 use Rattle.coherence.specs.Together.{among}
 use Rattle.one_tree.specs.Found.{Set}
@@ -8,7 +9,7 @@ use Rattle.workspace.specs.Workspaces.{Pair, paths_of}
 use Rattle.targets.specs.Checks.{Dependency, first_refused}
 use Rattle.targets.specs.Resolving.{Named, target, source_file, failed_package, nothing, named, needs}
 use Rattle.targets.specs.Resolving as resolving
-use Rattle.targets.specs.Steps.{Implemented, Fault, finished, failed_labels, with_outcomes, unless_refused, analysed, step}
+use Rattle.targets.specs.Steps.{Implemented, Fault, finished, failed_labels, unless_refused, analysed, step}
 use Rattle.targets.specs.declared.outcome.Outcome.{Outcome}
 use Rattle.targets.specs.declared.outcome.TargetFault.{TargetFault}
 use Rattle.targets.specs.declared.target.Target.{Target}
@@ -29,12 +30,12 @@ use Rattle.workspace_laws.proofs.Targets.{calls_same}
 -- ---- a step by another implementation
 
 -- the outcomes of dependencies are those that were handed in
-outcome_in : (ls : List LabelParts) (us : List Outcome) (o : Dependency) → Contains (with_outcomes ls us) o → Contains us o.1
+outcome_in : (ls : List LabelParts) (us : List Outcome) (o : Dependency) → Contains (zip ls us) o → Contains us o.1
 outcome_in [] us o c = absurd (none_in o c)
 outcome_in (l ∷ ls) [] o c = absurd (none_in o c)
 outcome_in (l ∷ ls) (u ∷ us) o c =
     ⊎_elim (λ e. subst (λ (p : Dependency). Contains (u ∷ us) p.1) e (head_in u us))
-    (λ later. tail_in u us o.1 (outcome_in ls us o later)) (in_split (l, u) (with_outcomes ls us) o c)
+    (λ later. tail_in u us o.1 (outcome_in ls us o later)) (in_split (l, u) (zip ls us) o c)
 
 module _ (one other : LabelParts → Target → List Dependency → Result Implemented Fault) (l : LabelParts) where
   unless_same : (t : Target) (ds : List Dependency) (o : Option TargetFault) → one l t ds ≡ other l t ds
@@ -48,13 +49,13 @@ module _ (one other : LabelParts → Target → List Dependency → Result Imple
   analysed_same t ds [] same = unless_same t ds (first_refused ds t.rule.attributes t.values) same
 
   step_same : (n : Named) (us : List Outcome)
-      → ((t : Target) → n ≡ target t → let ds = with_outcomes (resolving.dependencies t) us in one l t ds ≡ other l t ds)
+      → ((t : Target) → n ≡ target t → let ds = zip (resolving.dependencies t) us in one l t ds ≡ other l t ds)
       → step one l n us ≡ step other l n us
   step_same nothing us same = refl
   step_same failed_package us same = refl
   step_same source_file us same = refl
   step_same (target t) us same =
-      let ds = with_outcomes (resolving.dependencies t) us in analysed_same t ds (failed_labels ds) (same t refl)
+      let ds = zip (resolving.dependencies t) us in analysed_same t ds (failed_labels ds) (same t refl)
 
 module _ (files : List Pair) (limit : ℕ) where
   abbrev w : Workspace
@@ -80,7 +81,7 @@ module _ (files : List Pair) (limit : ℕ) where
     abbrev us : List Outcome
     us = map (outcome_of w) (dependencies w l)
 
-    from : (ls : List LabelParts) (d : Set) → handed w (with_outcomes ls us) d → among (graph w) us d
+    from : (ls : List LabelParts) (d : Set) → handed w (zip ls us) d → among (graph w) us d
     from ls d (inl i) = inl i
     from ls d (inr o) = inr (o.0.1, outcome_in ls us o.0 o.1, o.2)
 
@@ -89,7 +90,7 @@ module _ (files : List Pair) (limit : ℕ) where
         step_same w.implement half.implement l (named w.paths w.package_at l) us (λ t is.
         let fits = outcomes_fit w sound well l (is_named w.paths w.package_at l t is).legal in
         let ls = resolving.dependencies t in
-        calls_same files limit l t (with_outcomes ls us) (λ a b i j e. fits.coherent a b (from ls a i) (from ls b j) e)
+        calls_same files limit l t (zip ls us) (λ a b i j e. fits.coherent a b (from ls a i) (from ls b j) e)
         (λ a i e. fits.fresh a (from ls a i) e))
 
   pub outcomes_same : OutcomesAreTheSame files limit

@@ -8,6 +8,7 @@ use Rattle.actions.specs.Ascending.{Each}
 use Rattle.actions.specs.declared.action.Action.{Action}
 use Rattle.claims.specs.Owned.{Owned}
 use Rattle.claims.specs.Same.{compared}
+use Rattle.claims.specs.Telling.{telling}
 use Rattle.one_tree.specs.Found.{Set, in_outcome}
 use Rattle.one_tree.specs.Sets.{IsOneTree}
 use Rattle.one_tree.proofs.Amidst.{among_cases}
@@ -15,14 +16,14 @@ use Rattle.workspace.specs.Labels.{LabelParts, label_text}
 use Rattle.targets.specs.Steps.{is_failed}
 use Rattle.targets.specs.declared.outcome.Outcome.{Outcome}
 use Rattle.targets.specs.declared.outcome.Outcome.TheVariants.{Source, Done, Failed}
-use Rattle.outcomes.specs.Found.{in_actions, in_target, has_depset}
+use Rattle.outcomes.specs.Found.{in_actions, in_inputs, in_target, has_depset}
 use Rattle.outcomes.specs.Workspaces.{Workspace, outcome_of, ImplementsWell, IsSound}
 use Rattle.outcomes.proofs.Together.{outcomes_together}
-use Rattle.reporting.specs.Lines.{conflict_line, outcome_text}
-use Rattle.reporting.specs.Answers.{Node, actions_of, owned_by, node_actions, node_tellings, owned_actions, file_line, node_text, has_some}
+use Rattle.reporting.specs.Lines.{action_line, conflict_line, outcome_text}
+use Rattle.reporting.specs.Answers.{Node, actions_of, owned_by, node_actions, told_line, owned_actions, file_line, node_text, has_some}
 use Rattle.workspace_laws.specs.ReportLaws.{in_nodes, TextsArePlain, WorkspacesAreToldPlainly}
-use Rattle.claims.proofs.Agreed.{Agree, conflicts_same, tellings_same}
-use Rattle.workspace_laws.proofs.Lines.{front, behind, compared_same, outcome_same}
+use Rattle.claims.proofs.Agreed.{Agree, compared_plain, conflicts_same, telling_same}
+use Rattle.workspace_laws.proofs.Lines.{front, behind, action_same, coherent_inputs, compared_same, outcome_same}
 
 -- ---- what is compared of the actions of nodes
 
@@ -48,10 +49,26 @@ all_agree (n ∷ ns) k =
 -- ---- the lines of nodes
 
 module _ (all : List Owned) (agree : Each (Agree walked flat) all) where
+  actions_same : (text : List ℕ) (acts : List Action) → IsOneTree (in_actions acts)
+      → flat_map (told_line walked all) (map (owned_by text) acts) ≡ flat_map (told_line flat all) (map (owned_by text) acts)
+  actions_same text [] k = refl
+  actions_same text (a ∷ rest) k =
+      let own = owned_by text a in
+      let one = front (in_inputs a.inputs) (in_actions rest) k in
+      let told = telling_same walked flat all agree own (compared_plain a (coherent_inputs a.inputs one)) in
+      λ i. (ap (λ t. action_line walked t a) told ∙ action_same (telling flat all own) a one) i
+      ++ actions_same text rest (behind (in_inputs a.inputs) (in_actions rest) k) i
+
+  lines_same : (text : List ℕ) (o : Outcome) → IsOneTree (in_target o)
+      → flat_map (told_line walked all) (map (owned_by text) (actions_of o)) ≡ flat_map (told_line flat all) (map (owned_by text) (actions_of o))
+  lines_same text (Source f) k = refl
+  lines_same text (Failed f) k = refl
+  lines_same text (Done ts rest) k = actions_same text rest (behind (in_outcome ts) (in_actions rest) k)
+
   node_same : (n : Node) → IsOneTree (in_target n.outcome) → node_text walked all n ≡ node_text flat all n
   node_same n k =
-      ap (λ ts. outcome_text walked ts n.label n.outcome) (tellings_same walked flat all agree (node_actions n) (target_agrees (label_text n.label) n.outcome k))
-      ∙ outcome_same (node_tellings flat all n) n.label n.outcome k
+      ap (λ l. outcome_text walked l n.label n.outcome) (lines_same (label_text n.label) n.outcome k)
+      ∙ outcome_same (flat_map (told_line flat all) (node_actions n)) n.label n.outcome k
 
   nodes_same : (ns : List Node) → IsOneTree (in_nodes ns) → flat_map (node_text walked all) ns ≡ flat_map (node_text flat all) ns
   nodes_same [] k = refl

@@ -24,7 +24,7 @@ use Rattle.targets.specs.declared.target.Target.{Target}
 use Rattle.outcomes.specs.Found.{id_of, owner_of}
 use Rattle.outcomes.specs.Workspaces.{Workspace, handed}
 use Rattle.evaluation.specs.Evaluated.{Known}
-use Rattle.evaluation.specs.Runs.{implemented_with, target_after, with_context}
+use Rattle.evaluation.specs.Runs.{implemented_with, target_after, context_alone}
 use Rattle.evaluation.specs.Workspaces.{linked_files}
 use Rattle.evaluation.specs.Worlds.{world}
 use Rattle.contexts.specs.declared.work.Work.{Work}
@@ -82,7 +82,7 @@ module _ (files : List Pair) (limit : ℕ) where
     id = function_id own.id
 
     abbrev context : Arguments Value
-    context = with_context limit code paths target_world
+    context = context_alone
 
     abbrev begin : Whole Work
     begin = start w limit code paths known (all_are_there files limit) l t ds alike fresh

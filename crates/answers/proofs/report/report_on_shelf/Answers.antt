@@ -1,7 +1,6 @@
 use Rattle.std.proofs.Common.{◌≡◌, ◌∙◌, ap, Err, IfOk, subst}
 use Rattle.answers.specs.Reports.{IsTooMany, Reports}
 use Rattle.answers.specs.declared.refused.NoReport.TheVariants.{TooMany}
-use Rattle.answers.specs.declared.report.TheConstants.{NODE_LIMIT}
 use Rattle.answers.proofs.Told.{too_many}
 use Rattle.answers.proofs.report.report_on_shelf.Goals as goal
 
@@ -18,5 +17,5 @@ returns-in-Err-clause-many g c e =
     let labels = c.args.labels.now in
     let v = c.in_ok-targets.targets in
     let too : c.in-Err.refused ≡ TooMany = cc in
-    subst (λ n. IsTooMany workspace labels n NODE_LIMIT) c.in_ok-targets.ensures.limit
-    (too_many workspace v.files v.limit labels NODE_LIMIT c.in_ok-targets.ensures.files (c.graph_of.ensures.many (c.in-Err.is ∙ ap Err too)))
+    subst (λ n. IsTooMany workspace labels n) c.in_ok-targets.ensures.limit
+    (too_many workspace v.files v.limit labels c.in_ok-targets.ensures.files (c.graph_of.ensures.many (c.in-Err.is ∙ ap Err too)))

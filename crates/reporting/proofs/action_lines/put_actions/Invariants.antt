@@ -1,6 +1,6 @@
 use Rattle.std.proofs.Common.{◌≡◌, ◌++◌, drop, string_bytes}
 use Rattle.depsets.specs.Listed.{walked}
-use Rattle.reporting.specs.Lines.{action_lines}
+use Rattle.reporting.specs.Seen.{action_lines}
 use Rattle.reporting.proofs.action_lines.put_actions.Given as goal
 
 abbrev pub invariant-loop-i : goal.invariant-loop-i
