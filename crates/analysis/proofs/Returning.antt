@@ -1,11 +1,10 @@
 -- Values that are instances of different providers.
-use Rattle.std.proofs.Common.{◌≡◌, inl, inr, ◌∙◌, ◌<◌, ◌+◌, ℕ, Bool, true, false, ◌&&◌, ◌||◌, List, [], ◌∷◌, ◌++◌, Option, Some, None, length, take, drop, get_or, ap, sym, refl, cond, true≢false, arith}
+use Rattle.std.proofs.Common.{◌≡◌, inl, inr, ◌∙◌, ◌<◌, ◌+◌, ℕ, Bool, true, false, ◌&&◌, ◌||◌, List, [], ◌∷◌, ◌++◌, Option, Some, None, length, take, drop, get_or, ap, sym, refl, cond, true≢false}
 use Rattle.std.proofs.lemmas.Cmp.{nat_eq_equiv}
 use Rattle.std.specs.Cmp.{unsigned_ties}
 use Rattle.analysis.proofs.Keyed.{both_at}
 use Rattle.std.proofs.lemmas.List.{drop_more, take-append-drop}
 use Rattle.std.proofs.lemmas.List.Folds.{list_any-append}
-use Rattle.std.proofs.lemmas.Bool.Decides.{nat_tests}
 use Rattle.std.specs.Prelude.{not, nat_eq}
 use Rattle.std.specs.BTreeMap.{is_at}
 use Rattle.std.specs.BTreeSet.{BTreeSet, Updates, contains}
@@ -18,7 +17,7 @@ use Rattle.leaves.specs.declared.leaf.Provider.{Provider}
 use Rattle.targets.specs.Checks.{provider_of, is_of, offers}
 use Rattle.targets.specs.Steps.{is_new_instance, are_instances}
 use Rattle.targets.proofs.Facts.{cases_of, both, neither}
-use Rattle.analysis.specs.Returned.{numbers, made_numbers, numbers_cmp, HaveNumbers, AreReturned}
+use Rattle.analysis.specs.Returned.{numbers, made_numbers, pair_cmp, numbers_cmp, HaveNumbers, AreReturned}
 
 -- ---- the test of providers
 
@@ -92,26 +91,17 @@ new_last (x ∷ ts) t p is are h = at (provider_of x) (both (is_new_instance ts 
 at_number : (x y : ℕ) → is_at (nat_cmp x) y ≡ nat_eq y x
 at_number x y = sym (unsigned_ties x y) ∙ nat_eq_equiv.symm x y
 
-pair_at : (a b : ℕ × ℕ) → is_at (numbers_cmp a) b ≡ (nat_eq b.0 a.0 && nat_eq b.1 a.1)
+pair_at : (a b : ℕ × ℕ) → is_at (pair_cmp a) b ≡ (nat_eq b.0 a.0 && nat_eq b.1 a.1)
 pair_at a b = both_at (nat_cmp a.0 b.0) (nat_cmp a.1 b.1) ∙ (λ i. at_number a.0 b.0 i && at_number a.1 b.1 i)
 
-not_none : (n : ℕ) → nat_eq (n + 1) 0 ≡ false
-not_none n = grind (arith, nat_tests)
-
-none_not : (n : ℕ) → nat_eq 0 (n + 1) ≡ false
-none_not n = grind (arith, nat_tests)
-
-one_more : (m n : ℕ) → nat_eq (m + 1) (n + 1) ≡ nat_eq m n
-one_more m n = grind (arith, nat_tests)
-
 numbers_at : (p r : Provider) → is_at (numbers_cmp (numbers p)) (numbers r) ≡ same_provider r p
-numbers_at p r = pair_at (numbers p) (numbers r) ∙ of p.id r.id
+numbers_at p r = of p.id r.id
   where
-    of : (a b : Option MadeId) → (nat_eq (made_numbers b).0 (made_numbers a).0 && nat_eq (made_numbers b).1 (made_numbers a).1) ≡ same_maker b a
+    of : (a b : Option MadeId) → is_at (numbers_cmp (made_numbers a)) (made_numbers b) ≡ same_maker b a
     of None None = refl
-    of None (Some b) = ap (λ t. t && nat_eq b.number 0) (not_none b.«module»)
-    of (Some a) None = ap (λ t. t && nat_eq 0 a.number) (none_not a.«module»)
-    of (Some a) (Some b) = ap (λ t. t && nat_eq b.number a.number) (one_more b.«module» a.«module»)
+    of None (Some b) = refl
+    of (Some a) None = refl
+    of (Some a) (Some b) = pair_at (a.«module», a.number) (b.«module», b.number)
 
 either : (s a : Bool) → cond s true a ≡ (a || (s || false))
 either true true = refl
@@ -119,15 +109,15 @@ either true false = refl
 either false true = refl
 either false false = refl
 
-pub numbered_none : (seen : BTreeSet (ℕ × ℕ)) → seen.keys ≡ [] → HaveNumbers [] seen
+pub numbered_none : (seen : BTreeSet (Option (ℕ × ℕ))) → seen.keys ≡ [] → HaveNumbers [] seen
 numbered_none seen none = λ p. ap (list_any (is_at (numbers_cmp (numbers p)))) none
 
-pub numbered_last : (ts : List FrozenTree) (olds news : BTreeSet (ℕ × ℕ)) (t : FrozenTree) (p : Provider) → provider_of t ≡ Some p → HaveNumbers ts olds
+pub numbered_last : (ts : List FrozenTree) (olds news : BTreeSet (Option (ℕ × ℕ))) (t : FrozenTree) (p : Provider) → provider_of t ≡ Some p → HaveNumbers ts olds
     → Updates numbers_cmp olds news (numbers p) true → HaveNumbers (ts ++ t ∷ []) news
 numbered_last ts olds news t p is h more = λ r.
     more.0 (numbers r) ∙ (λ i. cond (numbers_at p r i) true (h r i)) ∙ either (same_provider r p) (offers ts r) ∙ sym (offers_last ts t p r is)
 
-pub numbered_still : (ts : List FrozenTree) (seen : BTreeSet (ℕ × ℕ)) (t : FrozenTree) → provider_of t ≡ None → HaveNumbers ts seen → HaveNumbers (ts ++ t ∷ []) seen
+pub numbered_still : (ts : List FrozenTree) (seen : BTreeSet (Option (ℕ × ℕ))) (t : FrozenTree) → provider_of t ≡ None → HaveNumbers ts seen → HaveNumbers (ts ++ t ∷ []) seen
 numbered_still ts seen t is h = λ r.
     h r ∙ or_false (offers ts r) ∙ sym (list_any-append (λ x. is_of r (provider_of x)) ts (t ∷ []) ∙ ap (λ o. offers ts r || (is_of r o || false)) is)
   where
@@ -135,17 +125,17 @@ numbered_still ts seen t is h = λ r.
     or_false true = refl
     or_false false = refl
 
-pub returned_none : (seen : BTreeSet (ℕ × ℕ)) → seen.keys ≡ [] → AreReturned [] seen
+pub returned_none : (seen : BTreeSet (Option (ℕ × ℕ))) → seen.keys ≡ [] → AreReturned [] seen
 returned_none seen none = record { instances = refl; numbered = numbered_none seen none }
 
-pub returned_last : (ts : List FrozenTree) (olds news : BTreeSet (ℕ × ℕ)) (t : FrozenTree) (p : Provider) → provider_of t ≡ Some p → AreReturned ts olds
+pub returned_last : (ts : List FrozenTree) (olds news : BTreeSet (Option (ℕ × ℕ))) (t : FrozenTree) (p : Provider) → provider_of t ≡ Some p → AreReturned ts olds
     → contains numbers_cmp olds (numbers p) ≡ false → Updates numbers_cmp olds news (numbers p) true → AreReturned (ts ++ t ∷ []) news
 returned_last ts olds news t p is h fresh more = record {
   instances = new_last ts t p is h.instances (sym (h.numbered p) ∙ fresh);
   numbered = numbered_last ts olds news t p is h.numbered more;
 }
 
-pub returned_again : (ts us : List FrozenTree) (olds : BTreeSet (ℕ × ℕ)) (t : FrozenTree) (p : Provider) → provider_of t ≡ Some p → AreReturned ts olds
+pub returned_again : (ts us : List FrozenTree) (olds : BTreeSet (Option (ℕ × ℕ))) (t : FrozenTree) (p : Provider) → provider_of t ≡ Some p → AreReturned ts olds
     → contains numbers_cmp olds (numbers p) ≡ true → are_instances (ts ++ t ∷ us) ≡ false
 returned_again ts us olds t p is h had = no_new ts us t p is (sym (h.numbered p) ∙ had)
 

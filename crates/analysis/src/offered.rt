@@ -20,7 +20,7 @@ const FEW: usize = 8;
 pub(crate) struct Offered<'a> {
     values: &'a [Frozen],
     /// The numbers of their providers, where there are many.
-    numbers: BTreeSet<(u64, u64)>,
+    numbers: BTreeSet<Option<(u32, u32)>>,
 }
 
 impl<'a> Model for Offered<'a> {
@@ -61,7 +61,10 @@ impl<'a> Offered<'a> {
 }
 
 /// The numbers of the providers of values, where there are many; else nothing.
-fn numbers_of_many(alloc: Global, values: &[Frozen]) -> Result<BTreeSet<(u64, u64)>, AllocError>
+fn numbers_of_many(
+    alloc: Global,
+    values: &[Frozen],
+) -> Result<BTreeSet<Option<(u32, u32)>>, AllocError>
     ensures { IfOk result (λ seen. FEW < length values.now → HaveNumbers values.now seen) }
 {
     if values.len() <= FEW {
@@ -71,7 +74,7 @@ fn numbers_of_many(alloc: Global, values: &[Frozen]) -> Result<BTreeSet<(u64, u6
 }
 
 /// The numbers of the providers of values.
-fn numbers_of(alloc: Global, values: &[Frozen]) -> Result<BTreeSet<(u64, u64)>, AllocError>
+fn numbers_of(alloc: Global, values: &[Frozen]) -> Result<BTreeSet<Option<(u32, u32)>>, AllocError>
     ensures { IfOk result (λ seen. HaveNumbers values.now seen) }
 {
     let mut seen = BTreeSet::new(alloc);
@@ -82,7 +85,7 @@ fn numbers_of(alloc: Global, values: &[Frozen]) -> Result<BTreeSet<(u64, u64)>, 
 }
 
 /// Notes the numbers of the provider of a value, if it is an instance.
-fn note(value: &Frozen, seen: &mut BTreeSet<(u64, u64)>) -> Result<(), AllocError>
+fn note(value: &Frozen, seen: &mut BTreeSet<Option<(u32, u32)>>) -> Result<(), AllocError>
     ensures { OnOk result ((ts : List FrozenTree) → HaveNumbers ts seen.old
         → HaveNumbers (ts ++ value.now ∷ []) seen.new) }
 {

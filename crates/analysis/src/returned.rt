@@ -1,28 +1,23 @@
 //! What an implementation returns.
-ghost use Rattle.std.specs.Prelude.{◌≡◌, ◌++◌, ◌∷◌, [], List, true, false, Some, IfOk};
+ghost use Rattle.std.specs.Prelude.{◌≡◌, ◌++◌, ◌∷◌, [], List, true, false, IfOk};
 ghost use Rattle.values.specs.View.{FrozenTree};
 ghost use Rattle.targets.specs.Steps.{are_instances};
-ghost use Rattle.analysis.specs.Returned.{numbers, made_numbers, AreReturned};
+ghost use Rattle.analysis.specs.Returned.{numbers, AreReturned};
 
 use crate::instances::provider_of;
 use std::alloc::{AllocError, Global};
 use std::collections::BTreeSet;
-use values::{Frozen, MadeId, Provider};
+use values::{Frozen, Provider};
 
-/// The numbers by which a provider is told from others.
-pub(crate) fn numbers(provider: &Provider) -> (u64, u64)
+/// The numbers by which a provider is told from others: that of the module that made it, and its
+/// own there. `DefaultInfo`, which no module makes, has none.
+pub(crate) fn numbers(provider: &Provider) -> Option<(u32, u32)>
     ensures { result ≡ numbers provider.now }
 {
     match provider.id {
-        None => (0, 0),
-        Some(id) => made_numbers(id),
+        Some(id) => Some((id.module, id.number)),
+        None => None,
     }
-}
-
-fn made_numbers(id: MadeId) -> (u64, u64)
-    ensures { result ≡ made_numbers (Some id) }
-{
-    (u64::from(id.module) + 1, u64::from(id.number))
 }
 
 /// Whether the values are instances of different providers.
@@ -52,7 +47,7 @@ fn are_different(alloc: Global, values: &[Frozen]) -> Result<bool, AllocError>
 }
 
 /// Whether a value is an instance of a provider that wasn't seen; it is seen then.
-fn is_new(value: &Frozen, seen: &mut BTreeSet<(u64, u64)>) -> Result<bool, AllocError>
+fn is_new(value: &Frozen, seen: &mut BTreeSet<Option<(u32, u32)>>) -> Result<bool, AllocError>
     ensures { IfOk result (λ b. (ts : List FrozenTree) → AreReturned ts seen.old
         → (b ≡ true → AreReturned (ts ++ value.now ∷ []) seen.new)
         × (b ≡ false → (us : List FrozenTree) → are_instances (ts ++ value.now ∷ us) ≡ false)) }

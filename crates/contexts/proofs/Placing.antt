@@ -2,7 +2,7 @@
 use Rattle.std.proofs.Common.{◌≡◌, ◌∙◌, ℕ, ◌+◌, ◌&&◌, Bool, true, false, List, ◌∷◌, Option, Some, length, drop, ap, sym, subst, refl, cond, arith}
 use Rattle.std.proofs.lemmas.Cmp.{nat_list_eq_equiv}
 use Rattle.std.proofs.lemmas.Option.{slice_get-map}
-use Rattle.std.specs.Prelude.{if◌then◌else◌, option_map, slice_get}
+use Rattle.std.specs.Prelude.{if◌then◌else◌, option_map, slice_get, unwrap_or}
 use Rattle.indexmap.specs.IndexMap.{IndexMap, Updates, get}
 use Rattle.depsets.proofs.Turns.{drop_at}
 use Rattle.workspace.specs.Labels.{LabelParts, same_label}
@@ -10,7 +10,7 @@ use Rattle.targets.specs.Checks.{Dependency}
 use Rattle.analysis.specs.Seen.{dependency_seen, dependencies_seen}
 use Rattle.analysis.specs.declared.dependency.Dependency.{Dependency as Lying}
 use Rattle.contexts.specs.Fields.{place_of}
-use Rattle.contexts.specs.Placed.{Key, key_label, same_key, place_or, ArePlaced, first_at, HasFirst}
+use Rattle.contexts.specs.Placed.{Key, key_label, same_key, ArePlaced, first_at, HasFirst}
 
 pub same_label_sym : (a b : LabelParts) → same_label a b ≡ same_label b a
 same_label_sym a b = λ i. nat_list_eq_equiv.symm a.«package» b.«package» i && nat_list_eq_equiv.symm a.name b.name i
@@ -19,7 +19,7 @@ pub as_first : (b : Bool) (i : ℕ) (o : Option ℕ) → cond b (Some i) o ≡ f
 as_first true i o = refl
 as_first false i o = refl
 
-turn : (b : Bool) (i n r : ℕ) (o : Option ℕ) → place_or o n ≡ (i + 1) + r → place_or (first_at b i o) n ≡ i + (if b then 0 else r + 1)
+turn : (b : Bool) (i n r : ℕ) (o : Option ℕ) → unwrap_or o n ≡ (i + 1) + r → unwrap_or (first_at b i o) n ≡ i + (if b then 0 else r + 1)
 turn true i n r o h = omega arith
 turn false i n r o h = omega (arith, h)
 
@@ -54,7 +54,7 @@ later ds i d l m b at is test other h =
 module _ {S : Type 0} where
   -- the map has the first place of each label of the dependencies from here on
   abbrev pub ArePlacedFrom : ℕ → List Dependency → IndexMap Key ℕ S → Type 0
-  ArePlacedFrom i ds places = (q : Key) → place_or (get same_key places q) (length ds) ≡ i + place_of (drop i ds) (key_label q)
+  ArePlacedFrom i ds places = (q : Key) → unwrap_or (get same_key places q) (length ds) ≡ i + place_of (drop i ds) (key_label q)
 
   abbrev Places : List Lying → ℕ → IndexMap Key ℕ S → Type 0
   Places ds i places = ArePlacedFrom i (dependencies_seen ds) places
@@ -62,7 +62,7 @@ module _ {S : Type 0} where
   placed_step : (i : ℕ) (ds : List Dependency) (d : Dependency) (olds news : IndexMap Key ℕ S) → drop i ds ≡ d ∷ drop (i + 1) ds
       → HasFirst d.0 i olds news → ArePlacedFrom (i + 1) ds olds → ArePlacedFrom i ds news
   placed_step i ds d olds news at put h = λ q.
-      ap (λ o. place_or o (length ds)) (put q)
+      ap (λ o. unwrap_or o (length ds)) (put q)
       ∙ turn (same_label (key_label q) d.0) i (length ds) (place_of (drop (i + 1) ds) (key_label q)) (get same_key olds q) (h q)
       ∙ ap (λ (l : List Dependency). i + place_of l (key_label q)) (sym at)
 
@@ -83,6 +83,6 @@ module _ {S : Type 0} where
 
   -- what the map has at the key of a label
   pub found_at : (ds seen : List Dependency) (places : IndexMap Key ℕ S) (k : Key) (l : LabelParts) (o : Option ℕ) → o ≡ get same_key places k → ArePlaced ds places → ds ≡ seen → key_label k ≡ l
-      → place_or o (length ds) ≡ place_of seen l
+      → unwrap_or o (length ds) ≡ place_of seen l
   found_at ds seen places k l o e h same is =
-      ap (λ p. place_or p (length ds)) e ∙ h k ∙ (λ i. place_of (same i) (is i))
+      ap (λ p. unwrap_or p (length ds)) e ∙ h k ∙ (λ i. place_of (same i) (is i))

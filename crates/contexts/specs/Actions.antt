@@ -1,9 +1,10 @@
 -- The methods of `ctx.actions` (Bazel documentation, "actions"; what each takes and refuses is
 -- docs/PROFILE.md, "Calls for files and actions"). They read the heap, and what they declare is the
 -- work.
-use Rattle.std.specs.Prelude.{ℕ, Bool, true, false, not, ◌&&◌, ◌||◌, nat_le, nat_eq, List, [], ◌∷◌}
+use Rattle.std.specs.Prelude.{ℕ, Bool, true, false, not, ◌&&◌, nat_eq, List, [], ◌∷◌}
 use Rattle.std.specs.Prelude.{◌++◌, length, Option, Some, None, option_and_then, Result, Ok, Err}
 use Rattle.std.specs.Prelude.{codes, bytes_eq, if◌then◌else◌}
+use Rattle.std.specs.Char.{is_ascii_alphabetic}
 use Rattle.std.specs.List.{list_all}
 use Rattle.depsets.specs.Own.{Own}
 use Rattle.depsets.specs.Rose.{Rose}
@@ -184,13 +185,9 @@ abbrev pub inputs_in : List Cell → Option Value → Result Inputs Kind
 inputs_in h None = Ok (inputs.Files [])
 inputs_in h (Some v) = shown_inputs h (shape h v)
 
--- whether a byte is a letter, A-Z or a-z
-abbrev pub is_letter : ℕ → Bool
-is_letter b = (nat_le 65 b && nat_le b 90) || (nat_le 97 b && nat_le b 122)
-
--- whether a text may be a mnemonic: one or more letters
+-- whether a text may be a mnemonic: one or more letters, A-Z or a-z
 abbrev pub is_mnemonic : List ℕ → Bool
-is_mnemonic t = not (nat_eq (length t) 0) && list_all is_letter t
+is_mnemonic t = not (nat_eq (length t) 0) && list_all is_ascii_alphabetic t
 
 -- the text, if it may be a mnemonic
 abbrev pub if_mnemonic : List ℕ → Option (List ℕ)

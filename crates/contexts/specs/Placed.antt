@@ -1,6 +1,7 @@
 -- Dependencies that are found by their labels.
-use Rattle.std.specs.Prelude.{◌≡◌, ℕ, Bool, true, false, List, length, Option, Some, None}
+use Rattle.std.specs.Prelude.{◌≡◌, ℕ, Bool, true, false, List, length, Option, Some}
 use Rattle.std.specs.Borrow.{Bor}
+use Rattle.std.specs.Prelude.{unwrap_or}
 use Rattle.indexmap.specs.IndexMap.{IndexMap, get}
 use Rattle.workspace.specs.Labels.{LabelParts, same_label}
 use Rattle.targets.specs.Checks.{Dependency}
@@ -18,11 +19,6 @@ key_label k = record { «package» = k.0.now; name = k.1.now }
 abbrev pub same_key : Key → Key → Bool
 same_key p q = same_label (key_label p) (key_label q)
 
--- the place that was found, or else this one
-abbrev pub place_or : Option ℕ → ℕ → ℕ
-place_or (Some i) n = i
-place_or None n = n
-
 -- the place of a label after `i` was noted for one: `i` if it is that one, and else what it was
 abbrev pub first_at : Bool → ℕ → Option ℕ → Option ℕ
 first_at true i o = Some i
@@ -33,7 +29,7 @@ module _ {S : Type 0} where
   -- how many they are where it has none
   abbrev pub ArePlaced : List Dependency → IndexMap Key ℕ S → Type 0
   ArePlaced ds places = (q : Key)
-      → place_or (get same_key places q) (length ds) ≡ place_of ds (key_label q)
+      → unwrap_or (get same_key places q) (length ds) ≡ place_of ds (key_label q)
 
   -- a label has this place now, and every other the place that it had
   abbrev pub HasFirst : LabelParts → ℕ → IndexMap Key ℕ S → IndexMap Key ℕ S → Type 0

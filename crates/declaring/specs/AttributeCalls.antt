@@ -2,6 +2,7 @@
 -- docs/PROFILE.md, "Calls for attributes"). All that is wrong, once the arguments fit, is `type`.
 use Rattle.std.specs.Prelude.{ℕ, Bool, true, false, List, [], ◌∷◌, ◌++◌, length, Option, Some, None}
 use Rattle.std.specs.Prelude.{option_map, option_and_then, Result, Ok, Err, codes}
+use Rattle.std.specs.Option.{option_or}
 use Rattle.values.specs.Shape.{Shape, key, atom, items, entries, shape}
 use Rattle.values.specs.declared.cells.Cell.{Cell}
 use Rattle.keys.specs.declared.key.Key.{Key}
@@ -79,11 +80,6 @@ provider_in _ = None
 abbrev pub whole_label_in : Shape → Option LabelParts
 whole_label_in s = option_and_then (λ t. label_of t None) (string_in s)
 
--- the first of two readings that there is
-abbrev pub or_else : {A : Type 0} → Option A → Option A → Option A
-or_else (Some a) o = Some a
-or_else None o = o
-
 module _ (h : List Cell) where
   -- What is shown, as a default of this kind. A list of strings is no tuple, a list of labels may
   -- be one; None is a label's. Of a dict all keys and all values are strings.
@@ -120,7 +116,7 @@ module _ (h : List Cell) where
   abbrev pub provider_lists : List Value → Option (List (List Provider))
   provider_lists [] = Some []
   provider_lists (v ∷ vs) =
-      or_else (option_map (λ ps. ps ∷ []) (all_providers (v ∷ vs)))
+      option_or (option_map (λ ps. ps ∷ []) (all_providers (v ∷ vs)))
       (each_of (λ x. option_and_then all_providers (sequence_in (shape h x))) (v ∷ vs))
 
   -- `providers`: a sequence of providers, or of sequences of them

@@ -1,6 +1,7 @@
 -- In a module that ended what has a name is called by it, as the value of a global too.
 use Rattle.std.proofs.Common.{◌≡◌, ℕ, Bool, true, false, nat_eq, if◌then◌else◌, List, map, Option, Some, None, Result, Ok, Err, option_map, slice_get, refl, sym, ap, subst, ◌∙◌, eq-eqb}
 use Rattle.std.proofs.lemmas.Option.{same_Some, slice_get-map}
+use Rattle.std.specs.Option.{option_flatten}
 use Rattle.values.specs.Tree.{key, leaf, branch}
 use Rattle.values.specs.View.{FrozenTree}
 use Rattle.ticks.specs.Ticking.{Ticking}
@@ -18,7 +19,6 @@ use Rattle.loading.specs.declared.faults.Ending.{Ending}
 use Rattle.loading.specs.declared.faults.Ending.TheVariants.{Unnamed}
 use Rattle.evaluation.specs.declared.handed.Module.{Module}
 use Rattle.evaluation.specs.declared.made.Made.{Made}
-use Rattle.evaluation.specs.Evaluated.{held}
 use Rattle.evaluation.specs.Naming.{Naming, all_named, with_provider_name, with_rule_name, provider_made_by, provider_named, rule_named, leaf_named, slot_named}
 use Rattle.evaluation.specs.Runs.{naming_of, module_named, module_of_frozen, all_frozen, module_ended}
 use Rattle.endings.specs.Called.{IsProvider, IsRule, provider_value, rule_value, IsFirstName, exported, MadeIsCalled}
@@ -39,10 +39,10 @@ module _ (ns : Naming) where
 
       of_id : (o : Option MadeId) → (provider_made_by ns p o).id ≡ p.id
       of_id None = refl
-      of_id (Some id) = chosen (nat_eq id.«module» ns.file) (held (slice_get ns.providers id.number))
+      of_id (Some id) = chosen (nat_eq id.«module» ns.file) (option_flatten (slice_get ns.providers id.number))
 
   rule_id : (r : RuleRef) → (rule_named ns r).id ≡ r.id
-  rule_id r = chosen (nat_eq r.id.«module» ns.file) (held (slice_get ns.rules r.id.number))
+  rule_id r = chosen (nat_eq r.id.«module» ns.file) (option_flatten (slice_get ns.rules r.id.number))
     where
       with_name : (o : Option Name) → (with_rule_name ns r o).id ≡ r.id
       with_name None = refl
@@ -82,16 +82,16 @@ module _ (ns : Naming) (n i : ℕ) (x : Name) (file : ns.file ≡ n) where
       → (provider_named ns p).name ≡ provider.Exported (exported ns.path x)
   provider_called p is e =
       ap (λ o. (provider_made_by ns p o).name) is
-      ∙ ap (λ b. (if b then with_provider_name ns p (held (slice_get ns.providers i)) else p).name) here
-      ∙ ap (λ o. (with_provider_name ns p (held o)).name) e
+      ∙ ap (λ b. (if b then with_provider_name ns p (option_flatten (slice_get ns.providers i)) else p).name) here
+      ∙ ap (λ o. (with_provider_name ns p (option_flatten o)).name) e
 
   rule_called : (r : RuleRef) → IsRule n i r → slice_get ns.rules i ≡ Some (Some x)
       → (rule_named ns r).name ≡ exported ns.path x
   rule_called r is e =
       ap (λ (id : MadeId).
-      (if nat_eq id.«module» ns.file then with_rule_name ns r (held (slice_get ns.rules id.number)) else r).name) is
-      ∙ ap (λ b. (if b then with_rule_name ns r (held (slice_get ns.rules i)) else r).name) here
-      ∙ ap (λ o. (with_rule_name ns r (held o)).name) e
+      (if nat_eq id.«module» ns.file then with_rule_name ns r (option_flatten (slice_get ns.rules id.number)) else r).name) is
+      ∙ ap (λ b. (if b then with_rule_name ns r (option_flatten (slice_get ns.rules i)) else r).name) here
+      ∙ ap (λ o. (with_rule_name ns r (option_flatten o)).name) e
 
 -- ---- The first global that is it stays so, whatever is renamed, if each keeps its number.
 module _ {A : Type 0} (value : A → FrozenTree) (Is : ℕ → A → Type 0) (takes : Option FrozenTree → Option ℕ)

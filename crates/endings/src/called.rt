@@ -1,7 +1,7 @@
 //! Providers and rules under the names that they were given.
 ghost use Rattle.std.specs.Prelude.{◌≡◌, IfOk, Some, option_copied, slice_get, unwrap_or};
+ghost use Rattle.std.specs.Option.{option_flatten};
 ghost use Rattle.values.specs.Tree.{leaf};
-ghost use Rattle.evaluation.specs.Evaluated.{held};
 ghost use Rattle.evaluation.specs.Naming.{exported_as, leaf_named, provider_named, rule_named};
 ghost use Rattle.evaluation.specs.Naming.{with_provider_name, with_rule_name};
 
@@ -13,7 +13,7 @@ use values::{ExportName, Exported, Frozen, Leaf, Names, Provider, ProviderRef, R
 
 /// The name of what has this number, if it was given one.
 fn name_at(names: &[Option<Text>], number: u32) -> Option<&Text>
-    ensures { option_copied result ≡ held (slice_get names.now number) }
+    ensures { option_copied result ≡ option_flatten (slice_get names.now number) }
 {
     match names.get(number as usize) {
         Some(Some(name)) => Some(name),

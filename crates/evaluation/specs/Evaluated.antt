@@ -1,8 +1,8 @@
 -- What a module leaves to the files that load it, once its evaluation has ended (Starlark
 -- specification, "Freezing a value" and "Load statements"; docs/PROFILE.md, "After a module's top
 -- level").
-use Rattle.std.specs.Prelude.{ℕ, List, Option, Some, None, option_map, option_and_then, position}
-use Rattle.std.specs.Option.{option_or}
+use Rattle.std.specs.Prelude.{ℕ, List, Option, option_map, option_and_then, position}
+use Rattle.std.specs.Option.{option_or, option_flatten}
 use Rattle.std.specs.Prelude.{bytes_eq, slice_get, is_some}
 use Rattle.std.specs.List.{filter}
 use Rattle.values.specs.Shape.{value_of}
@@ -18,14 +18,9 @@ pub use Rattle.evaluation.specs.declared.handed.Module.{Module}
 abbrev pub Known : Type 0
 Known = Path → Option Module
 
--- what stands in a slot that is there, if it is set
-abbrev pub held : {A : Type 0} → Option (Option A) → Option A
-held None = None
-held (Some o) = o
-
 -- the value of a module's global, by its number among the frozen ones
 abbrev pub frozen_value : List (Option FrozenTree) → ℕ → Option Value
-frozen_value ts n = option_map value_of (held (slice_get ts n))
+frozen_value ts n = option_map value_of (option_flatten (slice_get ts n))
 
 -- what a load gets that asks a module for a name
 abbrev pub global_named : Name → Module → Option Value
@@ -38,4 +33,4 @@ global_names m = filter (λ x. is_some (global_named x m)) m.names
 
 -- the value of a name of the top level, by its number, as the module's functions read it
 abbrev pub name_value : ℕ → Module → Option Value
-name_value n m = option_or (frozen_value m.globals n) (held (slice_get m.loaded n))
+name_value n m = option_or (frozen_value m.globals n) (option_flatten (slice_get m.loaded n))

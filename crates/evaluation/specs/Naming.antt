@@ -3,6 +3,7 @@
 use Rattle.std.specs.Prelude.{ℕ, Bool, true, false, ◌&&◌, nat_eq, List, [], ◌∷◌, length, replicate}
 use Rattle.std.specs.Prelude.{Option, Some, None, is_some, slice_get, slice_set, if◌then◌else◌}
 use Rattle.std.specs.List.{list_all}
+use Rattle.std.specs.Option.{option_flatten}
 use Rattle.values.specs.Tree.{Trees, Pairs, Slots, key, leaf, branch, list, tuple, dict, instance}
 use Rattle.values.specs.Tree.{none, more, stop, pair, end, missing, given}
 use Rattle.values.specs.View.{FrozenTree, FrozenBranch}
@@ -16,7 +17,6 @@ use Rattle.leaves.specs.declared.leaf.Provider.{Provider}
 use Rattle.leaves.specs.declared.leaf.ProviderRef.TheVariants as provider
 use Rattle.leaves.specs.declared.leaf.RuleRef.{RuleRef}
 use Rattle.loading.specs.Loads.{Path, Name}
-use Rattle.evaluation.specs.Evaluated.{held}
 use Rattle.evaluation.specs.declared.made.Made.{Made}
 
 -- The names that the module of a path and a number gives, by the numbers of the providers and of
@@ -100,7 +100,7 @@ module _ (ns : Naming) where
   provider_made_by p None = p
   provider_made_by p (Some id) =
       if nat_eq id.«module» ns.file
-      then with_provider_name p (held (slice_get ns.providers id.number))
+      then with_provider_name p (option_flatten (slice_get ns.providers id.number))
       else p
 
   -- a provider or a rule of another module keeps its name
@@ -110,7 +110,8 @@ module _ (ns : Naming) where
   -- the same, of a rule
   abbrev pub rule_named : RuleRef → RuleRef
   rule_named r =
-      if nat_eq r.id.«module» ns.file then with_rule_name r (held (slice_get ns.rules r.id.number))
+      if nat_eq r.id.«module» ns.file
+      then with_rule_name r (option_flatten (slice_get ns.rules r.id.number))
       else r
 
   -- ---- wherever they stand in values

@@ -64,8 +64,15 @@ pub record OfTarget (W : Type 0) : Type 0 where
   pub files : W → List FileRef
   pub actions : W → List Action
 
--- ---- The state before anything was done: of a file, no name of its top level is bound, and no
--- function has defaults.
+-- the arguments of the call of an implementation: `ctx`, by position
+abbrev pub context_alone : Arguments Value
+context_alone = record { items = value.Leaf (plain.Object object.Context) ∷ []; named = [] }
+
+-- a fault stands in a file, by its path
+abbrev pub by_path : List Path → Fault Kind → Placed Kind
+by_path paths f = record { kind = f.kind; path = path_at paths f.file; line = f.line }
+
+-- ---- The state before anything was done: no name is bound, and no function has defaults.
 
 -- the program of a file without names and statements
 abbrev pub no_program : Program
@@ -75,34 +82,30 @@ no_program = record { globals = []; loaded = 0; slots = 0; steps = no_steps }
 abbrev pub program_at : Files → ℕ → Program
 program_at files n = unwrap_or (slice_get files n) no_program
 
--- of a file, by the limit of its ticks, its path, its number and its program
-abbrev pub state_of_file : ℕ → Path → ℕ → Program → State
-state_of_file limit path n p =
+-- by the limit of its ticks, the owner of what is made, the number of the file, and how many names
+-- and functions that has
+abbrev pub first_state : ℕ → List ℕ → ℕ → ℕ → ℕ → State
+first_state limit owner n names count =
     record {
       heap = [];
       ticks = record { limit = limit; used = 0 };
-      owner = path;
+      owner = owner;
       depsets = 0;
       file = n;
-      globals = replicate (length p.globals) None;
-      loaded = replicate (length p.globals) None;
-      defaults = replicate (length (functions p)) [];
+      globals = replicate names None;
+      loaded = replicate names None;
+      defaults = replicate count [];
     }
+
+-- of a file, by its path, its number and its program
+abbrev pub state_of_file : ℕ → Path → ℕ → Program → State
+state_of_file limit path n p =
+    first_state limit path n (length p.globals) (length (functions p))
 
 -- A target has no names and no functions of its own. Its number is one that no file has, so that
 -- all names and all defaults are those of modules.
 abbrev pub state_of_target : ℕ → LabelParts → ℕ → State
-state_of_target limit l files =
-    record {
-      heap = [];
-      ticks = record { limit = limit; used = 0 };
-      owner = label_text l;
-      depsets = 0;
-      file = files;
-      globals = [];
-      loaded = [];
-      defaults = [];
-    }
+state_of_target limit l files = first_state limit (label_text l) files 0 0
 
 -- ---- What is frozen when a module's top level has ended.
 
@@ -164,14 +167,10 @@ module_ended path n names s made =
 
 -- a limit of ticks; the files of a workspace, and their paths, by number
 module _ (limit : ℕ) (files : Files) (paths : List Path) where
-  -- a fault stands in a file, by its path
-  abbrev pub placed : Fault Kind → Placed Kind
-  placed f = record { kind = f.kind; path = path_at paths f.file; line = f.line }
-
   module _ {W : Type 0} (own : OfModule W) where
     -- what becomes of a module once its top level has ended
     abbrev pub module_after : Path → ℕ → Final (Whole W) Value Kind → Result Module (Ending Kind)
-    module_after path n (Err f) = Err (Faulted (placed f))
+    module_after path n (Err f) = Err (Faulted (by_path paths f))
     module_after path n (Ok r) =
         module_ended path n (program_at files n).globals r.1.state (own.made r.1.work)
 
@@ -191,7 +190,7 @@ module _ (limit : ℕ) (files : Files) (paths : List Path) where
   module _ {W : Type 0} (own : OfBuild W) where
     -- what becomes of a BUILD file once its top level has ended
     abbrev pub targets_after : Final (Whole W) Value Kind → Result (List Target) (Placed Kind)
-    targets_after (Err f) = Err (placed f)
+    targets_after (Err f) = Err (by_path paths f)
     targets_after (Ok r) = Ok (own.declared r.1.work)
 
     -- The BUILD file of this path and number, over these operations: the targets that its top level
@@ -231,13 +230,9 @@ module _ (limit : ℕ) (files : Files) (paths : List Path) where
     -- what an implementation gives once its call has ended: its result is frozen
     abbrev pub target_after : FunctionRef → Final (Whole W) Value Kind
         → Result outcome.Implemented outcome.Fault
-    target_after f (Err e) = Err (fault_placed (placed e))
+    target_after f (Err e) = Err (fault_placed (by_path paths e))
     target_after f (Ok r) =
         implemented_with f r.1.work (freeze_at VISITED_LEVELS r.1.state.heap r.0 r.1.state.ticks)
-
-    -- the arguments of the call: `ctx`, by position
-    abbrev pub with_context : Arguments Value
-    with_context = record { items = value.Leaf (plain.Object object.Context) ∷ []; named = [] }
 
     -- The call of the implementation of a target's rule, over these operations, with `ctx` alone:
     -- its result, frozen, with the Files and the actions. A fault of the call itself, and of
@@ -246,7 +241,7 @@ module _ (limit : ℕ) (files : Files) (paths : List Path) where
         → Result outcome.Implemented outcome.Fault
     run_implementation_by ops l t =
         target_after t.rule.implementation
-        (function_meaning ops files (function_id t.rule.implementation.id) with_context
+        (function_meaning ops files (function_id t.rule.implementation.id) context_alone
         (record { state = state_of_target limit l (length paths); work = own.first }))
 
     -- the same, over the operations of the language

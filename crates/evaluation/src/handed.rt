@@ -1,9 +1,10 @@
 //! What a module comes to.
 ghost use Rattle.std.specs.Prelude.{◌≡◌, bytes_eq, slice_get};
 ghost use Rattle.std.specs.List.{list_any};
+ghost use Rattle.std.specs.Option.{option_flatten};
 ghost use Rattle.values.specs.Seeing.{option_value};
 ghost use Rattle.operations.specs.Names.{listed};
-ghost use Rattle.evaluation.specs.Evaluated.{frozen_value, global_names, global_named, held};
+ghost use Rattle.evaluation.specs.Evaluated.{frozen_value, global_names, global_named};
 ghost use Rattle.evaluation.specs.Evaluated.{name_value};
 
 use crate::made::Made;
@@ -75,7 +76,7 @@ fn frozen_at(trees: &[Option<Frozen>], place: usize) -> Option<Item<'_>>
 
 /// The value at a place, if there is one.
 fn value_at(values: &[Option<Value>], place: usize) -> Option<Item<'_>>
-    ensures { option_value result ≡ held (slice_get values.now place) }
+    ensures { option_value result ≡ option_flatten (slice_get values.now place) }
 {
     match values.get(place) {
         Some(Some(value)) => Some(Item::Value(value)),

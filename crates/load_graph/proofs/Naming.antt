@@ -3,21 +3,22 @@ use Rattle.std.proofs.Common.{◌≡◌, ℕ, ◌+◌, ◌<◌, inl, inr, Bool, 
 use Rattle.std.specs.Prelude.{if◌then◌else◌, MatchOption}
 use Rattle.std.specs.Option.{option_to_list}
 use Rattle.std.proofs.lemmas.List.{map_more, map-append}
+use Rattle.std.specs.List.{cons_option}
 use Rattle.edges.specs.Rows.{has}
 use Rattle.edges.proofs.Tests.{either}
 use Rattle.edges.proofs.Lists.{has-append, has-one}
 use Rattle.loading.specs.Loads.{Path, Load, module_path, of_module, path_at}
-use Rattle.loading.specs.Modules.{with_target, targets}
+use Rattle.loading.specs.Modules.{targets}
 use Rattle.load_graph.specs.Paths.{ArePaths, IsAt, listed, AreNumbers, entry, is_number, leads_back}
 use Rattle.load_graph.proofs.Finding.{entry_at, no_entry, listed_at}
 
 -- ---- rows
 
-targets-push : (ls : List Load) (l : Load) → targets (ls ++ l ∷ []) ≡ targets ls ++ with_target l.target []
+targets-push : (ls : List Load) (l : Load) → targets (ls ++ l ∷ []) ≡ targets ls ++ cons_option l.target []
 targets-push [] l = refl
-targets-push (x ∷ ls) l = behind x.target (targets (ls ++ l ∷ [])) (targets ls) (with_target l.target []) (targets-push ls l)
+targets-push (x ∷ ls) l = behind x.target (targets (ls ++ l ∷ [])) (targets ls) (cons_option l.target []) (targets-push ls l)
   where
-    behind : (t : Option Path) (xs ys zs : List Path) → xs ≡ ys ++ zs → with_target t xs ≡ with_target t ys ++ zs
+    behind : (t : Option Path) (xs ys zs : List Path) → xs ≡ ys ++ zs → cons_option t xs ≡ cons_option t ys ++ zs
     behind None xs ys zs e = e
     behind (Some q) xs ys zs e = ap (λ l. q ∷ l) e
 
@@ -25,14 +26,14 @@ targets-push (x ∷ ls) l = behind x.target (targets (ls ++ l ∷ [])) (targets 
 abbrev pub IsLoaded : List Path → Option Path → Option ℕ → Type 0
 IsLoaded paths target r = MatchOption r (target ≡ None) (λ n. (n < length paths) × (target ≡ Some (path_at paths n)))
 
-named_one : (paths : List Path) (target : Option Path) (r : Option ℕ) → IsLoaded paths target r → AreNumbers paths (with_target target []) (option_to_list r)
+named_one : (paths : List Path) (target : Option Path) (r : Option ℕ) → IsLoaded paths target r → AreNumbers paths (cons_option target []) (option_to_list r)
 named_one paths target None is = record {
   inside = λ d h. absurd (true≢false (sym h));
-  named_is = sym (ap (λ t. with_target t []) is);
+  named_is = sym (ap (λ t. cons_option t []) is);
 }
 named_one paths target (Some n) is = record {
   inside = λ d h. let e = eqb-true d n (sym (has-one n d) ∙ h) in let low = is.0 in omega (arith, e, low);
-  named_is = sym (ap (λ t. with_target t []) is.1);
+  named_is = sym (ap (λ t. cons_option t []) is.1);
 }
 
 joined : (paths named more : List Path) (row others : List ℕ) → AreNumbers paths named row → AreNumbers paths more others → AreNumbers paths (named ++ more) (row ++ others)
@@ -54,12 +55,12 @@ named paths ls = targets (map (of_module (listed paths)) ls)
 pub numbers_more : (paths : List Path) (ls : List Load) (i : ℕ) (l : Load) (row new : List ℕ) (r : Option ℕ) → i < length ls → l ≡ get_or ls i l → AreNumbers paths (named paths (take i ls)) row
     → IsLoaded paths (module_path (listed paths) l.target) r → new ≡ row ++ option_to_list r → AreNumbers paths (named paths (take (i + 1) ls)) new
 numbers_more paths ls i l row new r low is are one grown =
-    let step : named paths (take (i + 1) ls) ≡ named paths (take i ls) ++ with_target (module_path (listed paths) l.target) [] =
+    let step : named paths (take (i + 1) ls) ≡ named paths (take i ls) ++ cons_option (module_path (listed paths) l.target) [] =
     ap targets (map_more (of_module (listed paths)) ls i l low) ∙ targets-push (map (of_module (listed paths)) (take i ls)) (of_module (listed paths) (get_or ls i l))
-    ∙ ap (λ (x : Load). named paths (take i ls) ++ with_target (module_path (listed paths) x.target) []) (sym is) in
+    ∙ ap (λ (x : Load). named paths (take i ls) ++ cons_option (module_path (listed paths) x.target) []) (sym is) in
     subst (λ xs. AreNumbers paths xs new) (sym step)
-    (subst (AreNumbers paths (named paths (take i ls) ++ with_target (module_path (listed paths) l.target) [])) (sym grown)
-    (joined paths (named paths (take i ls)) (with_target (module_path (listed paths) l.target) []) row (option_to_list r) are (named_one paths (module_path (listed paths) l.target) r one)))
+    (subst (AreNumbers paths (named paths (take i ls) ++ cons_option (module_path (listed paths) l.target) [])) (sym grown)
+    (joined paths (named paths (take i ls)) (cons_option (module_path (listed paths) l.target) []) row (option_to_list r) are (named_one paths (module_path (listed paths) l.target) r one)))
 
 -- ---- statements that lead back
 

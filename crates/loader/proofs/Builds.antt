@@ -1,8 +1,8 @@
 -- What `BUILD` files load: a label of anything but a module finds no file, whether or not it is told beforehand.
 use Rattle.std.proofs.Common.{◌≡◌, ◌∙◌, ℕ, Bool, true, false, List, [], ◌∷◌, map, Result, Ok, Err, Option, Some, None, refl, sym, ap}
-use Rattle.std.specs.Prelude.{if◌then◌else◌}
+use Rattle.std.specs.Prelude.{if◌then◌else◌, option_and_then}
 use Rattle.std.specs.Option.{option_or}
-use Rattle.loading.specs.Loads.{Path, Load, Read, LoadFault, found, module_path, module_fault, of_module, of_modules, loads_fault}
+use Rattle.loading.specs.Loads.{Path, Load, Read, LoadFault, module_path, module_fault, of_module, of_modules, loads_fault}
 use Rattle.loading.specs.Modules.{Sources, is_module, any_module, module_of, build_linked, built, value}
 use Rattle.loading.specs.declared.faults.Placed.{Placed}
 use Rattle.modules.specs.Modules.{ModulesView, module_in, modules_of}
@@ -10,13 +10,13 @@ use Rattle.modules.proofs.Outcomes.{are_found}
 
 module _ {T M S K : Type 0} (w : Sources T M S K) where
   no_file : (q : Path) (b : Bool) → is_module w q ≡ b
-      → found w.globals q (any_module w) (if b then Some q else None) ≡ any_module w q
+      → option_and_then (any_module w) (if b then Some q else None) ≡ any_module w q
   no_file q true e = refl
   no_file q false e = sym (ap (λ b. elim b [ true ↦ Some (module_of w q) | false ↦ None ]) e)
 
   module _ (p : Path) where
     found_same : (t : Option Path)
-        → found w.globals p (any_module w) (module_path (is_module w) t) ≡ found w.globals p (any_module w) t
+        → option_and_then (any_module w) (module_path (is_module w) t) ≡ option_and_then (any_module w) t
     found_same None = refl
     found_same (Some q) = no_file q (is_module w q) refl
 
@@ -33,8 +33,8 @@ module _ {T M S K : Type 0} (w : Sources T M S K) where
         ap (λ o. option_or (module_fault w.globals p (of_module (is_module w) l) o)
         (loads_fault w.globals p (any_module w) (map (of_module (is_module w)) ls))) (found_same l.target)
         ∙ ap (λ f. option_or f (loads_fault w.globals p (any_module w) (map (of_module (is_module w)) ls)))
-        (fault_same l (module_path (is_module w) l.target) (found w.globals p (any_module w) l.target))
-        ∙ ap (option_or (module_fault w.globals p l (found w.globals p (any_module w) l.target))) (loads_same ls)
+        (fault_same l (module_path (is_module w) l.target) (option_and_then (any_module w) l.target))
+        ∙ ap (option_or (module_fault w.globals p l (option_and_then (any_module w) l.target))) (loads_same ls)
 
     module _ {B : Type 0} (run : (Path → Option M) → Path → T → Result B (Placed K)) where
       pub built_same : (r : Result (Read T) (S × ℕ)) → built w run p (of_modules (is_module w) r) ≡ built w run p r

@@ -1,15 +1,16 @@
 -- Of a workspace: that modules alone load and are loaded, and what follows for its cycles and heights.
 use Rattle.std.proofs.Common.{◌≡◌, ℕ, zero, suc, Bool, true, false, List, [], ◌∷◌, map, Contains, Option, Some, None, Result, Ok, Err, subst, arith, refl, ap, lt-ltb}
 use Rattle.std.specs.Prelude.{if◌then◌else◌, nat_lt}
+use Rattle.std.specs.List.{cons_option}
 use Rattle.edges.specs.Walks.{OnCycle}
 use Rattle.edges.proofs.Tests.{and_both}
 use Rattle.loading.specs.Loads.{Path, Load, LoadFault, Read, module_path, of_module, of_modules}
-use Rattle.loading.specs.Modules.{Sources, is_module, file, with_target, targets, targets_in, loads_of, is_on_cycle, height_of, is_lower, lower, module_of}
+use Rattle.loading.specs.Modules.{Sources, is_module, file, targets, targets_in, loads_of, is_on_cycle, height_of, is_lower, lower, module_of}
 use Rattle.loading.proofs.Trails.{cycle_from_test, test_from_cycle}
 use Rattle.loading.proofs.Heights.{load_is_lower}
 
 module _ {T M S K : Type 0} (w : Sources T M S K) where
-  of_one : (t : Option Path) (qs : List Path) (q : Path) → Contains (with_target (module_path (is_module w) t) qs) q → (Contains qs q → is_module w q ≡ true) → is_module w q ≡ true
+  of_one : (t : Option Path) (qs : List Path) (q : Path) → Contains (cons_option (module_path (is_module w) t) qs) q → (Contains qs q → is_module w q ≡ true) → is_module w q ≡ true
   of_one None qs q c k = k c
   of_one (Some x) qs q c k = go (is_module w x) refl c
     where
@@ -17,7 +18,7 @@ module _ {T M S K : Type 0} (w : Sources T M S K) where
       take e (zero, low, is) = subst (λ y. is_module w y ≡ true) is e
       take e (suc j, low, is) = k (j, omega (arith, low), is)
 
-      go : (b : Bool) → is_module w x ≡ b → Contains (with_target (if b then Some x else None) qs) q → is_module w q ≡ true
+      go : (b : Bool) → is_module w x ≡ b → Contains (cons_option (if b then Some x else None) qs) q → is_module w q ≡ true
       go true e c = take e c
       go false e c = k c
 

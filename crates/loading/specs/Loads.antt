@@ -6,6 +6,7 @@ use Rattle.std.specs.Option.{option_or}
 use Rattle.std.specs.Prelude.{Ok, Err, if◌then◌else◌, nat_eq, slice_index_or}
 use Rattle.std.specs.List.{list_any}
 use Rattle.std.specs.Str.{bytes_eq}
+use Rattle.std.specs.Prelude.{option_and_then}
 use Rattle.loading.specs.declared.faults.LoadFaultKind.{LoadFaultKind}
 use Rattle.loading.specs.declared.faults.LoadFaultKind.TheVariants.{MissingFile, LoadedModuleFailed}
 use Rattle.loading.specs.declared.faults.LoadFaultKind.TheVariants.{PrivateName, MissingName}
@@ -84,15 +85,9 @@ module _ {S K M : Type 0} (globals : M → List Name) (path : Path) where
   module_fault l (Some (Err f)) = Some (fault_at l.line LoadedModuleFailed)
   module_fault l (Some (Ok m)) = names_fault l.line l.asked m
 
-  -- what is found where a label leads; nothing where it spells no path of a module
-  abbrev pub found : (Path → Option (Result M (LoadFault S K))) → Option Path
-      → Option (Result M (LoadFault S K))
-  found module_at None = None
-  found module_at (Some q) = module_at q
-
   -- The fault of the first statement that has one.
   abbrev pub loads_fault : (Path → Option (Result M (LoadFault S K))) → List Load
       → Option (LoadFault S K)
   loads_fault module_at [] = None
   loads_fault module_at (l ∷ ls) =
-      option_or (module_fault l (found module_at l.target)) (loads_fault module_at ls)
+      option_or (module_fault l (option_and_then module_at l.target)) (loads_fault module_at ls)

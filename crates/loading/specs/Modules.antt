@@ -2,7 +2,7 @@
 -- (docs/PROFILE.md, "Loading"). What a text is read as and what evaluation means come from outside.
 use Rattle.std.specs.Prelude.{ℕ, zero, suc, Bool, true, false, ◌||◌, ◌&&◌, List, [], ◌∷◌, length}
 use Rattle.std.specs.Prelude.{max, Option, Some, None, Result, Ok, Err, if◌then◌else◌, nat_lt}
-use Rattle.std.specs.List.{list_any}
+use Rattle.std.specs.List.{list_any, cons_option}
 use Rattle.std.specs.Str.{bytes_eq}
 use Rattle.edges.specs.Outcomes.{outcome}
 use Rattle.loading.specs.Loads.{Path, Name, Load, LoadFault, Read, of_modules, loads_fault}
@@ -40,15 +40,10 @@ ended p (Err Unnamed) = Err (record { kind = Unexported; path = p; line = 0 })
 
 -- ---- What the load statements of a file name, in their order.
 
--- the path that a label spells, if it spells one, before those of later labels
-abbrev pub with_target : Option Path → List Path → List Path
-with_target None qs = qs
-with_target (Some q) qs = q ∷ qs
-
 -- the paths that the labels of these statements spell
 abbrev pub targets : List Load → List Path
 targets [] = []
-targets (l ∷ ls) = with_target l.target (targets ls)
+targets (l ∷ ls) = cons_option l.target (targets ls)
 
 -- the paths that a file loads; one with a syntax fault loads none
 abbrev pub targets_in : {T E : Type 0} → Result (Read T) E → List Path

@@ -1,7 +1,7 @@
 -- Modules by number: walks, cycles and heights by number are those by path.
 use Rattle.std.proofs.Common.{◌≡◌, ℕ, zero, suc, ◌<◌, inl, inr, Bool, true, false, ◌||◌, List, [], ◌∷◌, length, map, get_or, Option, Some, None, Ok, Contains, sym, ap, ◌∙◌, subst, arith, refl, eqb-true, eq-eqb, nat_eq}
 use Rattle.std.specs.Prelude.{slice_index, if◌then◌else◌}
-use Rattle.std.specs.List.{list_any}
+use Rattle.std.specs.List.{list_any, cons_option}
 use Rattle.edges.specs.Rows.{row}
 use Rattle.edges.specs.Walks.{Walk, Leads, OnCycle}
 use Rattle.edges.proofs.Tests.{cases_of, not_both, map_same, Contains-head, Contains-later}
@@ -10,7 +10,7 @@ use Rattle.components.specs.Components.{IsFound}
 use Rattle.components.proofs.Lists.{leads_edge}
 use Rattle.levels.specs.Levels.{AreHeights}
 use Rattle.loading.specs.Loads.{Path, Load, Read, module_path, of_module, of_modules, path_at}
-use Rattle.loading.specs.Modules.{Sources, file, targets, targets_in, with_target, loads_of, reaches, is_on_cycle, height_of, cycle_line, leads_to, above_all}
+use Rattle.loading.specs.Modules.{Sources, file, targets, targets_in, loads_of, reaches, is_on_cycle, height_of, cycle_line, leads_to, above_all}
 use Rattle.loading.proofs.Trails.{walk_from_reaches, reaches_all}
 use Rattle.loading.proofs.Heights.{height_steps, load_is_lower}
 use Rattle.loading.proofs.Sources.{from_test, to_test, loaded_module, loading_module}
@@ -142,7 +142,7 @@ module _ {T M S K : Type 0} (e : Evaluation T M S K) (paths : List Path) (are : 
 
     -- the line, where a statement with this target stands before others
     abbrev whole : Path → ℕ → List Path → ℕ → Option Path → Option ℕ
-    whole p line others later t = or_none (list_any (reaching p) (with_target t others)) (if leads_to w p t then line else later)
+    whole p line others later t = or_none (list_any (reaching p) (cons_option t others)) (if leads_to w p t then line else later)
 
     split : (b rest' : Bool) (rest : Option ℕ) (line later : ℕ) → rest ≡ or_none rest' later → (if b then Some line else rest) ≡ or_none (b || rest') (if b then line else later)
     split true rest' rest line later is = refl
@@ -160,16 +160,16 @@ module _ {T M S K : Type 0} (e : Evaluation T M S K) (paths : List Path) (are : 
             ≡ whole (at n) l.line (named ls) (cycle_line w (at n) (map (of_module (listed paths)) ls)) (module_path (listed paths) l.target)
         by_target None is rest =
             ap (λ b. if b then Some l.line else line_back paths numbers (get_or numbers n 0) ls) (leads_none paths numbers (get_or numbers n 0) l.target is)
-            ∙ rest (λ q c. among q (subst (λ t. Contains (with_target t (named ls)) q) (sym is) c))
+            ∙ rest (λ q c. among q (subst (λ t. Contains (cons_option t (named ls)) q) (sym is) c))
             ∙ sym (ap (whole (at n) l.line (named ls) (cycle_line w (at n) (map (of_module (listed paths)) ls))) is)
         by_target (Some q) is rest =
-            let there : Contains (loads_of w (at n)) q = among q (subst (λ t. Contains (with_target t (named ls)) q) (sym is) (Contains-head q (named ls))) in
+            let there : Contains (loads_of w (at n)) q = among q (subst (λ t. Contains (cons_option t (named ls)) q) (sym is) (Contains-head q (named ls))) in
             let m = number_of_listed paths q (loaded_module w (at n) q there) in
             let at_m : module_path (listed paths) l.target ≡ Some (at m.0) = is ∙ ap Some (sym m.1.1) in
             let back = back_is n m.0 low m.1.0 (subst (Contains (loads_of w (at n))) (sym m.1.1) there) ∙ ap (reaching (at n)) m.1.1 in
             ap (λ b. if b then Some l.line else line_back paths numbers (get_or numbers n 0) ls) (leads_some paths numbers (get_or numbers n 0) l.target m.0 are number_size m.1.0 at_m ∙ back)
             ∙ split (reaching (at n) q) (list_any (reaching (at n)) (named ls)) (line_back paths numbers (get_or numbers n 0) ls) l.line (cycle_line w (at n) (map (of_module (listed paths)) ls))
-            (rest (λ x c. among x (subst (λ t. Contains (with_target t (named ls)) x) (sym is) (Contains-later q (named ls) x c))))
+            (rest (λ x c. among x (subst (λ t. Contains (cons_option t (named ls)) x) (sym is) (Contains-later q (named ls) x c))))
             ∙ sym (ap (whole (at n) l.line (named ls) (cycle_line w (at n) (map (of_module (listed paths)) ls))) is)
 
     -- of a file that was read

@@ -1,6 +1,6 @@
 -- A module that is evaluated where all that stand lower are done.
 use Rattle.std.proofs.Common.{◌≡◌, ℕ, ◌+◌, ◌<◌, inl, inr, Bool, true, false, ◌&&◌, List, [], ◌∷◌, ◌++◌, length, map, take, get_or, set, Option, Some, None, Result, Ok, Err, sym, ap, ◌∙◌, subst, arith, refl, ltb-true, length-take}
-use Rattle.std.specs.Prelude.{slice_index, nat_lt, if◌then◌else◌}
+use Rattle.std.specs.Prelude.{slice_index, nat_lt, if◌then◌else◌, option_and_then}
 use Rattle.std.specs.Option.{option_or}
 use Rattle.std.proofs.lemmas.List.{get_or-map, length-map, get_or-take, get_or_default, get_or_append_left, get_or_push, length_push, get_or-set_same, get_or-set_other, length-set, ext_get_or}
 use Rattle.edges.specs.Rows.{row}
@@ -9,7 +9,7 @@ use Rattle.edges.proofs.Lists.{below_or_past}
 use Rattle.components.specs.Components.{Found, IsFound}
 use Rattle.components.proofs.Lists.{same_or}
 use Rattle.loading.specs.declared.faults.LoadFaultKind.TheVariants.{LoadCycle}
-use Rattle.loading.specs.Loads.{Path, Load, Read, LoadFault, module_path, of_module, of_modules, module_fault, found, loads_fault, path_at}
+use Rattle.loading.specs.Loads.{Path, Load, Read, LoadFault, module_path, of_module, of_modules, module_fault, loads_fault, path_at}
 use Rattle.loading.specs.Modules.{Sources, targets_in, is_on_cycle, cycle_line, height_of, value, ended, linked, loaded, lower, module_of}
 use Rattle.loading.proofs.ByLoads.{by_loads}
 use Rattle.load_graph.specs.Paths.{ArePaths, listed, AreNumbers, line_back}
@@ -66,11 +66,11 @@ module _ {T M S K : Type 0} (e : Evaluation T M S K) (paths : List Path) (are : 
     abbrev cut : List Load → List Load
     cut ls = map (of_module (listed paths)) ls
 
-    found_is : (t : Option Path) → found {S = S} {K = K} e.globals (at n) (module_at known) t ≡ found {S = S} {K = K} e.globals (at n) (lowers n) (module_path (listed paths) t)
+    found_is : (t : Option Path) → option_and_then (module_at known) t ≡ option_and_then (lowers n) (module_path (listed paths) t)
     found_is None = refl
     found_is (Some q) = same q ∙ go (listed paths q) refl
       where
-        go : (x : Bool) → listed paths q ≡ x → lowers n q ≡ found {S = S} {K = K} e.globals (at n) (lowers n) (if x then Some q else None)
+        go : (x : Bool) → listed paths q ≡ x → lowers n q ≡ option_and_then (lowers n) (if x then Some q else None)
         go true is = refl
         go false is = ap (λ x. pick (x && nat_lt (height_of w q) (height_of w (at n))) q) is
 
@@ -78,7 +78,7 @@ module _ {T M S K : Type 0} (e : Evaluation T M S K) (paths : List Path) (are : 
     fault_is [] = refl
     fault_is (l ∷ ls) =
         ap (λ o. option_or (module_fault {S = S} {K = K} e.globals (at n) l o) (loads_fault {S = S} {K = K} e.globals (at n) (module_at known) ls)) (found_is l.target)
-        ∙ ap (option_or (module_fault {S = S} {K = K} e.globals (at n) (of_module (listed paths) l) (found {S = S} {K = K} e.globals (at n) (lowers n) (module_path (listed paths) l.target)))) (fault_is ls)
+        ∙ ap (option_or (module_fault {S = S} {K = K} e.globals (at n) (of_module (listed paths) l) (option_and_then (lowers n) (module_path (listed paths) l.target)))) (fault_is ls)
 
     run_is : ◌≡◌ {A = Path → Option M} (known_at known) (λ q. value (lowers n q))
     run_is = λ i q. value (same q i)

@@ -1,20 +1,20 @@
 -- What load statements find, and that why a module failed doesn't matter to them.
 use Rattle.std.proofs.Common.{◌≡◌, ℕ, ◌+◌, ◌<◌, inl, inr, true, false, ◌||◌, List, [], ◌∷◌, length, map, drop, get_or, Option, Some, None, Result, Ok, Err, sym, ap, ◌∙◌, arith, refl}
-use Rattle.std.specs.Prelude.{IfOk, if◌then◌else◌}
+use Rattle.std.specs.Prelude.{IfOk, if◌then◌else◌, option_and_then}
 use Rattle.std.specs.Option.{option_or}
 use Rattle.std.specs.Str.{bytes_eq}
 use Rattle.std.specs.List.{list_any}
 use Rattle.std.proofs.lemmas.List.{get_or_default, at_drop_more}
 use Rattle.std.proofs.lemmas.Slice.Eq.{bytes_eq-Decides}
 use Rattle.edges.proofs.Tests.{cases_of}
-use Rattle.loading.specs.Loads.{Path, Name, Load, LoadFault, fault_at, names_fault, module_fault, loads_fault, found}
+use Rattle.loading.specs.Loads.{Path, Name, Load, LoadFault, fault_at, names_fault, module_fault, loads_fault}
 use Rattle.loading.specs.declared.faults.LoadFaultKind.TheVariants.{MissingFile, LoadedModuleFailed}
 use Rattle.loading.specs.Modules.{Sources, value, module_of, any_module}
 use Rattle.load_graph.specs.Paths.{ArePaths, IsAt, listed, entry}
 use Rattle.load_graph.proofs.Finding.{entry_at, no_entry}
 use Rattle.modules.specs.declared.sorting.FileFault.{FileFault}
 use Rattle.modules.specs.Modules.{ModulesView, modules_of}
-use Rattle.modules.specs.Found.{without_fault, with_fault, named_by, found_in}
+use Rattle.modules.specs.Found.{without_fault, with_fault, found_in}
 
 -- ---- a statement's fault, by what is found
 
@@ -32,20 +32,16 @@ module _ {S K M : Type 0} (globals : M → List Name) (path : Path) (l : Load) w
 -- ---- the faults of statements, where the same is found but for faults
 
 module _ {S K M : Type 0} (globals : M → List Name) (path : Path) (at at' : Path → Option (Result M (LoadFault S K))) (same : (q : Path) → without_fault (at q) ≡ without_fault (at' q)) where
-  named_found : (h : Path → Option (Result M (LoadFault S K))) (t : Option Path) → found globals path h t ≡ named_by h t
-  named_found h None = refl
-  named_found h (Some q) = refl
-
-  same_named : (t : Option Path) → without_fault (named_by at t) ≡ without_fault (named_by at' t)
+  same_named : (t : Option Path) → without_fault (option_and_then at t) ≡ without_fault (option_and_then at' t)
   same_named None = refl
   same_named (Some q) = same q
 
   same_faults : (ls : List Load) → loads_fault globals path at ls ≡ loads_fault globals path at' ls
   same_faults [] = refl
   same_faults (l ∷ ls) =
-      let one = fault_is {S = S} {K = K} globals path l (named_by at l.target) ∙ ap (fault_by globals path l) (same_named l.target) ∙ sym (fault_is {S = S} {K = K} globals path l (named_by at' l.target)) in
-      ap (λ o. option_or o (loads_fault globals path at ls)) (ap (module_fault globals path l) (named_found at l.target) ∙ one ∙ ap (module_fault globals path l) (sym (named_found at' l.target)))
-      ∙ ap (option_or (module_fault globals path l (found globals path at' l.target))) (same_faults ls)
+      let one = fault_is {S = S} {K = K} globals path l (option_and_then at l.target) ∙ ap (fault_by globals path l) (same_named l.target) ∙ sym (fault_is {S = S} {K = K} globals path l (option_and_then at' l.target)) in
+      ap (λ o. option_or o (loads_fault globals path at ls)) one
+      ∙ ap (option_or (module_fault globals path l (option_and_then at' l.target))) (same_faults ls)
 
 -- ---- among all modules
 
@@ -108,9 +104,8 @@ module _ {S K M : Type 0} (globals : M → List Name) (path : Path) (at : Path �
   faults_from k = loads_fault globals path at (drop k all)
 
   -- a statement that has no fault
-  pub loads_on : (l : Load) (f : Option (LoadFault S K)) → i < length all → l ≡ get_or all i l → f ≡ module_fault globals path l (named_by at l.target) → f ≡ None
+  pub loads_on : (l : Load) (f : Option (LoadFault S K)) → i < length all → l ≡ get_or all i l → f ≡ module_fault globals path l (option_and_then at l.target) → f ≡ None
       → loads_fault globals path at all ≡ faults_from i → loads_fault globals path at all ≡ faults_from (i + 1)
   loads_on l f low is by none had =
       had ∙ at_drop_more (loads_fault globals path at) all i l low ∙ ap (λ x. loads_fault globals path at (x ∷ drop (i + 1) all)) (sym is)
-      ∙ ap (λ r. option_or (module_fault globals path l r) (faults_from (i + 1))) (named_found globals path at at (λ q. refl) at l.target)
       ∙ ap (λ r. option_or r (faults_from (i + 1))) (sym by ∙ none)

@@ -1,14 +1,14 @@
 -- What is known of a module that is done and stands below a height.
 use Rattle.std.proofs.Common.{◌≡◌, ℕ, zero, suc, ◌<◌, ◌≤◌, false, List, [], ◌∷◌, length, get_or, Option, Some, None, sym, ap, ◌∙◌, arith, refl, lt-ltb, ltb-true}
 use Rattle.std.specs.Prelude.{nat_lt, if◌then◌else◌, MatchOption}
-use Rattle.std.specs.Option.{option_copied}
+use Rattle.std.specs.Option.{option_copied, option_flatten}
 use Rattle.std.specs.Borrow.{Bor}
 use Rattle.std.proofs.lemmas.List.{get_or_default}
 use Rattle.edges.proofs.Tests.{isnt}
 use Rattle.loading.specs.Loads.{Path, path_at}
 use Rattle.load_graph.specs.Paths.{ArePaths, IsAt, listed}
 use Rattle.load_graph.proofs.Finding.{entry_at, no_entry}
-use Rattle.modules.specs.Tables.{Table, joined, module_at, lower_of}
+use Rattle.modules.specs.Tables.{Table, module_at, lower_of}
 
 module _ {R : Type 0} where
   length-lower : (hs : List ℕ) (h : ℕ) (ds : List (Option R)) → length hs ≡ length ds → length (lower_of hs h ds) ≡ length hs
@@ -26,10 +26,10 @@ module _ {R : Type 0} where
       → module_at (record { paths = ps; known = lower_of hs h ds }) (path_at ps n) ≡ (if nat_lt (get_or hs n 0) h then get_or ds n None else None)
   at_number ps hs h ds n are size size' low =
       let e = length-lower hs h ds (size ∙ sym size') in
-      ap joined (entry_at ps (lower_of hs h ds) n None are.distinct low (omega (arith, e, size, low))) ∙ lower_at hs h ds n (omega (arith, size, low)) (omega (arith, size', low))
+      ap option_flatten (entry_at ps (lower_of hs h ds) n None are.distinct low (omega (arith, e, size, low))) ∙ lower_at hs h ds n (omega (arith, size, low)) (omega (arith, size', low))
 
   pub not_there : (t : Table R) (q : Path) → listed t.paths q ≡ false → module_at t q ≡ None
-  not_there t q none = ap joined (no_entry t.paths t.known q none)
+  not_there t q none = ap option_flatten (no_entry t.paths t.known q none)
 
   -- ---- what is read of a table
 

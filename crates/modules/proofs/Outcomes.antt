@@ -1,7 +1,7 @@
 -- What modules came to, sorted out and found by path.
 use Rattle.std.proofs.Common.{◌≡◌, ℕ, zero, suc, ◌+◌, ◌<◌, ◌≤◌, inl, inr, true, false, ◌||◌, List, [], ◌∷◌, ◌++◌, length, map, take, get_or, set, add-one, Option, Some, None, Result, sym, ap, ◌∙◌, subst, arith, refl, true≢false}
 use Rattle.std.specs.Prelude.{if◌then◌else◌, MatchOption}
-use Rattle.std.specs.Option.{option_copied}
+use Rattle.std.specs.Option.{option_copied, option_flatten}
 use Rattle.std.specs.Borrow.{Bor}
 use Rattle.std.specs.Str.{bytes_eq}
 use Rattle.std.specs.List.{list_any}
@@ -16,7 +16,6 @@ use Rattle.loading.specs.Modules.{Sources, value, module_of}
 use Rattle.load_graph.specs.Paths.{ArePaths, IsAt, listed, entry}
 use Rattle.load_graph.proofs.Finding.{entry_at, no_entry}
 use Rattle.modules.specs.declared.sorting.FileFault.{FileFault}
-use Rattle.modules.specs.Tables.{joined}
 use Rattle.modules.specs.Modules.{ModulesView, module_in, value_in, fault_in, faults_in, faults_of, modules_of, AreFound}
 use Rattle.load_graph.specs.Plan.{IsPlan}
 use Rattle.modules.specs.Evaluation.{Evaluation}
@@ -75,15 +74,15 @@ all_modules w values faults done is vs fs =
 -- ---- found by path
 
 module _ {T M S K : Type 0} (w : Sources T M S K) where
-  at_listed : (ps : List Path) (q : Path) → joined (entry ps (map (λ p. value (Some (module_of w p))) ps) q) ≡ value (elim (list_any (bytes_eq q) ps) [ true ↦ Some (module_of w q) | false ↦ None ])
+  at_listed : (ps : List Path) (q : Path) → option_flatten (entry ps (map (λ p. value (Some (module_of w p))) ps) q) ≡ value (elim (list_any (bytes_eq q) ps) [ true ↦ Some (module_of w q) | false ↦ None ])
   at_listed [] q = refl
   at_listed (p ∷ ps) q = elim (cases_of (bytes_eq q p)) [
     | inl here ↦
-        ap (λ b. joined (if b then Some (value (Some (module_of w p))) else entry ps (map (λ p. value (Some (module_of w p))) ps) q)) here
+        ap (λ b. option_flatten (if b then Some (value (Some (module_of w p))) else entry ps (map (λ p. value (Some (module_of w p))) ps) q)) here
         ∙ ap (λ x. value (Some (module_of w x))) (sym ((bytes_eq-Decides q p).0 here))
         ∙ sym (ap (λ b. value (elim (b || list_any (bytes_eq q) ps) [ true ↦ Some (module_of w q) | false ↦ None ])) here)
     | inr other ↦
-        ap (λ b. joined (if b then Some (value (Some (module_of w p))) else entry ps (map (λ p. value (Some (module_of w p))) ps) q)) other
+        ap (λ b. option_flatten (if b then Some (value (Some (module_of w p))) else entry ps (map (λ p. value (Some (module_of w p))) ps) q)) other
         ∙ at_listed ps q
         ∙ sym (ap (λ b. value (elim (b || list_any (bytes_eq q) ps) [ true ↦ Some (module_of w q) | false ↦ None ])) other)
   ]
@@ -103,11 +102,11 @@ module _ {M S K : Type 0} (ps : List Path) (values : List (Option M)) (faults : 
   found_there are size q n k at same d r read copied =
       let low : n < length values = let a = at.0 in omega (arith, a, size) in
       read_as r d (module_in m q) copied
-      (ap (λ x. module_in x q) (sym is) ∙ ap (λ x. joined (entry ps values x)) (sym at.1) ∙ ap joined (entry_at ps values n None are.distinct at.0 low)
+      (ap (λ x. module_in x q) (sym is) ∙ ap (λ x. option_flatten (entry ps values x)) (sym at.1) ∙ ap option_flatten (entry_at ps values n None are.distinct at.0 low)
       ∙ ap (λ x. get_or values x None) (sym same) ∙ sym (read ∙ get_or_default values k d None (omega (arith, low, same))))
 
   pub found_nowhere : (q : Path) → listed ps q ≡ false → module_in m q ≡ None
-  found_nowhere q none = ap (λ x. module_in x q) (sym is) ∙ ap joined (no_entry ps values q none)
+  found_nowhere q none = ap (λ x. module_in x q) (sym is) ∙ ap option_flatten (no_entry ps values q none)
 
 -- ---- who loads whom, before it is planned
 

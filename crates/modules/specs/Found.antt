@@ -20,11 +20,6 @@ found_seen Missing = None
 found_seen Failed = Some None
 found_seen (Module m) = Some (Some m.now)
 
--- what is found where a label leads, if it leads to a path
-abbrev pub named_by : {R : Type 0} → (Path → Option R) → Option Path → Option R
-named_by at None = None
-named_by at (Some q) = at q
-
 -- with some fault for each that failed
 abbrev pub with_fault : {M S K : Type 0} → Path → Option (Option M)
     → Option (Result M (LoadFault S K))

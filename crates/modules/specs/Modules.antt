@@ -1,10 +1,10 @@
 -- What the modules of a workspace came to (this project's own).
 use Rattle.std.specs.Prelude.{◌≡◌, List, [], ◌∷◌, ◌++◌, map, Option, Some, None, Result, Ok, Err}
+use Rattle.std.specs.Option.{option_flatten}
 use Rattle.loading.specs.Loads.{Path, LoadFault}
 use Rattle.loading.specs.Modules.{Sources, value, module_of, any_module}
 use Rattle.load_graph.specs.Paths.{entry}
 use Rattle.modules.specs.declared.sorting.FileFault.{FileFault}
-use Rattle.modules.specs.Tables.{joined}
 
 -- Modules by path: the value of each that has no fault, and the faults of the others, in the order
 -- of their paths.
@@ -15,7 +15,7 @@ pub record ModulesView (M S K : Type 0) : Type 0 where
 
 -- the module at a path
 abbrev pub module_in : {M S K : Type 0} → ModulesView M S K → Path → Option M
-module_in m q = joined (entry m.paths m.values q)
+module_in m q = option_flatten (entry m.paths m.values q)
 
 -- the value of a module, if it came to one
 abbrev pub value_in : {M F : Type 0} → Option (Result M F) → Option M

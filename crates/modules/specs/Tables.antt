@@ -1,5 +1,6 @@
 -- Tables of what modules came to (this project's own).
-use Rattle.std.specs.Prelude.{ℕ, List, [], ◌∷◌, Option, Some, None, Result, if◌then◌else◌, nat_lt}
+use Rattle.std.specs.Prelude.{ℕ, List, [], ◌∷◌, Option, None, Result, if◌then◌else◌, nat_lt}
+use Rattle.std.specs.Option.{option_flatten}
 use Rattle.loading.specs.Loads.{Path}
 use Rattle.loading.specs.Modules.{value}
 use Rattle.load_graph.specs.Paths.{entry}
@@ -9,14 +10,9 @@ pub record Table (R : Type 0) : Type 0 where
   pub paths : List Path
   pub known : List (Option R)
 
--- an entry of a table, if the table has one and what it stands for is known
-abbrev pub joined : {R : Type 0} → Option (Option R) → Option R
-joined None = None
-joined (Some r) = r
-
 -- what the module at a path came to, if that is known
 abbrev pub module_at : {R : Type 0} → Table R → Path → Option R
-module_at t q = joined (entry t.paths t.known q)
+module_at t q = option_flatten (entry t.paths t.known q)
 
 -- the module at a path, if it is known and has no fault
 abbrev pub known_at : {M F : Type 0} → Table (Result M F) → Path → Option M

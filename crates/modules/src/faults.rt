@@ -1,7 +1,7 @@
 //! Why a load statement fails.
-ghost use Rattle.std.specs.Prelude.{◌≡◌, None, Some, IfOk};
+ghost use Rattle.std.specs.Prelude.{◌≡◌, None, Some, IfOk, option_and_then};
 ghost use Rattle.loading.specs.Loads.{is_private, names_fault, module_fault, loads_fault};
-ghost use Rattle.modules.specs.Found.{found_seen, without_fault, named_by};
+ghost use Rattle.modules.specs.Found.{found_seen, without_fault};
 
 use crate::evaluate::Evaluate;
 use crate::found::{Find, Found};
@@ -58,7 +58,8 @@ fn names_fault<T, M, S: Drop, K: Drop, E: Evaluate<T, M, S, K>>(
 
 /// What is found where a statement's label leads.
 fn named<'f, M, S, K, F: Find<M, S, K>>(modules: &'f F, load: &LoadStatement) -> Found<'f, M>
-    ensures { found_seen result ≡ without_fault (named_by (F.at modules.now) load.now.target) }
+    ensures { found_seen result
+        ≡ without_fault (option_and_then (F.at modules.now) load.now.target) }
 {
     match load.target() {
         Some(path) => modules.found(path),
@@ -74,7 +75,7 @@ fn load_fault<T, M, S: Drop, K: Drop, E: Evaluate<T, M, S, K>, F: Find<M, S, K>>
     load: &LoadStatement,
 ) -> Result<Option<Placed<LoadFaultKind<S, K>>>, AllocError>
     ensures { let globals = (E.meaning evaluator.now).globals in
-        let at = named_by (F.at modules.now) load.now.target in
+        let at = option_and_then (F.at modules.now) load.now.target in
         IfOk result (λ f. f ≡ module_fault globals path.now load.now at) }
 {
     match named::<M, S, K, F>(modules, load) {

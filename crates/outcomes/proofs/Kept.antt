@@ -1,6 +1,6 @@
 -- The step of a label keeps coherence, where the call of an implementation does.
 use Rattle.std.proofs.Common.{◌≡◌, ◌⊎◌, inl, inr, ◌∙◌, ℕ, Bool, true, false, List, [], ◌∷◌, ◌++◌, Option, None, Some, Result, Ok, Err, sym, ap, refl}
-use Rattle.std.specs.Prelude.{if◌then◌else◌}
+use Rattle.std.specs.Prelude.{if◌then◌else◌, zip}
 use Rattle.depsets.specs.Flat.{Among}
 use Rattle.depsets.specs.declared.element.Element.TheVariants as element
 use Rattle.values.specs.Tree.{Trees, key, leaf, branch, list, tuple, dict, instance, none, more, tree_list}
@@ -17,7 +17,7 @@ use Rattle.workspace.specs.Labels.{LabelParts, label_text}
 use Rattle.targets.specs.Checks.{Dependency, offers, first_refused}
 use Rattle.targets.specs.Resolving.{Named, target, source_file, failed_package, nothing, dependencies}
 use Rattle.targets.specs.Sources.{first_depset}
-use Rattle.targets.specs.Steps.{Implemented, Fault, missing_default_info, are_instances, branch_instances, instances_in, first_unmade, made_whole, with_instances, finished, unless_refused, analysed, failed_labels, with_outcomes, step}
+use Rattle.targets.specs.Steps.{Implemented, Fault, missing_default_info, are_instances, branch_instances, instances_in, first_unmade, made_whole, with_instances, finished, unless_refused, analysed, failed_labels, step}
 use Rattle.targets.specs.declared.outcome.Outcome.{Outcome}
 use Rattle.targets.specs.declared.outcome.Outcome.TheVariants.{Source, Done, Failed}
 use Rattle.targets.specs.declared.outcome.TargetFault.{TargetFault}
@@ -182,10 +182,10 @@ module _ (l : LabelParts) (given : Depsets Set) (alike : AreCoherent id_of owner
     IfCalled os nothing = Unit {0}
     IfCalled os failed_package = Unit {0}
     IfCalled os source_file = Unit {0}
-    IfCalled os (target t) = IfMade (implement l t (with_outcomes (dependencies t) os))
+    IfCalled os (target t) = IfMade (implement l t (zip (dependencies t) os))
 
     pub step_kept : (r : Named) (os : List Outcome) → IfCalled os r → IsKept (step implement l r os)
     step_kept nothing os made = bare _
     step_kept failed_package os made = bare _
     step_kept source_file os made = source_kept _
-    step_kept (target t) os made = analysed_kept t (with_outcomes (dependencies t) os) made (failed_labels (with_outcomes (dependencies t) os))
+    step_kept (target t) os made = analysed_kept t (zip (dependencies t) os) made (failed_labels (zip (dependencies t) os))

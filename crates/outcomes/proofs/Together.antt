@@ -1,5 +1,6 @@
 -- All modules and all outcomes of a workspace are coherent together.
 use Rattle.std.proofs.Common.{◌≡◌, ◌⊎◌, inl, inr, ◌∙◌, ℕ, zero, suc, Bool, true, false, List, [], ◌∷◌, length, Result, Ok, Err, Contains, map, sym, ap, subst, refl, arith}
+use Rattle.std.specs.Prelude.{zip}
 use Rattle.edges.specs.Outcomes.{AreOutcomes}
 use Rattle.edges.specs.Walks.{Cyclic}
 use Rattle.edges.proofs.Outcomes.{outcome_keeps}
@@ -12,7 +13,7 @@ use Rattle.workspace.specs.Labels.{LabelParts, is_label, label_text, same_label}
 use Rattle.targets.specs.Checks.{Dependency}
 use Rattle.targets.specs.Resolving.{Named, target, source_file, failed_package, nothing, named, named_in, named_dependencies}
 use Rattle.targets.specs.Resolving as resolving
-use Rattle.targets.specs.Steps.{Implemented, Fault, with_outcomes, step}
+use Rattle.targets.specs.Steps.{Implemented, Fault, step}
 use Rattle.targets.specs.declared.outcome.Outcome.{Outcome}
 use Rattle.targets.specs.declared.target.Target.{Target}
 use Rattle.targets.proofs.Facts.{head_in, tail_in, same_label-decides}
@@ -23,7 +24,7 @@ use Rattle.outcomes.proofs.Kept.{IfMade, IfCalled, step_kept}
 use Rattle.outcomes.proofs.Kept as kept
 use Rattle.outcomes.proofs.Owners.{texts_apart}
 
-with_mapped : (f : LabelParts → Outcome) (ls : List LabelParts) → with_outcomes ls (map f ls) ≡ map (λ l. (l, f l)) ls
+with_mapped : (f : LabelParts → Outcome) (ls : List LabelParts) → zip ls (map f ls) ≡ map (λ l. (l, f l)) ls
 with_mapped f [] = refl
 with_mapped f (l ∷ ls) = ap (λ ds. (l, f l) ∷ ds) (with_mapped f ls)
 
@@ -65,7 +66,7 @@ module _ (w : Workspace) (sound : IsSound w) where
 
     module _ (t : LabelParts) (x : Target) (is : named w.paths w.package_at t ≡ target x) where
       abbrev ds : List Dependency
-      ds = with_outcomes (resolving.dependencies x) (map out (resolving.dependencies x))
+      ds = zip (resolving.dependencies x) (map out (resolving.dependencies x))
 
       same_deps : dependencies w t ≡ resolving.dependencies x
       same_deps = ap named_dependencies is

@@ -1,6 +1,7 @@
 -- A call of a rule in two steps.
 use Rattle.std.proofs.Common.{◌≡◌, ◌∙◌, Bool, true, false, ◌||◌, List, [], ◌∷◌, Option, Some, None, Result, Ok, Err, if◌then◌else◌, ap, sym, refl}
 use Rattle.std.specs.Prelude.{codes}
+use Rattle.std.specs.List.{cons_option}
 use Rattle.ticks.specs.Ticking.{Count, Ticking, then_on, FaultOr}
 use Rattle.values.specs.View.{FrozenTree}
 use Rattle.values.specs.Visits.{all_of}
@@ -17,7 +18,7 @@ use Rattle.operations.specs.Items.{or_fault}
 use Rattle.operations.specs.States.{Doing, with_ticks}
 use Rattle.operations.specs.declared.state.State.{State}
 use Rattle.workspace.specs.Labels.{LabelParts}
-use Rattle.targets.specs.RuleCalls.{given_as, given_values, label_from, value_for, each_of, repeats_given, has_declared, fits, after_freezing, typed_call, declares, put_first}
+use Rattle.targets.specs.RuleCalls.{given_as, given_values, label_from, value_for, each_of, repeats_given, has_declared, fits, after_freezing, typed_call, declares}
 use Rattle.targets.specs.declared.attributes.AttributeValue.{AttributeValue}
 use Rattle.targets.specs.declared.attributes.NamedAttribute.{NamedAttribute}
 use Rattle.targets.specs.declared.attributes.Rule.{Rule}
@@ -85,7 +86,7 @@ module _ (g : Given) (h : List Cell) where
   first_frozen rest (Ok p) ih = ih p.1 ∙ dropped p.0 (all_frozen (given_values rest g) p.1)
 
   given_frozen : (o : Option Value) (rest : List NamedAttribute) (c : Count) → ((d : Count) → frozen_for rest g h d ≡ spent (all_frozen (given_values rest g) d))
-      → then_on (frozen_option o h c) (λ u d. frozen_for rest g h d) ≡ spent (all_frozen (put_first o (given_values rest g)) c)
+      → then_on (frozen_option o h c) (λ u d. frozen_for rest g h d) ≡ spent (all_frozen (cons_option o (given_values rest g)) c)
   given_frozen None rest c ih = ih c
   given_frozen (Some v) rest c ih = first_frozen rest (freeze_at VISITED_LEVELS h v c) ih
 

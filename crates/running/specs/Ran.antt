@@ -1,15 +1,12 @@
 -- What a run came to, with its faults placed by path.
 use Rattle.std.specs.Prelude.{List, Result, Ok, Err}
-use Rattle.meaning.specs.Outcome.{Fault, Final}
+use Rattle.meaning.specs.Outcome.{Final}
 use Rattle.ticks.specs.declared.ticks.Kind.{Kind}
 use Rattle.values.specs.declared.value.Value.{Value}
 use Rattle.language.specs.declared.whole.Whole.{Whole}
-use Rattle.loading.specs.Loads.{Path, path_at}
+use Rattle.loading.specs.Loads.{Path}
 use Rattle.loading.specs.declared.faults.Placed.{Placed}
-
--- a fault stands in a file, by its path
-abbrev pub by_path : List Path → Fault Kind → Placed Kind
-by_path paths f = record { kind = f.kind; path = path_at paths f.file; line = f.line }
+use Rattle.evaluation.specs.Runs.{by_path}
 
 -- a value with the state after it, or a fault
 abbrev pub ran : {W : Type 0} → List Path → Final (Whole W) Value Kind

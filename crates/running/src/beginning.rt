@@ -1,7 +1,6 @@
 //! What a run begins with.
 ghost use Rattle.std.specs.Prelude.{◌≡◌, [], IfOk, None, length, replicate};
-ghost use Rattle.evaluation.specs.Runs.{state_of_target};
-ghost use Rattle.running.specs.Given.{first_state};
+ghost use Rattle.evaluation.specs.Runs.{first_state, state_of_target};
 
 use crate::setting::{Setting, TopFile};
 use heap::Heap;
@@ -35,21 +34,21 @@ fn no_defaults(alloc: Global, count: usize) -> Result<Defaults, AllocError>
     Ok(defaults)
 }
 
-/// The state of a file before anything was done.
+/// A state before anything was done.
 fn first_state<'a>(
     alloc: Global,
     limit: u64,
-    path: &Text,
+    owner: &Text,
     file: u32,
     names: usize,
     functions: usize,
 ) -> Result<State<'a>, AllocError>
-    ensures { IfOk result (λ s. s ≡ first_state limit path.now file names functions) }
+    ensures { IfOk result (λ s. s ≡ first_state limit owner.now file names functions) }
 {
     Ok(State {
         heap: Heap::new(alloc),
         ticks: Ticks::new(limit),
-        owner: path.share()?,
+        owner: owner.share()?,
         depsets: 0,
         file,
         globals: unbound(alloc, names)?,
@@ -101,16 +100,7 @@ fn state_of_target<'a>(
 ) -> Result<State<'a>, AllocError>
     ensures { IfOk result (λ s. s ≡ state_of_target limit label.now (length paths.now)) }
 {
-    Ok(State {
-        heap: Heap::new(alloc),
-        ticks: Ticks::new(limit),
-        owner: label.shared_text().share()?,
-        depsets: 0,
-        file: number_past(paths)?,
-        globals: unbound(alloc, 0)?,
-        loaded: Bindings::unbound(alloc, 0)?,
-        defaults: Defaults::new(alloc),
-    })
+    first_state(alloc, limit, label.shared_text(), number_past(paths)?, 0, 0)
 }
 
 /// A target before anything was done, with the work of its place.

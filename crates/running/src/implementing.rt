@@ -6,9 +6,8 @@ ghost use Rattle.meaning.specs.StatementCode.{code_of};
 ghost use Rattle.language.specs.Language.{language, function_id};
 ghost use Rattle.call_stack.specs.LinkedView.{codes_of};
 ghost use Rattle.call_stack.specs.CallView.{arguments_seen};
-ghost use Rattle.evaluation.specs.Runs.{state_of_target};
+ghost use Rattle.evaluation.specs.Runs.{context_alone, state_of_target};
 ghost use Rattle.running.specs.Ran.{ran};
-ghost use Rattle.running.specs.Target.{context_alone};
 
 use crate::beginning::first_of_target;
 use crate::setting::Setting;

@@ -8,9 +8,9 @@ ghost use Rattle.language.specs.Language.{language};
 ghost use Rattle.call_stack.specs.LinkedView.{codes_of};
 ghost use Rattle.machine.specs.StartView.{meaning_of};
 ghost use Rattle.loading.specs.Loads.{path_at};
-ghost use Rattle.evaluation.specs.Runs.{program_at, state_of_file};
+ghost use Rattle.evaluation.specs.Runs.{by_path, program_at, state_of_file};
 ghost use Rattle.running.specs.Given.{AreOf};
-ghost use Rattle.running.specs.Ran.{by_path, ran, top_ran};
+ghost use Rattle.running.specs.Ran.{ran, top_ran};
 
 use crate::beginning::first_of_file;
 use crate::setting::{Setting, TopFile};

@@ -1,10 +1,11 @@
 //! What else an action is given: inputs, words and a mnemonic.
 ghost use Rattle.std.specs.Prelude.{◌≡◌, Ok, Err, Some, option_copied};
+ghost use Rattle.std.specs.Char.{is_ascii_alphabetic};
 ghost use Rattle.std.specs.List.{list_all};
 ghost use Rattle.values.specs.Seeing.{group_items};
 ghost use Rattle.operations.specs.States.{Gives};
 ghost use Rattle.contexts.specs.Actions.{inputs_in, leaf_inputs, words_in};
-ghost use Rattle.contexts.specs.Actions.{mnemonic_in, is_mnemonic, is_letter, file_in};
+ghost use Rattle.contexts.specs.Actions.{mnemonic_in, is_mnemonic, file_in};
 ghost use Rattle.contexts.specs.Actions.{files_from, depset_from};
 ghost use Rattle.operations.specs.Depsets.{all_in};
 ghost use Rattle.operations.specs.Instances.{only_files};
@@ -125,18 +126,12 @@ fn is_mnemonic(text: &Text) -> bool
 
 /// Whether each byte is a letter.
 fn are_letters(bytes: &[u8]) -> bool
-    ensures { result ≡ list_all is_letter bytes.now }
+    ensures { result ≡ list_all is_ascii_alphabetic bytes.now }
 {
     for byte in bytes {
-        if !is_letter(*byte) {
+        if !byte.is_ascii_alphabetic() {
             return false;
         }
     }
     true
-}
-
-fn is_letter(byte: u8) -> bool
-    ensures { result ≡ is_letter byte }
-{
-    (65 <= byte && byte <= 90) || (97 <= byte && byte <= 122)
 }

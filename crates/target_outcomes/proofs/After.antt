@@ -22,12 +22,11 @@ use Rattle.targets.specs.declared.target.Target.{Target}
 use Rattle.contexts.specs.declared.work.Work.{Work}
 use Rattle.evaluation.specs.Evaluated.{Known}
 use Rattle.evaluation.specs.declared.handed.Module.{Module}
-use Rattle.evaluation.specs.Runs.{implemented_with, state_of_target, target_after}
+use Rattle.evaluation.specs.Runs.{context_alone, implemented_with, state_of_target, target_after}
 use Rattle.evaluation.specs.Workspaces.{linked_files}
 use Rattle.evaluation.specs.Worlds.{world}
 use Rattle.implementations.specs.Implementations.{implementation_place, target_world}
 use Rattle.running.specs.Ran.{ran}
-use Rattle.running.specs.Target.{context_alone}
 use Rattle.loader.specs.Files.{known, loads}
 use Rattle.target_outcomes.specs.Implementing.{implement}
 use Rattle.target_outcomes.specs.Seen.{Implements, placed_seen}

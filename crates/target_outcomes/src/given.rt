@@ -1,6 +1,5 @@
 //! What a target is given.
-ghost use Rattle.std.specs.Prelude.{◌≡◌, IfOk, map};
-ghost use Rattle.targets.specs.Steps.{with_outcomes};
+ghost use Rattle.std.specs.Prelude.{◌≡◌, IfOk, map, zip};
 ghost use Rattle.analysis.specs.Seen.{dependencies_seen};
 
 use analysis::{Dependency, Needed};
@@ -15,7 +14,7 @@ pub(crate) fn with_outcomes<'a>(
     outcomes: &[&'a Outcome],
 ) -> Result<Vec<Dependency<'a>>, AllocError>
     ensures { IfOk result (λ ds. dependencies_seen ds.items
-        ≡ with_outcomes needed.now (map (λ r. r.now) outcomes.now)) }
+        ≡ zip needed.now (map (λ r. r.now) outcomes.now)) }
 {
     let mut given = Vec::with_capacity(alloc, outcomes.len())?;
     for (place, outcome) in outcomes.iter().enumerate() {

@@ -1,7 +1,7 @@
 //! The outcomes of targets.
-ghost use Rattle.std.specs.Prelude.{◌≡◌, [], IfOk, map};
+ghost use Rattle.std.specs.Prelude.{◌≡◌, [], IfOk, map, zip};
 ghost use Rattle.workspace.specs.Labels.{label_path, label_text};
-ghost use Rattle.targets.specs.Steps.{analysed, finished, target_outcome, with_outcomes};
+ghost use Rattle.targets.specs.Steps.{analysed, finished, target_outcome};
 ghost use Rattle.analysis.specs.Seen.{dependencies_seen};
 ghost use Rattle.target_outcomes.specs.Implementing.{implement};
 
@@ -102,7 +102,7 @@ impl<'a> Analysis<'a> {
     ) -> Result<Outcome, AllocError>
         ensures { IfOk result (λ o. o
             ≡ target_outcome (implement self.now.files self.now.limit) label.now target.now
-            (with_outcomes dependencies.now (map (λ r. r.now) outcomes.now))) }
+            (zip dependencies.now (map (λ r. r.now) outcomes.now))) }
     {
         let dependencies = with_outcomes(alloc, dependencies, outcomes)?;
         self.analysed(alloc, label, target, dependencies.as_slice())

@@ -8,7 +8,7 @@ use Rattle.targets.specs.declared.attributes.AttributeValue.{AttributeValue}
 use Rattle.targets.specs.declared.attributes.AttributeValue.TheVariants as has
 use Rattle.targets.specs.declared.attributes.NamedAttribute.{NamedAttribute}
 use Rattle.targets.specs.declared.target.Target.{Target}
-pub use Rattle.targets.specs.Defaults.{default_of_kind, value_or, default_of}
+pub use Rattle.targets.specs.Defaults.{default_of_kind, default_of}
 
 -- an attribute whose name begins with `_` can't be set by a target
 abbrev pub is_private : List ℕ → Bool

@@ -1,6 +1,6 @@
 -- The defaults of attributes (Bazel documentation, the module `attr`; docs/PROFILE.md,
 -- "Attributes").
-use Rattle.std.specs.Prelude.{pos, false, [], Option, Some, None}
+use Rattle.std.specs.Prelude.{pos, false, [], None, unwrap_or}
 use Rattle.keys.specs.declared.key.Key.TheVariants as index
 use Rattle.leaves.specs.declared.leaf.AttributeKind.{AttributeKind}
 use Rattle.leaves.specs.declared.leaf.AttributeKind.TheVariants as kind
@@ -18,11 +18,6 @@ default_of_kind kind.StringDict = has.StringDict []
 default_of_kind kind.Label = has.Label None
 default_of_kind kind.LabelList = has.Labels []
 
--- the default that was given, or else this one
-abbrev pub value_or : Option AttributeValue → AttributeValue → AttributeValue
-value_or (Some v) d = v
-value_or None d = d
-
 -- the default of an attribute: the one that was given with it, else that of its kind
 abbrev pub default_of : Attribute → AttributeValue
-default_of a = value_or a.default (default_of_kind a.kind)
+default_of a = unwrap_or a.default (default_of_kind a.kind)

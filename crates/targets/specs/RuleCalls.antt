@@ -4,7 +4,7 @@
 use Rattle.std.specs.Prelude.{ℕ, Bool, true, false, not, ◌&&◌, ◌||◌, nat_eq, List, [], ◌∷◌, length}
 use Rattle.std.specs.Prelude.{Option, Some, None, option_map, option_and_then, Ok, Err, is_some}
 use Rattle.std.specs.Prelude.{if◌then◌else◌, codes, bytes_eq}
-use Rattle.std.specs.List.{list_any, list_all}
+use Rattle.std.specs.List.{list_any, list_all, cons_option}
 use Rattle.leaves.specs.Leaves.{same_key}
 use Rattle.values.specs.Shape.{Shape, key, items, entries, shape}
 use Rattle.ticks.specs.Ticking.{Count, Ticking, then_on}
@@ -149,15 +149,10 @@ has_declared ts l = list_any (λ t. same_label l t.label) ts
 
 -- ---- `steps`: what was given is frozen, without `name`, in the order of the rule's attributes
 
--- an item before others, if there is one
-abbrev pub put_first : {A : Type 0} → Option A → List A → List A
-put_first None xs = xs
-put_first (Some x) xs = x ∷ xs
-
 -- what was given for the attributes of a rule, in their order
 abbrev pub given_values : List NamedAttribute → Given → List Value
 given_values [] g = []
-given_values (a ∷ rest) g = put_first (given_as g a.name) (given_values rest g)
+given_values (a ∷ rest) g = cons_option (given_as g a.name) (given_values rest g)
 
 -- what freezing all that comes to: the ticks after it, or its fault
 abbrev pub frozen_given : Rule → Given → List Cell → Count → Ticking (Unit {0})

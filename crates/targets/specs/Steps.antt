@@ -4,6 +4,7 @@
 use Rattle.std.specs.Prelude.{ℕ, Bool, true, false, not, ◌&&◌, List, [], ◌∷◌, map, Option, Some}
 use Rattle.std.specs.Prelude.{None, Result, Ok, Err, if◌then◌else◌, bytes_eq}
 use Rattle.std.specs.List.{list_any, filter}
+use Rattle.std.specs.Prelude.{zip}
 use Rattle.depsets.specs.declared.element.FileRef.{FileRef}
 use Rattle.values.specs.Tree.{leaf, branch, list, instance, tree_list, slots}
 use Rattle.values.specs.View.{FrozenTree, FrozenBranch}
@@ -114,12 +115,6 @@ is_failed _ = false
 abbrev pub failed_labels : List Dependency → List LabelParts
 failed_labels ds = map (λ d. d.0) (filter (λ d. is_failed d.1) ds)
 
--- the outcomes of dependencies stand in their order
-abbrev pub with_outcomes : List LabelParts → List Outcome → List Dependency
-with_outcomes [] os = []
-with_outcomes (l ∷ ls) [] = []
-with_outcomes (l ∷ ls) (o ∷ os) = (l, o) ∷ with_outcomes ls os
-
 -- `implement` is what a call of the function of a target's rule comes to, with dependencies that
 -- have these outcomes.
 module _ (implement : LabelParts → Target → List Dependency → Result Implemented Fault) where
@@ -144,4 +139,4 @@ module _ (implement : LabelParts → Target → List Dependency → Result Imple
   step l nothing os = Failed fault.NoSuchTarget
   step l failed_package os = Failed fault.PackageFailed
   step l source_file os = Source (record { path = label_path l; owner = label_text l })
-  step l (target t) os = target_outcome l t (with_outcomes (dependencies t) os)
+  step l (target t) os = target_outcome l t (zip (dependencies t) os)

@@ -9,7 +9,6 @@ use Rattle.loading.specs.Loads.{Path}
 use Rattle.loading.specs.declared.faults.Placed.{Placed}
 use Rattle.call_stack.specs.CallView.{arguments_seen}
 use Rattle.running.specs.Ran.{ran}
-use Rattle.running.specs.Target.{context_alone}
 use Rattle.running.proofs.implementing.call.Goals as goal
 
 same_call : {W E : Type 0} (paths : List Path) (t : Whole W) (m n : Final (Whole W) Value Kind)

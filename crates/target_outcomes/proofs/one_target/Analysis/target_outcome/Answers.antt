@@ -1,5 +1,5 @@
 use Rattle.std.proofs.Common.{◌∙◌, map, ap}
-use Rattle.targets.specs.Steps.{with_outcomes}
+use Rattle.std.specs.Prelude.{zip}
 use Rattle.analysis.specs.Seen.{dependencies_seen}
 use Rattle.target_outcomes.specs.Implementing.{implement}
 use Rattle.target_outcomes.proofs.Steps.{of_same}
@@ -8,5 +8,5 @@ use Rattle.target_outcomes.proofs.one_target.Analysis.target_outcome.Goals as go
 pub returns : goal.returns
 returns c =
     of_same c.analysed.result (implement c.args.self.now.files c.args.self.now.limit) c.args.label.now c.args.target.now
-    (dependencies_seen c.as_slice.result.now) (with_outcomes c.args.dependencies.now (map (λ r. r.now) c.args.outcomes.now))
+    (dependencies_seen c.as_slice.result.now) (zip c.args.dependencies.now (map (λ r. r.now) c.args.outcomes.now))
     (ap dependencies_seen c.as_slice.ensures.value ∙ c.in_ok-dependencies.ensures) c.analysed.ensures
