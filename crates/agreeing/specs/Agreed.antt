@@ -1,4 +1,5 @@
--- Where two records of operations agree: on values that are good, in states that hold.
+-- Where two records of operations agree: on values that are good, in states that hold. (This
+-- project's own.)
 use Rattle.std.specs.Prelude.{◌≡◌, ℕ, List}
 use Rattle.grammar.specs.Tree.{Operator, Sign}
 use Rattle.program_tree.specs.Names.{Name}

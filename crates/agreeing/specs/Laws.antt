@@ -1,4 +1,5 @@
 -- Where operations agree, so do calls and top levels: each does the same by either record of them.
+-- (This project's own.)
 use Rattle.std.specs.Prelude.{◌≡◌, ℕ}
 use Rattle.meaning.specs.Operations.{FunctionId, Arguments, Operations}
 use Rattle.meaning.specs.Functions.{Files}

@@ -1,4 +1,4 @@
--- The paths of outputs, in a set.
+-- The paths of outputs, in a set. (This project's own.)
 use Rattle.std.specs.Prelude.{◌≡◌, ◌||◌, ℕ, List, bytes_eq}
 use Rattle.std.specs.List.{list_any}
 use Rattle.std.specs.Borrow.{Bor}

@@ -1,4 +1,4 @@
--- Labels as frozen values.
+-- Labels as frozen values. (Bazel documentation, "Target"; docs/PROFILE.md, "Fields".)
 use Rattle.values.specs.Tree.{leaf}
 use Rattle.values.specs.View.{FrozenTree}
 use Rattle.leaves.specs.declared.leaf.Leaf.TheVariants as plain

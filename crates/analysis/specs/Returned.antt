@@ -1,4 +1,5 @@
--- Instances that were seen, and a set by which their providers are found.
+-- Instances that were seen, and a set by which their providers are found. (docs/PROFILE.md,
+-- "Implementations"; this project's own.)
 use Rattle.std.specs.Prelude.{◌≡◌, ℕ, true, List, Option}
 use Rattle.std.specs.Option.{option_cmp, option_map}
 use Rattle.std.specs.BTreeSet.{BTreeSet, contains}
@@ -18,10 +19,11 @@ made_numbers made = option_map (λ m. (m.«module», m.number)) made
 abbrev pub numbers : Provider → Option (ℕ × ℕ)
 numbers p = made_numbers p.id
 
--- and their order: what has none comes first
+-- the order of such pairs: by the first number, then by the second
 abbrev pub pair_cmp : ℕ × ℕ → ℕ × ℕ → Ordering
 pair_cmp a b = ordering_then (nat_cmp a.0 b.0) (nat_cmp a.1 b.1)
 
+-- and what has none comes first
 abbrev pub numbers_cmp : Option (ℕ × ℕ) → Option (ℕ × ℕ) → Ordering
 numbers_cmp = option_cmp pair_cmp
 

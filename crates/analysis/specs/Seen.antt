@@ -1,4 +1,4 @@
--- Dependencies where they lie, as the definitions of outcomes see them.
+-- Dependencies where they lie, as the definitions of outcomes see them. (This project's own.)
 use Rattle.std.specs.Prelude.{◌≡◌, List, [], ◌∷◌, map, option_map}
 use Rattle.std.specs.Option.{option_or}
 use Rattle.std.specs.BTreeMap.{BTreeMap, get}
@@ -6,10 +6,11 @@ use Rattle.targets.specs.Checks.{Dependency as Seen, dependency_of}
 use Rattle.analysis.specs.declared.dependency.Dependency.{Dependency}
 use Rattle.analysis.specs.Keyed.{Key, key_label, key_cmp, IsKey}
 
--- the label and the outcome of a dependency, of one or of each
+-- the label and the outcome of a dependency
 abbrev pub dependency_seen : Dependency → Seen
 dependency_seen d = (d.label.now, d.outcome.now)
 
+-- the same of several, in their order
 abbrev pub dependencies_seen : List Dependency → List Seen
 dependencies_seen ds = map dependency_seen ds
 

@@ -1,4 +1,4 @@
--- What holds of a workspace as a whole.
+-- What holds of a workspace as a whole. (This project's own.)
 use Rattle.std.specs.Prelude.{◌≡◌, ℕ, List}
 use Rattle.std.specs.List.Sorted.{IsPermutation}
 use Rattle.coherence.specs.Together.{AllCoherent}

@@ -1,4 +1,4 @@
--- A fact for each answer of a delivery.
+-- A fact for each answer of a delivery. (This project's own.)
 use Rattle.board.specs.declared.answers.Readiness.{Readiness}
 use Rattle.board.specs.declared.answers.Readiness.TheVariants.{Ready, Waiting}
 

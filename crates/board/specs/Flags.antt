@@ -1,4 +1,4 @@
--- Flags of nodes as bits, and what they say of the values that are known.
+-- Flags of nodes as bits, and what they say of the values that are known. (This project's own.)
 use Rattle.std.specs.Prelude.{◌≡◌, ℕ, ◌*◌, ◌/◌, ◌%◌, ◌<◌, ◌≤◌, Bool, List, length, eqb, Option}
 use Rattle.std.specs.Prelude.{None, slice_index, slice_index_or}
 use Rattle.std.specs.Int.{bit_at}

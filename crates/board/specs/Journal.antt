@@ -1,5 +1,6 @@
 -- What the journals of all passes say, counted. A node is a number, and its dependencies are the
 -- list at that place of the plan. An edge is a pair: a dependency, and the node that depends on it.
+-- (docs/ARCHITECTURE.md, "The board"; this project's own.)
 use Rattle.std.specs.Prelude.{◌≡◌, ◌⊎◌, ℕ, zero, suc, ◌+◌, ◌<◌, ◌≤◌, Bool, cond, eqb, List, [], ◌∷◌}
 use Rattle.std.specs.Prelude.{length, slice_index, slice_index_or, Option, None, Some}
 use Rattle.board.specs.declared.journal.Journal.{Journal}

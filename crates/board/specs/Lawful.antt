@@ -1,5 +1,5 @@
 -- The law of a board: what its words and the journals of all its passes say of each other, after
--- every step, whichever pass made it.
+-- every step, whichever pass made it. (docs/ARCHITECTURE.md, "The board"; this project's own.)
 use Rattle.std.specs.Prelude.{IsTrue, ◌↔◌, ◌≡◌, ℕ, ◌+◌, ◌<◌, ◌≤◌, Bool, true, List, length}
 use Rattle.std.specs.Prelude.{slice_index, Some}
 use Rattle.board.specs.declared.journal.Journal.{Journal}

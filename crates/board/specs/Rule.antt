@@ -1,6 +1,7 @@
 -- What the table of a board keeps between any two steps. Each seat has a view, a list of journals,
 -- mostly of one: views are joined by `++`, and a joined seat leaves an empty one. The law speaks of
--- all journals, so it does not see how they are grouped.
+-- all journals, so it does not see how they are grouped. (docs/ARCHITECTURE.md, "The board"; this
+-- project's own.)
 use Rattle.std.specs.Prelude.{◌≡◌, ℕ, zero, suc, ◌+◌, false, List, [], ◌∷◌, ◌++◌, map, length, None}
 use Rattle.std.specs.Prelude.{Vec}
 use Rattle.std.specs.declared.alloc.Global.{Global}

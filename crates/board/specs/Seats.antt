@@ -1,5 +1,5 @@
 -- What is said of seats. A seat is a token that steps are made with; its view is a list of
--- journals, of which a pass at rest has one.
+-- journals, of which a pass at rest has one. (This project's own.)
 use Rattle.std.specs.Prelude.{◌≡◌, ℕ, ◌+◌, List, [], length}
 use Rattle.atomic_table.specs.Seated.{TableId}
 use Rattle.atomic_table.specs.declared.shared.Seat.{Seat}

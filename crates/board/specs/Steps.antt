@@ -1,4 +1,5 @@
 -- What each step adds to the journal of the pass that makes it, and what it tells that pass.
+-- (docs/ARCHITECTURE.md, "The board"; this project's own.)
 use Rattle.std.specs.Prelude.{◌≡◌, ◌≢◌, ℕ, ◌+◌, ◌≤◌, true, false, List, [], ◌∷◌, length, Some}
 use Rattle.atomic_table.specs.Table.{Me, Step}
 use Rattle.board.specs.declared.journal.Journal.{Journal}

@@ -1,4 +1,4 @@
--- What a contract sees of a board, of a pass, and of a closed board.
+-- What a contract sees of a board, of a pass, and of a closed board. (This project's own.)
 use Rattle.std.specs.Prelude.{IfSome, ◌≡◌, ℕ, ◌<◌, ◌⊎◌, slice_set, Bool, true, false, List, [], ◌∷◌}
 use Rattle.std.specs.Prelude.{length, map, slice_index_or, Option, None, Some}
 use Rattle.std.specs.List.{All}

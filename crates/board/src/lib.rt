@@ -8,7 +8,7 @@
 //! `specs/Lawful.antt` has the law that the words and the journals of all passes meet after every
 //! step.
 //!
-//! No call waits, and none is tried again. Memory is taken in `new` and `publish` alone.
+//! No call waits, and none is tried again. Memory is taken in `new`, `over` and `publish` alone.
 #![tactic(auto)]
 
 mod answers;

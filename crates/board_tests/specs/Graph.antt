@@ -1,7 +1,9 @@
--- A graph as lists of numbers: of each node its dependencies, and of each node its users.
+-- A graph as lists of numbers: of each node its dependencies, and of each node its users. (This
+-- project's own.)
 use Rattle.std.specs.Prelude.{◌≡◌, ℕ, ◌<◌, ◌≤◌, List, length}
 use Rattle.board.specs.Journal.{times, deps}
 
+-- both lists of a graph: the plan has the dependencies of each node
 pub record GraphView : Type 0 where
   pub plan : List (List ℕ)
   pub users : List (List ℕ)

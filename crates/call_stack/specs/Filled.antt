@@ -1,4 +1,5 @@
--- What one parameter gets, and whether all fit.
+-- What one parameter gets, and whether all fit. (Starlark specification, "Function and method
+-- calls"; slots and the stack are this project's own.)
 use Rattle.std.specs.Prelude.{ℕ, zero, suc, Bool, true, false, Option, Some, None, option_map, List}
 use Rattle.std.specs.Prelude.{[], ◌∷◌, ◌++◌, drop, bytes_eq, slice_get}
 use Rattle.std.specs.Map.{lookup}

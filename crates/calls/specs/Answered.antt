@@ -1,4 +1,4 @@
--- How a call answers an operation that only some have.
+-- How a call answers an operation that only some have. (This project's own.)
 use Rattle.std.specs.Prelude.{◌≡◌, Option, Some, None, Result}
 use Rattle.values.specs.declared.value.Value.{Value}
 use Rattle.ticks.specs.declared.ticks.Broken.{Broken}

@@ -1,4 +1,5 @@
--- What `str` gives of a whole number.
+-- What `str` gives of a whole number. (Starlark specification, "str"; ticks, depth and size are
+-- this project's own.)
 use Rattle.std.specs.Prelude.{ℕ, ℤ, List}
 use Rattle.std.specs.Fmt.{signed_decimal}
 use Rattle.ticks.specs.Ticking.{Count, Ticking, after_tick, with_count, entered}

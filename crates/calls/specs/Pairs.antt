@@ -1,4 +1,5 @@
--- `dict.items()`, of keys and values by place; and a heap that has only cells more.
+-- `dict.items()`, of keys and values by place; and a heap that has only cells more. (Starlark
+-- specification, "dict·items"; the steps in which it is made are this project's own.)
 use Rattle.std.specs.Prelude.{◌≡◌, List, [], ◌∷◌, ◌++◌, Ok}
 use Rattle.values.specs.declared.value.Value.{Value}
 use Rattle.values.specs.declared.cells.Cell.{Cell}

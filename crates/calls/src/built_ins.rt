@@ -62,7 +62,8 @@ fn size_value(size: usize) -> Result<Value, Broken>
 ///
 /// # Errors
 ///
-/// Of each value `steps`, `deep`, and `type` where it has no text; at the end `large`.
+/// Of each value `steps`, `deep`, and `type` where it has no text; at the end `large`. `NoMemory`
+/// where memory was refused.
 pub fn str(alloc: Global, state: &mut State, value: &Operand<'_>) -> Result<Value, Broken>
     ensures { Does (str value.now) state.old result state.new }
 {
@@ -123,7 +124,7 @@ fn printed_text(
 ///
 /// # Errors
 ///
-/// `type`, where it is another value.
+/// `type`, where it is another value; `NoMemory` where memory was refused.
 pub fn list(alloc: Global, state: &mut State, value: &Operand<'_>) -> Result<Value, Broken>
     ensures { Does (list value.now) state.old result state.new }
 {
@@ -150,7 +151,8 @@ fn listed(alloc: Global, value: &Seen<'_>) -> Result<Made, Broken>
 ///
 /// # Errors
 ///
-/// `type`, where it is no string; else `fail` itself.
+/// `type`, where it is no string; else `fail` itself, or `NoMemory` where the count of the text's
+/// names is at its greatest.
 pub fn fail(state: &State, value: &Operand<'_>) -> Result<Value, Broken>
     ensures { Does (fail value.now) state.now result state.now }
 {

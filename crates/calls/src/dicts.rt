@@ -21,7 +21,7 @@ use values::{Broken, Item, Items, Key, Kind, Leaf, Seen, Table, Value};
 ///
 /// # Errors
 ///
-/// `arity`; `type`, where the key can't be one.
+/// `arity`; `type`, where the key can't be one; `NoMemory` where a count is at its greatest.
 pub fn get<'a>(
     state: &State<'_>,
     dict: &Operand<'a>,

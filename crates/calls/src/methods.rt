@@ -27,7 +27,8 @@ use values::{Broken, Item, Kind, Value};
 ///
 /// # Errors
 ///
-/// `arity` before all else.
+/// `arity`, where an argument has a name or their number doesn't fit; then the faults of the method
+/// (`docs/PROFILE.md`, "Calls of the language"). `NoMemory` where memory was refused.
 pub fn call_method<'a>(
     alloc: Global,
     state: &mut State<'_>,

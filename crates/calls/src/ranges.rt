@@ -21,7 +21,7 @@ use values::{Broken, Items, Key, Kind, Value};
 ///
 /// # Errors
 ///
-/// `arity`; `type`, where they are no numbers; then `large`.
+/// `arity`; `type`, where they are no numbers; then `large`. `NoMemory` where memory was refused.
 pub fn range(
     alloc: Global,
     state: &mut State,

@@ -1,4 +1,5 @@
--- The actions of a list, by the first that is equal to them.
+-- The actions of a list, by the first that is equal to them. (docs/PROFILE.md, "Shared actions";
+-- this project's own.)
 use Rattle.std.specs.Prelude.{ℕ, ◌+◌, if◌then◌else◌, List, [], ◌∷◌, ◌++◌, nat_eq, set}
 use Rattle.std.specs.Prelude.{slice_index_or}
 use Rattle.claims.specs.Owned.{Owned}

@@ -1,4 +1,4 @@
--- What actions declare, in order.
+-- What actions declare, in order. (docs/PROFILE.md, "Conflicts"; this project's own.)
 use Rattle.std.specs.Prelude.{ℕ, ◌+◌, Bool, List, [], ◌∷◌, ◌++◌, map}
 use Rattle.std.specs.declared.cmp.Ordering.{Ordering}
 use Rattle.std.specs.Ordering.{nat_cmp, then_cmp, on}

@@ -1,4 +1,4 @@
--- A code of an action with the label of its owner.
+-- A code of an action with the label of its owner. (This project's own.)
 use Rattle.std.specs.Prelude.{ℕ, List, refl}
 use Rattle.std.specs.Coded.{Coded, coded×, code_by}
 use Rattle.depsets.specs.Own.{text_code}

@@ -1,4 +1,5 @@
--- The place in a list of the first action that is equal to one of it.
+-- The place in a list of the first action that is equal to one of it. (docs/PROFILE.md, "Shared
+-- actions"; this project's own.)
 use Rattle.std.specs.Prelude.{ℕ, ◌+◌, Bool, true, ◌&&◌, nat_eq, if◌then◌else◌, List, [], ◌∷◌, ◌++◌}
 use Rattle.std.specs.Prelude.{map, Option, None, Some, is_some, unwrap_or, slice_index_or}
 use Rattle.std.specs.List.{position_or_len}

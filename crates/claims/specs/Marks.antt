@@ -1,4 +1,4 @@
--- Which actions of a list are marked, since they may be equal to others.
+-- Which actions of a list are marked, since they may be equal to others. (This project's own.)
 use Rattle.std.specs.Prelude.{Bool, true, false, List, [], ◌∷◌, set}
 use Rattle.claims.specs.Owned.{Owned}
 use Rattle.claims.specs.declared.commons.Common.{Common}

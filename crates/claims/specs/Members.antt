@@ -1,4 +1,5 @@
--- Actions by the labels of their owners and by their places in a list.
+-- Actions by the labels of their owners and by their places in a list. (docs/PROFILE.md, "Shared
+-- actions" and "Conflicts"; this project's own.)
 use Rattle.std.specs.Prelude.{ℕ, List, [], ◌∷◌, Bool, false, not, ◌||◌, Option, None, Some, nat_eq}
 use Rattle.std.specs.Prelude.{slice_index_or}
 use Rattle.std.specs.declared.cmp.Ordering.{Ordering}

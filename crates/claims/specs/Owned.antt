@@ -1,4 +1,4 @@
--- An action, and the label of the target that registered it.
+-- An action, and the label of the target that registered it. (This project's own.)
 use Rattle.std.specs.Prelude.{ℕ, List}
 use Rattle.actions.specs.declared.action.Action.{Action}
 

@@ -1,4 +1,4 @@
--- What a contract sees of what is compared.
+-- What a contract sees of what is compared. (This project's own.)
 use Rattle.std.specs.Prelude.{ℕ, List, map}
 use Rattle.claims.specs.Same.{Compared}
 use Rattle.claims.specs.Leaders.{Firsts}

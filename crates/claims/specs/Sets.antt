@@ -1,4 +1,4 @@
--- Sets of equal actions as they are found.
+-- Sets of equal actions as they are found. (docs/PROFILE.md, "Shared actions"; this project's own.)
 use Rattle.std.specs.Prelude.{◌≡◌, ◌||◌, Bool, true, false, if◌then◌else◌, List, [], ◌∷◌, ◌++◌, map}
 use Rattle.std.specs.Prelude.{Option, None, Some}
 use Rattle.std.specs.List.{AllZip, flat_map}

@@ -1,4 +1,5 @@
--- How actions are told, as it is found by their leaders and the sets of these.
+-- How actions are told, as it is found by their leaders and the sets of these. (docs/PROFILE.md,
+-- "Shared actions"; this project's own.)
 use Rattle.std.specs.Prelude.{ℕ, ◌+◌, Bool, false, if◌then◌else◌, List, [], ◌∷◌, Option, None, Some}
 use Rattle.std.specs.Prelude.{slice_index_or}
 use Rattle.std.specs.Str.{bytes_eq}

@@ -1,4 +1,4 @@
--- What the definitions of coherence mean, for collections that a test tells.
+-- What the definitions of coherence mean, for collections that a test tells. (This project's own.)
 use Rattle.std.specs.Prelude.{◌≡◌, ◌⊎◌, ℕ, Bool, true, List, map, Contains, Decides}
 use Rattle.std.specs.List.{list_any}
 use Rattle.coherence.specs.Coherent.{Depsets, AreCoherent, AreFresh, IsMade}

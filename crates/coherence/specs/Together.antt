@@ -1,5 +1,5 @@
 -- The depsets of all outcomes of a graph. Each is made by the node that owns it, or was there
--- before, and goes along edges from outcome to outcome.
+-- before, and goes along edges from outcome to outcome. (This project's own.)
 use Rattle.std.specs.Prelude.{◌≡◌, ◌⊎◌, List, Contains}
 use Rattle.edges.specs.Walks.{Cyclic}
 use Rattle.coherence.specs.Coherent.{Depsets, AreCoherent, AreFresh}

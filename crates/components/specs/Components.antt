@@ -1,5 +1,5 @@
 -- Strongly connected components: sets of nodes of which each leads to each other along
--- dependencies.
+-- dependencies. (A notion of all graphs; that they are told by such numbers is this project's own.)
 use Rattle.std.specs.Prelude.{◌≡◌, ◌↔◌, ℕ, ◌<◌, ◌≤◌, true, List, length, slice_index}
 use Rattle.edges.specs.Rows.{row, has}
 use Rattle.edges.specs.Walks.{Leads}

@@ -1,5 +1,6 @@
 -- The search for components along dependencies, depth first, with a path of open components (H. N.
--- Gabow, "Path-based depth-first search for strong and biconnected components", 2000).
+-- Gabow, "Path-based depth-first search for strong and biconnected components", 2000). What is said
+-- of it here is this project's own.
 use Rattle.std.specs.Prelude.{◌≡◌, ◌≢◌, ℕ, ◌-◌, ◌<◌, ◌≤◌, ◌⊎◌, true, List, [], length, slice_index}
 use Rattle.std.specs.Prelude.{slice_index_or}
 use Rattle.edges.specs.Rows.{row, has}

@@ -1,4 +1,4 @@
--- What each turn of the search does.
+-- What each turn of the search does. (This project's own.)
 use Rattle.std.specs.Prelude.{◌≡◌, ℕ, ◌+◌, ◌-◌, ◌<◌, ◌≤◌, List, [], ◌∷◌, ◌++◌, length, take, drop}
 use Rattle.std.specs.Prelude.{slice_set}
 use Rattle.edges.specs.Rows.{row}

@@ -48,7 +48,13 @@ impl Model for Search {
 
     ghost Value = { View };
 
-    ghost view = { λ s. record { path = s.path.items; waiting = s.waiting.items; starts = s.starts.items; places = s.places.items; order = s.order.items } };
+    ghost view = { λ s. record {
+      path = s.path.items;
+      waiting = s.waiting.items;
+      starts = s.starts.items;
+      places = s.places.items;
+      order = s.order.items;
+    } };
 }
 
 impl Search {

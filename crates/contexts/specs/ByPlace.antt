@@ -1,4 +1,5 @@
--- `ctx.files` by the place of an attribute.
+-- `ctx.files` by the place of an attribute. (Bazel documentation, "ctx"; docs/PROFILE.md,
+-- "Fields".)
 use Rattle.std.specs.Prelude.{ℕ, List, Result, slice_get}
 use Rattle.depsets.specs.Listed.{walked}
 use Rattle.ticks.specs.declared.ticks.Kind.{Kind}

@@ -1,4 +1,4 @@
--- Dependencies that are found by their labels.
+-- Dependencies that are found by their labels. (This project's own.)
 use Rattle.std.specs.Prelude.{◌≡◌, ℕ, Bool, true, false, List, length, Option, Some}
 use Rattle.std.specs.Borrow.{Bor}
 use Rattle.std.specs.Prelude.{unwrap_or}

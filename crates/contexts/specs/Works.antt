@@ -1,4 +1,5 @@
 -- When a File is among those that are declared: two Files are the same where path and owner are.
+-- (docs/PROFILE.md, "Equality" and "Calls for files and actions".)
 use Rattle.std.specs.Prelude.{Bool, false, ◌&&◌, ◌||◌, List, [], ◌∷◌, ◌++◌, bytes_eq}
 use Rattle.std.specs.List.{list_any}
 use Rattle.depsets.specs.declared.element.FileRef.{FileRef}

@@ -47,8 +47,8 @@ pub struct TargetContext<'a, I: FileLists> {
 
 impl<'a, I: FileLists> TargetContext<'a, I> {
     /// What the implementation of a label's target reads, with these dependencies. Where they are
-    /// many, the place of each label is noted once. What `I` is to give is a matter of proofs alone: whoever calls
-    /// picks it, and no target or dependency is refused.
+    /// many, the place of each label is noted once. What `I` is to give is a matter of proofs
+    /// alone: whoever calls picks it, and no target or dependency is refused.
     ///
     /// # Errors
     ///

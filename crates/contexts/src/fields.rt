@@ -23,7 +23,7 @@ use values::{Broken, Item, Kind, Leaf, Object, Value};
 /// # Errors
 ///
 /// `name`, where there is no such field; of `ctx.files` `large`, where there are too many Files for
-/// a list.
+/// a list; `NoMemory` where memory was refused.
 pub fn field<'a, 'b, I: FileLists>(
     alloc: Global,
     context: &'a TargetContext<'b, I>,

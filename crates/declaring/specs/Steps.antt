@@ -1,4 +1,4 @@
--- What is declared, by its number.
+-- What is declared, by its number. (This project's own.)
 use Rattle.std.specs.Prelude.{ℕ, List, [], ◌∷◌, ◌++◌, length, Some, Result, Ok}
 use Rattle.leaves.specs.declared.leaf.ExportName.TheVariants as export
 use Rattle.leaves.specs.declared.leaf.Leaf.TheVariants as plain

@@ -26,7 +26,8 @@ use values::{AttributeKind, AttributeRef, Broken, Kind, Leaf, Value};
 ///
 /// # Errors
 ///
-/// `arity`, and then `type`. After an error the module has declared what it had.
+/// `arity`, and then `type`; `NoMemory` where memory was refused. After an error the module has
+/// declared what it had.
 pub fn new_attribute(
     alloc: Global,
     state: &State,

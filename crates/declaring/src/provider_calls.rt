@@ -28,7 +28,8 @@ use values::{
 ///
 /// # Errors
 ///
-/// `arity`, and then `type`. After an error the module has declared what it had.
+/// `arity`, and then `type`; `NoMemory` where memory was refused, or the module has no number left.
+/// After an error the module has declared what it had.
 pub fn new_provider(
     alloc: Global,
     state: &State,

@@ -27,7 +27,8 @@ use values::{Broken, ExportName, Exported, FunctionRef, Kind, Leaf, MadeId, Rule
 ///
 /// # Errors
 ///
-/// `arity`, and then `type`. After an error the module has declared what it had.
+/// `arity`, and then `type`; `NoMemory` where memory was refused, or the module has no number left.
+/// After an error the module has declared what it had.
 pub fn new_rule<A: Attributes>(
     alloc: Global,
     linked: &A,

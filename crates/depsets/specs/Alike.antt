@@ -1,4 +1,5 @@
--- The tests on ids and on elements are equality, so equal ones have one digest.
+-- The tests on ids and on elements are equality, so equal ones have one digest. (This project's
+-- own.)
 use Rattle.std.specs.Prelude.{◌≡◌, ℕ, Bool, true, false, ◌&&◌, List, nat_eq, refl}
 use Rattle.std.proofs.Common.{true≢false, sym, ap, subst}
 use Rattle.std.specs.Bool.{Decides}

@@ -1,4 +1,4 @@
--- Each child of a depset weighs less than it.
+-- Each child of a depset weighs less than it. (This project's own.)
 use Rattle.std.specs.Prelude.{◌≤◌, max}
 use Rattle.std.proofs.Common.{arith}
 use Rattle.depsets.specs.Rose.{weight, most_le-weights}

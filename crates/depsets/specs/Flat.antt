@@ -1,4 +1,5 @@
--- The listing of a depset, its nodes, its work, and what it is to be coherent.
+-- The listing of a depset, its nodes, its work, and what it is to be coherent. (docs/PROFILE.md,
+-- "Listing a depset"; this project's own.)
 use Rattle.std.specs.Prelude.{◌≡◌, ℕ, ◌+◌, Bool, cond, List, [], ◌∷◌, ◌++◌, ◌⊎◌, length, map}
 use Rattle.std.specs.Prelude.{sum_by}
 use Rattle.depsets.specs.Rose.{Rose, Roses, node, none, more, label}

@@ -1,4 +1,4 @@
--- The elements of a listing, wherever they are found.
+-- The elements of a listing, wherever they are found. (This project's own.)
 use Rattle.std.specs.Prelude.{List}
 use Rattle.depsets.specs.declared.element.Element.{Element}
 use Rattle.depsets.specs.declared.distinct.Found.{Found}

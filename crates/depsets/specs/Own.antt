@@ -1,4 +1,5 @@
--- What stands at one depset itself, without its children.
+-- What stands at one depset itself, without its children. (Bazel documentation, "Depsets"; the
+-- types of elements, ids and codes are this project's own; docs/PROFILE.md, "Depsets".)
 use Rattle.std.specs.Prelude.{◌≡◌, ℤ, ℕ, zero, suc, Bool, List, ◌⊎◌, refl}
 use Rattle.std.specs.Coded.{Coded, coded×, coded⊎, coded_ℤ, coded_ℕ, coded_bool, coded_list}
 use Rattle.std.specs.Coded.{code_by}

@@ -1,4 +1,4 @@
--- Trees whose nodes have labels, and a code of them.
+-- Trees whose nodes have labels, and a code of them. (This project's own.)
 use Rattle.std.specs.Prelude.{◌≡◌, ℕ, zero, suc, ◌+◌, ◌<◌, ◌≤◌, max, List, [], ◌∷◌, slice_get, Some}
 use Rattle.std.specs.Prelude.{refl}
 use Rattle.std.specs.Coded.{Coded}

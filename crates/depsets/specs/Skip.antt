@@ -1,4 +1,4 @@
--- The walk that visits no id twice.
+-- The walk that visits no id twice. (docs/PROFILE.md, "Listing a depset"; this project's own.)
 use Rattle.std.specs.Prelude.{ℕ, ◌+◌, Bool, cond, List, length}
 use Rattle.depsets.specs.Rose.{Rose, Roses, node, none, more}
 use Rattle.depsets.specs.Keys.{has, keep, keep_all}

@@ -1,4 +1,5 @@
--- The tree of a depset, and what each of its nodes keeps of it.
+-- The tree of a depset, and what each of its nodes keeps of it. (docs/PROFILE.md, "Depsets"; this
+-- project's own.)
 use Rattle.std.specs.Prelude.{◌≡◌, ◌≤◌, true}
 use Rattle.depsets.specs.Rose.{Rose, node, roses, depth}
 use Rattle.depsets.specs.Own.{Own}

@@ -1,4 +1,4 @@
--- What a walker has seen.
+-- What a walker has seen. (This project's own.)
 use Rattle.depsets.specs.Skip.{Walk}
 use Rattle.depsets.specs.declared.depset.Id.{Id}
 use Rattle.depsets.specs.declared.element.Element.{Element}

@@ -1,4 +1,4 @@
--- What a countdown of dependencies keeps, at each step.
+-- What a countdown of dependencies keeps, at each step. (This project's own.)
 use Rattle.std.specs.Prelude.{◌≡◌, ℕ, suc, ◌<◌, Bool, true, not, ◌||◌, ◌&&◌, cond, List, [], ◌∷◌}
 use Rattle.std.specs.Prelude.{length, take, filter, slice_index, nat_eq, ◌++◌, if◌then◌else◌}
 use Rattle.std.specs.List.{IsDistinct, range_with_len}

@@ -1,4 +1,4 @@
--- What a graph of numbered nodes is.
+-- What a graph of numbered nodes is. (This project's own.)
 use Rattle.std.specs.Prelude.{◌≡◌, ℕ, List}
 use Rattle.edges.specs.Rows.{all_users, ready_of, IsGraph, IsOrdered}
 

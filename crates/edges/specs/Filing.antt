@@ -1,4 +1,4 @@
--- What a walk over the edges counts and files.
+-- What a walk over the edges counts and files. (This project's own.)
 use Rattle.std.specs.Prelude.{◌≡◌, ℕ, ◌+◌, ◌<◌, true, List, [], ◌∷◌, ◌++◌, length, slice_index}
 use Rattle.std.specs.Prelude.{if◌then◌else◌}
 use Rattle.edges.specs.Rows.{row, has, users_of}

@@ -1,4 +1,5 @@
--- Rows in one flat form: all entries, one row behind the other, and where each row starts.
+-- Rows in one flat form: all entries, one row behind the other, and where each row starts. (This
+-- project's own.)
 use Rattle.std.specs.Prelude.{◌≡◌, ℕ, ◌+◌, ◌-◌, ◌<◌, ◌≤◌, List, length, map, slice_index}
 use Rattle.std.specs.List.{range_with_len, slice_range}
 

@@ -1,4 +1,5 @@
--- An order of nodes in which each comes after all its dependencies, as far as that can be.
+-- An order of nodes in which each comes after all its dependencies, as far as that can be. (This
+-- project's own.)
 use Rattle.std.specs.Prelude.{◌≡◌, ℕ, ◌<◌, ◌≤◌, true, not, List, length, map, take, filter}
 use Rattle.std.specs.Prelude.{slice_index, nat_eq}
 use Rattle.std.specs.List.{IsDistinct, range_with_len}

@@ -1,5 +1,6 @@
 -- The outcome of each node, by recursion along dependencies. No order of work, worker or count
--- stands here.
+-- stands here. (Bazel documentation, "Dependencies"; what becomes of cyclic nodes is this project's
+-- own; docs/PROFILE.md, "Outcomes".)
 use Rattle.std.specs.Prelude.{◌≡◌, ◌↔◌, ℕ, zero, suc, Bool, true, false, List, length, map, IsTrue}
 use Rattle.edges.specs.Walks.{Cyclic, is_cyclic}
 use Rattle.edges.specs.Rows.{row}

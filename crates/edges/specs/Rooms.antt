@@ -1,5 +1,5 @@
 -- Lists that fill up: each has a room of its own among the entries, and takes the first of its
--- room.
+-- room. (This project's own.)
 use Rattle.std.specs.Prelude.{◌≡◌, ℕ, ◌+◌, ◌-◌, ◌<◌, ◌≤◌, List, [], ◌∷◌, ◌++◌, length, map, take}
 use Rattle.std.specs.Prelude.{slice_index, slice_set}
 use Rattle.std.specs.List.{range_with_len, slice_range, sum}

@@ -1,5 +1,5 @@
 -- A graph whose nodes are numbers, as a list of rows: the row at a place has the numbers of a
--- node's dependencies, or of its users.
+-- node's dependencies, or of its users. (This project's own.)
 use Rattle.std.specs.Prelude.{◌≡◌, ℕ, ◌<◌, ◌≤◌, Bool, true, List, [], length, map, filter}
 use Rattle.std.specs.Prelude.{slice_index, slice_index_or, nat_eq, Vec}
 use Rattle.std.specs.List.{list_any, IsDistinct, range_with_len}

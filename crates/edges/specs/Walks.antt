@@ -1,5 +1,6 @@
 -- Walks along dependencies, and the nodes that no order can put after all their dependencies. A
--- node is anything that has a list of dependencies: a number, a label, a file.
+-- node is anything that has a list of dependencies: a number, a label, a file. (docs/PROFILE.md,
+-- "Load faults" and "Dependencies and nodes"; this project's own.)
 use Rattle.std.specs.Prelude.{◌≡◌, ℕ, zero, suc, Bool, true, List, Contains}
 use Rattle.std.specs.List.{list_any}
 

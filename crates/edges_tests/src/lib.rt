@@ -1,4 +1,5 @@
-//! Tests of crates `edges`, `components` and `parallel`. They are a crate of their own, so that these are proved once.
+//! Tests of crates `edges`, `components` and `parallel`. They are a crate of their own, so that
+//! these are proved once.
 #![tactic(auto)]
 
 #[cfg(test)]

@@ -23,19 +23,21 @@ use Rattle.evaluation.specs.Runs.{naming_of}
 abbrev pub made_id : ℕ → ℕ → MadeId
 made_id n i = record { «module» = n; number = i }
 
--- this provider, or this rule, is the i-th that the module made
+-- this provider is the i-th that the module made
 abbrev pub IsProvider : ℕ → ℕ → Provider → Type 0
 IsProvider n i p = p.id ≡ Some (made_id n i)
 
+-- this rule is the i-th that the module made
 abbrev pub IsRule : ℕ → ℕ → RuleRef → Type 0
 IsRule n i r = r.id ≡ made_id n i
 
 -- ---- by name: of the first global that is it
 
--- each of them as the value of a global, once that is frozen
+-- a provider as the value of a global, once that is frozen
 abbrev pub provider_value : Provider → FrozenTree
 provider_value p = leaf (plain.Provider p)
 
+-- a rule as the value of a global, once that is frozen
 abbrev pub rule_value : RuleRef → FrozenTree
 rule_value r = leaf (plain.Rule r)
 

@@ -1,4 +1,4 @@
--- A code of frozen values of globals.
+-- A code of frozen values of globals. (This project's own.)
 use Rattle.std.specs.Prelude.{List, Option}
 use Rattle.std.specs.Coded.{Coded, coded_list, coded_option}
 use Rattle.leaves.specs.LeafCodes.{leaf_code, key_code, provider_code}

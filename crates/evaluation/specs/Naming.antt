@@ -48,18 +48,19 @@ is_unnamed _ = false
 abbrev pub given_once : ℕ → Name → List (Option Name) → List (Option Name)
 given_once n x names = if is_unnamed (slice_get names n) then slice_set names n (Some x) else names
 
--- a name for a provider, for a rule, or for any value, unless it isn't this module's or has a name;
--- `DefaultInfo` gets none
+-- a name for a provider, unless it isn't this module's or has one; `DefaultInfo` gets none
 abbrev pub provider_given : Naming → Name → Option MadeId → Naming
 provider_given ns x None = ns
 provider_given ns x (Some id) =
     if nat_eq id.«module» ns.file then record ns { providers = given_once id.number x ns.providers }
     else ns
 
+-- a name for a rule, unless it isn't this module's or has one
 abbrev pub rule_given : Naming → Name → MadeId → Naming
 rule_given ns x id =
     if nat_eq id.«module» ns.file then record ns { rules = given_once id.number x ns.rules } else ns
 
+-- a name for any value without parts; only providers and rules get one
 abbrev pub leaf_given : Naming → Name → Leaf → Naming
 leaf_given ns x (plain.Provider p) = provider_given ns x p.id
 leaf_given ns x (plain.Rule r) = rule_given ns x r.id
@@ -86,11 +87,12 @@ module _ (ns : Naming) where
   abbrev pub exported_as : Name → Exported
   exported_as x = record { path = ns.path; name = export.Global x }
 
-  -- a provider or a rule by the name that it got, if it got one
+  -- a provider by the name that it got, if it got one
   abbrev pub with_provider_name : Provider → Option Name → Provider
   with_provider_name p None = p
   with_provider_name p (Some x) = record p { name = provider.Exported (exported_as x) }
 
+  -- a rule by the name that it got, if it got one
   abbrev pub with_rule_name : RuleRef → Option Name → RuleRef
   with_rule_name r None = r
   with_rule_name r (Some x) = record r { name = exported_as x }

@@ -1,4 +1,5 @@
--- The files of a workspace, as they are read and evaluated.
+-- The files of a workspace, as they are read and evaluated. (docs/PROFILE.md, "Files" and
+-- "Loading"; that files have numbers is this project's own.)
 use Rattle.std.specs.Prelude.{ℕ, Bool, ◌||◌, List, [], ◌∷◌, map, length, unwrap_or, position}
 use Rattle.std.specs.Prelude.{bytes_eq, Result, Ok, Err, if◌then◌else◌}
 use Rattle.std.specs.List.{filter}

@@ -1,4 +1,4 @@
--- What is called, by what was found under its name.
+-- What is called, by what was found under its name. (This project's own.)
 use Rattle.std.specs.Prelude.{ℕ, List, Option, Some, None}
 use Rattle.values.specs.declared.value.Value.{Value}
 use Rattle.meaning.specs.Operations as meant

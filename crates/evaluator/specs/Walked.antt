@@ -1,4 +1,4 @@
--- The items that a walk has left, as the values that they are.
+-- The items that a walk has left, as the values that they are. (This project's own.)
 use Rattle.std.specs.Prelude.{◌≡◌, List, [], ◌∷◌, Option, MatchOption, drop}
 use Rattle.values.specs.declared.sees.Table.{Table}
 use Rattle.values.specs.declared.value.Value.{Value}

@@ -1,5 +1,5 @@
--- The methods of `attr`, which every file finds bound (Bazel documentation, "attr"). Which of its
--- calls are allowed is said of each place.
+-- The methods of `attr`, which every file finds bound (Bazel documentation, "attr";
+-- docs/PROFILE.md, "Calls for attributes"). Which of its calls are allowed is said of each place.
 use Rattle.std.specs.Prelude.{ℕ, Bool, List, Option, Some, None, is_some, codes, bytes_eq}
 use Rattle.std.specs.Prelude.{if◌then◌else◌}
 use Rattle.leaves.specs.declared.leaf.AttributeKind.{AttributeKind}

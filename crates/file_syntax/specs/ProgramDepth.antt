@@ -1,5 +1,5 @@
 -- How deep the parts of a file are inside of one another: what a program that walks it needs of its
--- stack.
+-- stack. (docs/PROFILE.md, "Depth of an expression" and "Columns and blocks"; this project's own.)
 use Rattle.std.specs.Prelude.{ℕ, suc, ◌≤◌, max, None, Some}
 use Rattle.program_tree.specs.Resolved.{Term, named, numeral, quoted, tuple, listing, dict, choice}
 use Rattle.program_tree.specs.Resolved.{operates, turned, selects, subscript, invokes, each}

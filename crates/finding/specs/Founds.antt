@@ -1,4 +1,4 @@
--- What a search for a name gives, as the definitions say it.
+-- What a search for a name gives, as the definitions say it. (This project's own.)
 use Rattle.operations.specs.Fields.{Found as Finding, plainly, with_method}
 use Rattle.finding.specs.declared.finds.Found.{Found}
 use Rattle.finding.specs.declared.finds.Found.TheVariants as found

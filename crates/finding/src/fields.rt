@@ -18,7 +18,8 @@ use values::{Broken, FileRef, Item, Key, Kind, Leaf, Provider, Seen, Slots, Valu
 ///
 /// # Errors
 ///
-/// `name`, where there is no such field. A method that isn't called is none.
+/// `name`, where there is no such field; a method that isn't called is none. `NoMemory` where
+/// memory was refused.
 pub fn field<'a>(
     alloc: Global,
     state: &State<'_>,

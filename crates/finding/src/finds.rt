@@ -25,7 +25,8 @@ pub enum Found<'a> {
 ///
 /// # Errors
 ///
-/// `name`, where there is neither a field nor a method of this name.
+/// `name`, where there is neither a field nor a method of this name; `NoMemory` where memory was
+/// refused.
 pub fn find<'a>(
     alloc: Global,
     state: &State<'_>,

@@ -45,7 +45,7 @@ fn after_colon(text: &str) -> &str
     }
 }
 
-/// The last segment of a path: a new text, unless the path has no other.
+/// The last segment of a path, as a new text.
 pub(crate) fn basename(alloc: Global, path: &Text) -> Result<Text, AllocError>
     ensures { IfOk result (λ t. t ≡ last_part [] path.now) }
 {

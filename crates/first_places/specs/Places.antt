@@ -1,4 +1,4 @@
--- Names that are found at their first places.
+-- Names that are found at their first places. (This project's own.)
 use Rattle.std.specs.Prelude.{◌≡◌, ℕ, List, Option, Some, if◌then◌else◌, bytes_eq}
 use Rattle.std.specs.List.{position_from}
 use Rattle.std.specs.BTreeMap.{BTreeMap, get}

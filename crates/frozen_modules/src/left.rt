@@ -23,7 +23,8 @@ pub struct Left {
 ///
 /// # Errors
 ///
-/// `steps`, `deep` and `type`, as freezing has them. After a `Broken` the ticks are open.
+/// `steps`, `deep` and `type`, as freezing has them; `NoMemory` where memory was refused. After a
+/// `Broken` the ticks are open.
 pub fn freeze_all(
     alloc: Global,
     heap: &Heap,

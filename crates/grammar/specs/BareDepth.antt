@@ -1,4 +1,5 @@
--- How deep the tree of an expression is, without what only its writing has.
+-- How deep the tree of an expression is, without what only its writing has. (docs/PROFILE.md,
+-- "Depth of an expression"; this project's own.)
 use Rattle.std.specs.Prelude.{ℕ, suc, max, List, [], ◌∷◌, Some}
 use Rattle.grammar.specs.Bare.{Tree, named, numeral, quoted, tuple, listing, dict, choice, operates}
 use Rattle.grammar.specs.Bare.{turned, selects, subscript, invokes, each, each_entry, Trees}

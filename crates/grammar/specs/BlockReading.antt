@@ -1,4 +1,6 @@
--- Reading the logical lines of a file into its tree, from the first line to the last.
+-- Reading the logical lines of a file into its tree, from the first line to the last. (Starlark
+-- specification, "Grammar reference"; the limit of depth is this project's own; docs/PROFILE.md,
+-- "Columns and blocks" and "Statements".)
 --
 -- A line is refused that has no form, or whose form may not stand where it does, or that has an
 -- expression which is too deep. What may stand where is said of the lines before it alone, so the

@@ -1,4 +1,5 @@
--- Putting the lines of a file into their blocks, from the last line to the first.
+-- Putting the lines of a file into their blocks, from the last line to the first. (This project's
+-- own.)
 use Rattle.std.specs.Prelude.{ℕ, ◌==◌, true, false, List, [], ◌∷◌, filter_map, Option, option_map}
 use Rattle.grammar.specs.Statements as written
 use Rattle.grammar.specs.FormReading.{form_reads}

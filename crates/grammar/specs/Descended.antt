@@ -1,5 +1,5 @@
 -- What the program's parts of an expression stand for, and a function value that reads the
--- expressions inside.
+-- expressions inside. (This project's own.)
 use Rattle.std.specs.Prelude.{ℕ, map, Result}
 use Rattle.std.specs.declared.alloc.Global.{Global}
 use denote.Ref.{MutBor}

@@ -151,6 +151,7 @@ module _ (n : ℕ) where
   inline_step u true = Some block
   inline_step u false = then_found (simple u) (λ f. Some (statement f))
 
+  -- what belongs to a head, from what is behind its `:`, if it has one
   abbrev pub body_step : Option (List Token) → Option Belongs
   body_step None = None
   body_step (Some u) = inline_step u (is_done u)

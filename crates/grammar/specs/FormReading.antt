@@ -158,6 +158,7 @@ module _ (inside : Row → Parse Expr) (most : ℕ) where
   inline_step [] None = Some block
   inline_step (t ∷ u) None = None
 
+  -- what belongs to a head, from what is behind its `:`, if it has one
   abbrev pub body_step : Option (List Token) → Option Body
   body_step None = None
   body_step (Some u) = inline_step u (simple_at u)

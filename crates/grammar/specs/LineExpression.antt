@@ -1,4 +1,5 @@
--- The expression that a logical line is.
+-- The expression that a logical line is. (docs/PROFILE.md, "Expressions" and "Depth of an
+-- expression"; this project's own.)
 use Rattle.std.specs.Prelude.{◌≡◌, ◌≤◌, List, Option, Some, None}
 use Rattle.lexer.specs.Tokens.{Token}
 use Rattle.grammar.specs.Tree.{Expr}

@@ -1,4 +1,5 @@
 -- The form of a logical line, as the program keeps it: the line itself, and what belongs to it.
+-- (This project's own.)
 use Rattle.std.specs.Prelude.{◌≡◌, ◌≤◌, List, Option, Some, None}
 use Rattle.lexer.specs.Tokens.{Token}
 use Rattle.grammar.specs.Statements as written

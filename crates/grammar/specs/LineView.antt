@@ -1,4 +1,4 @@
--- The lines that the program's lines stand for.
+-- The lines that the program's lines stand for. (This project's own.)
 use Rattle.std.specs.Prelude.{List, [], ◌∷◌, map, option_map}
 use Rattle.grammar.specs.TreeView.{tree_of}
 use Rattle.grammar.specs.BareLines as bare

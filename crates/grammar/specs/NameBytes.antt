@@ -1,4 +1,4 @@
--- The bytes of a name, wherever they stand.
+-- The bytes of a name, wherever they stand. (This project's own.)
 use Rattle.std.specs.Prelude.{ℕ, List}
 use Rattle.grammar.specs.declared.name.Spelled as spelled
 use Rattle.grammar.specs.declared.name.Spelled.TheVariants as s

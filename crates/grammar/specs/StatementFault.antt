@@ -1,4 +1,5 @@
--- The first line at which the statements of a file are refused.
+-- The first line at which the statements of a file are refused. (docs/PROFILE.md, "Statement
+-- faults"; this project's own.)
 use Rattle.std.specs.Prelude.{◌≡◌, ◌↔◌, ℕ, true, false, List, [], ◌∷◌, ◌++◌, map, Err}
 use Rattle.lexer.specs.Tokens.{Placed}
 use Rattle.grammar.specs.Places.{Place}

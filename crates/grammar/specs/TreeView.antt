@@ -1,4 +1,4 @@
--- The tree that the program's tree stands for.
+-- The tree that the program's tree stands for. (This project's own.)
 use Rattle.std.specs.Prelude.{ℕ, List, [], ◌∷◌, map}
 use Rattle.grammar.specs.Tree as written
 use Rattle.grammar.specs.Bare.{Tree, named, numeral, quoted, tuple, listing, dict, choice, operates}

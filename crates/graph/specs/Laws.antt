@@ -1,4 +1,4 @@
--- What becomes of nodes is what becomes of their labels.
+-- What becomes of nodes is what becomes of their labels. (This project's own.)
 use Rattle.std.specs.Prelude.{◌≡◌, ℕ, ◌<◌, List, length}
 use Rattle.workspace.specs.Labels.{LabelParts}
 use Rattle.edges.specs.Rows.{row}

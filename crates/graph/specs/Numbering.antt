@@ -1,4 +1,4 @@
--- Numbers for what is reached: the place of each in a list that grows.
+-- Numbers for what is reached: the place of each in a list that grows. (This project's own.)
 use Rattle.std.specs.Prelude.{◌≡◌, ℕ, ◌<◌, ◌≤◌, ◌⊎◌, ◌++◌, Bool, true, List, length, map}
 use Rattle.std.specs.Prelude.{slice_index_or}
 use Rattle.std.specs.List.{list_any, IsDistinct}

@@ -1,4 +1,4 @@
--- Labels by package and name.
+-- Labels by package and name. (This project's own.)
 use Rattle.std.specs.Prelude.{◌≡◌, ℕ, Bool, true, false, ◌&&◌, List, [], slice_index_or, bytes_eq}
 use Rattle.std.specs.Cmp.{IsEquivalence, decided, on_equiv}
 use Rattle.std.specs.Cmp.Lexicographic.{bytes_decides}

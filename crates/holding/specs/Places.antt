@@ -1,5 +1,5 @@
 -- What the linked files and the place of an evaluation owe, so that the operations of the language
--- keep one tree for an id.
+-- keep one tree for an id. (This project's own.)
 use Rattle.std.specs.Prelude.{◌≡◌, ℕ, List, Some, Ok}
 use Rattle.leaves.specs.declared.leaf.Leaf.{Leaf}
 use Rattle.leaves.specs.declared.leaf.MadeId.{MadeId}

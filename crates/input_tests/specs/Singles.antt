@@ -1,4 +1,4 @@
--- A folder with one file in it, of which all is known.
+-- A folder with one file in it, of which all is known. (This project's own.)
 use Rattle.std.specs.Prelude.{ℕ, List, [], ◌∷◌, Some, None, if◌then◌else◌}
 use Rattle.std.specs.Str.{bytes_eq}
 use Rattle.packing.specs.Folders.{At, file, folder}

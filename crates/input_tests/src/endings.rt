@@ -6,7 +6,8 @@ use pack_host::status;
 use packing::{PackStop, pack};
 use std::alloc::Global;
 
-/// The status of a folder of one file that is packed to a page whose call of this number fails, and what was written.
+/// The status of a folder of one file that is packed to a page whose call of this number fails, and
+/// what was written.
 fn ended(alloc: Global, failing: Option<u64>) -> (u8, usize) {
     let tree = Tree { lines: "f BUILD=x" };
     let mut page = Page::new(alloc, 4, failing, Failing::Stalled);

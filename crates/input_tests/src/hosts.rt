@@ -8,7 +8,8 @@ use std::alloc::Global;
 use std::fs;
 use std::test::Fail;
 
-/// Whether a folder was packed to a module and a package, of which one thing was left out, and is read back.
+/// Whether a folder was packed to a module and a package, of which one thing was left out, and is
+/// read back.
 fn is_so(alloc: Global, packed: Result<Packed, PackStop>, page: Page) -> bool {
     let wanted = b"[[\"a/BUILD\",\"x = 1\\n\"],[\"a/b/c/f.bzl\",\"\"]]".as_slice();
     match packed {

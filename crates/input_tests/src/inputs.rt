@@ -22,7 +22,8 @@ fn padded(alloc: Global, length: usize) -> Result<String, Fail> {
     Ok(input)
 }
 
-/// Inputs of a line each, with how many files they have before them. `-` says that they are refused.
+/// Inputs of a line each, with how many files they have before them. `-` says that they are
+/// refused.
 const ROWS: &str = "0 []
 1  [ [ \"a/BUILD\" , \"x = \\\"y\\\"\\n\" ] ]
 2 [[\"b\", \"\"], [\"a\", \"caf\u{e9}\"]]

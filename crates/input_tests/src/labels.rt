@@ -1,4 +1,5 @@
-//! Labels, as a table of the texts that are read and those that are refused; and what their paths say of files.
+//! Labels, as a table of the texts that are read and those that are refused; and what their paths
+//! say of files.
 use std::alloc::Global;
 use std::test::Fail;
 use workspace::{Label, LabelRefused, is_build_file, is_module, package_of};
@@ -11,7 +12,8 @@ fn is_shared(label: &Label) -> bool {
     }
 }
 
-/// Whether the text is read as a label of this package and name, or is refused where none is wanted.
+/// Whether the text is read as a label of this package and name, or is refused where none is
+/// wanted.
 fn is_read_as(
     alloc: Global,
     text: &str,
@@ -27,8 +29,8 @@ fn is_read_as(
     }
 }
 
-/// A text, the package in which it is read, and the package and the name that it has. `-` stands for none: neither is there
-/// where the text is refused.
+/// A text, the package in which it is read, and the package and the name that it has. `-` stands
+/// for none: neither is there where the text is refused.
 const ROWS: &str = "//p:n,-,p,n
 //p,-,p,p
 //a/b-c,-,a/b-c,b-c

@@ -1,5 +1,5 @@
-//! Tests of the crates that read an input and pack one: `workspace`, `devices`, `request`, `packing` and `pack_host`. They are a
-//! crate of their own, so that these are proved once.
+//! Tests of the crates that read an input and pack one: `workspace`, `devices`, `request`,
+//! `packing` and `pack_host`. They are a crate of their own, so that these are proved once.
 #![tactic(auto)]
 
 #[cfg(test)]

@@ -100,7 +100,8 @@ fn legal_files_are_packed_and_the_others_named(rt: HostRuntime) -> Result<(), Fa
     Ok(())
 }
 
-/// Whether a folder of so many folders, with a module of these bytes in each, is refused, and nothing is written.
+/// Whether a folder of so many folders, with a module of these bytes in each, is refused, and
+/// nothing is written.
 fn is_refused(alloc: Global, folders: usize, bytes: &[u8], strict: bool) -> bool {
     let (packed, page) = packed(alloc, &Crowd { folders, bytes }, strict);
     let is_refused = match &packed {

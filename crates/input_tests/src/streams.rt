@@ -69,7 +69,8 @@ fn is_cut_off(alloc: Global, piece: usize, call: u64, how: Failing) -> bool {
     answer == Err(WriteFailed) && b"a report".starts_with(page.bytes.as_slice())
 }
 
-/// Whether a text is written whole in pieces of so many bytes, or fails with any of the calls, of which the last is a flush.
+/// Whether a text is written whole in pieces of so many bytes, or fails with any of the calls, of
+/// which the last is a flush.
 fn is_written_or_fails(alloc: Global, piece: usize, calls: u64) -> bool {
     for call in 0..calls {
         let is_flush = call.saturating_add(1) == calls;

@@ -7,10 +7,12 @@ use packing::{Folder, Kind, Names, Unread};
 use plain::Text;
 use std::alloc::{AllocError, Global};
 
-/// A folder in memory, written down as lines: a letter, a space, a path and for a file with a text `=` and that text.
+/// A folder in memory, written down as lines: a letter, a space, a path and for a file with a text
+/// `=` and that text.
 ///
-/// `d` is a folder and `l` one that may not be read; `f` is a file, `n` one that isn't UTF-8, and `g` one that goes away;
-/// `s` is a link, `x` a device, and `u` a name that isn't UTF-8. The root isn't written down.
+/// `d` is a folder and `l` one that may not be read; `f` is a file, `n` one that isn't UTF-8, and
+/// `g` one that goes away; `s` is a link, `x` a device, and `u` a name that isn't UTF-8. The root
+/// isn't written down.
 #[derive(Clone, Copy)]
 pub struct Tree<'a> {
     /// The lines.
@@ -97,7 +99,8 @@ impl<'a> Folder for Tree<'a> {
     }
 }
 
-/// A folder of folders `a`, `aa`, `aaa`.. with a module `m.bzl` in each, which all have the same bytes.
+/// A folder of folders `a`, `aa`, `aaa`.. with a module `m.bzl` in each, which all have the same
+/// bytes.
 #[derive(Clone, Copy)]
 pub struct Crowd<'a> {
     /// How many folders.

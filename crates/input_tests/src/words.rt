@@ -2,8 +2,8 @@
 use request::{WordsStop, read_words};
 use std::alloc::{AllocError, Global};
 
-/// The number of workers, the limit of steps and how many labels the words ask for; nothing where they are refused,
-/// and zeros where memory is.
+/// The number of workers, the limit of steps and how many labels the words ask for; nothing where
+/// they are refused, and zeros where memory is.
 fn asked_by(alloc: Global, words: &[&str]) -> Option<(usize, u64, usize)> {
     match read_words(alloc, words) {
         Ok(request) => Some((request.workers.get(), request.steps, request.labels.len())),
@@ -12,7 +12,8 @@ fn asked_by(alloc: Global, words: &[&str]) -> Option<(usize, u64, usize)> {
     }
 }
 
-/// Four words, and what they ask for: the workers, the steps, how many labels. `-` says that they are refused.
+/// Four words, and what they ask for: the workers, the steps, how many labels. `-` says that they
+/// are refused.
 const ROWS: &str = "--workers 1 //a:x //b=1 1000000 2
 --workers=64 --steps 1 //a:x=64 1 1
 //a:x --workers +2 //a:x=2 1000000 2

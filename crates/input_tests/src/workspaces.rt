@@ -16,8 +16,8 @@ fn is_made(alloc: Global, files: &[(&str, &str)], is_workspace: bool) -> bool {
     }
 }
 
-/// Two paths, and whether they are those of a workspace: among others a path twice, an upper case, an empty path, an empty
-/// segment, a path from the root, the folder above, and a space.
+/// Two paths, and whether they are those of a workspace: among others a path twice, an upper case,
+/// an empty path, an empty segment, a path from the root, the folder above, and a space.
 const ROWS: &str = "a/BUILD,a/b.bzl,yes
 a,a,no
 a,A,yes

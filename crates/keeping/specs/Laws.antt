@@ -1,4 +1,4 @@
--- What calls and top levels keep.
+-- What calls and top levels keep. (This project's own.)
 use Rattle.std.specs.Prelude.{ℕ}
 use Rattle.meaning.specs.Operations.{FunctionId, Arguments, Operations}
 use Rattle.meaning.specs.Functions.{Files}

@@ -1,4 +1,5 @@
--- What each operation owes, so that an evaluation keeps what holds of states and of values.
+-- What each operation owes, so that an evaluation keeps what holds of states and of values. (This
+-- project's own.)
 use Rattle.std.specs.Prelude.{ℕ, List}
 use Rattle.grammar.specs.Tree.{Operator, Sign}
 use Rattle.program_tree.specs.Names.{Name}

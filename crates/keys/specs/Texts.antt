@@ -1,4 +1,4 @@
--- Texts that are kept as keys.
+-- Texts that are kept as keys. (This project's own.)
 use Rattle.std.specs.Prelude.{ℕ, List, []}
 use Rattle.keys.specs.declared.key.Key.{Key}
 use Rattle.keys.specs.declared.key.Key.TheVariants as keys

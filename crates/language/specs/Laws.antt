@@ -1,4 +1,4 @@
--- What is so of files over the operations of the language.
+-- What is so of files over the operations of the language. (This project's own.)
 use Rattle.meaning.specs.Correct.{CallsAreMeant, FunctionsAreMeant, TopLevelsAreMeant}
 use Rattle.operations.specs.Names.{Linked}
 use Rattle.language.specs.Place.{Place}

@@ -1,5 +1,6 @@
 -- What only one place has (a module, a `BUILD` file, an implementation): its own work beside the
--- state of an evaluation, its calls, and what its targets and objects show.
+-- state of an evaluation, its calls, and what its targets and objects show. (docs/PROFILE.md,
+-- "Fields" and "Rules of all calls"; this project's own.)
 use Rattle.std.specs.Prelude.{ℕ, Bool, List, Result, Ok, Err}
 use Rattle.leaves.specs.declared.leaf.Leaf.{Leaf}
 use Rattle.values.specs.declared.value.Value.{Value}

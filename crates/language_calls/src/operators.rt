@@ -19,7 +19,7 @@ use values::{Broken, Item, Key, Kind, Value};
 ///
 /// # Errors
 ///
-/// Those of the operator.
+/// Those of the operator; `NoMemory` where memory was refused.
 #[inline(always)]
 pub fn binary(
     alloc: Global,

@@ -1,4 +1,4 @@
--- Where the scanner stands, and what is left to it.
+-- Where the scanner stands, and what is left to it. (This project's own.)
 use Rattle.std.specs.Prelude.{ℕ, ◌+◌, ◌-◌, ◌≤◌, List, length, map, drop, Result}
 use Rattle.lexer.specs.declared.scan.Cursor.{Cursor}
 use Rattle.lexer.specs.declared.token.Token as found

@@ -1,4 +1,4 @@
--- How a fault is printed.
+-- How a fault is printed. (docs/REPORT.md, "Load faults"; this project's own.)
 use Rattle.std.specs.Prelude.{ℕ, List, ◌++◌, codes, decimal}
 use Rattle.lexer.specs.declared.fault.FaultKind.{FaultKind}
 use Rattle.lexer.specs.declared.fault.FaultKind.TheVariants.{Character, Token, Indent, Statement}

@@ -1,5 +1,6 @@
 -- How each token is spelled, and which bytes at the front of a text are one: said of the bytes, as
--- a user writes them.
+-- a user writes them. (Starlark specification, "Lexical elements"; docs/PROFILE.md, "Tokens",
+-- "Reserved words" and "Strings".)
 use Rattle.std.specs.Prelude.{◌≡◌, ◌≢◌, ◌⊎◌, ℕ, ◌+◌, ◌≤◌, Bool, true, false, List, [], ◌∷◌, ◌++◌}
 use Rattle.std.specs.Prelude.{length, take, drop, map, flat_map, codes}
 use Rattle.std.specs.List.{AllByRecursion, list_all}

@@ -1,5 +1,6 @@
 -- The logical lines of a file, and the first fault of the passes over characters, tokens and
--- layout.
+-- layout. (Starlark specification, "Lexical elements"; that there are passes, and their order, is
+-- this project's own; docs/PROFILE.md, "Passes".)
 use Rattle.std.specs.Prelude.{ℕ, List, [], ◌∷◌, length, slice_range, Option, Some, None, Result, Ok}
 use Rattle.std.specs.Prelude.{Err}
 use Rattle.lexer.specs.declared.fault.FaultKind.{FaultKind}

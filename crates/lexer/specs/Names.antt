@@ -1,4 +1,5 @@
--- Whether bytes are a name, by a test.
+-- Whether bytes are a name, by a test. (Starlark specification, "Lexical elements";
+-- docs/PROFILE.md, "Tokens".)
 use Rattle.std.specs.Prelude.{ℕ, ◌+◌, Bool, false, ◌==◌, List, [], ◌∷◌, length}
 use Rattle.lexer.specs.Tokens.{name}
 use Rattle.lexer.specs.Begins.{Begins, token, begins}

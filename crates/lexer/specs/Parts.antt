@@ -1,5 +1,5 @@
 -- A text as the parts that it consists of, one after the other, and its tokens: said of the bytes
--- and of their places.
+-- and of their places. (Starlark specification, "Lexical elements"; docs/PROFILE.md, "Tokens".)
 use Rattle.std.specs.Prelude.{◌≡◌, ℕ, ◌+◌, List, [], ◌∷◌, drop}
 use Rattle.lexer.specs.Characters.{newline}
 use Rattle.lexer.specs.Tokens.{Token, Placed}

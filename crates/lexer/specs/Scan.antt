@@ -1,4 +1,5 @@
--- The tokens of a file, from its first byte to its last.
+-- The tokens of a file, from its first byte to its last. (Starlark specification, "Lexical
+-- elements"; where a token fault stands is this project's own; docs/PROFILE.md, "Passes".)
 use Rattle.std.specs.Prelude.{ℕ, zero, suc, ◌+◌, List, [], ◌∷◌, ◌++◌, Result, Ok, Err}
 use Rattle.lexer.specs.Tokens.{Placed}
 use Rattle.lexer.specs.Begins.{space, line_end, comment, token, nothing, begins}

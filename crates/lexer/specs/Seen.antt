@@ -1,4 +1,4 @@
--- What the program's tokens, which are places in a text, stand for.
+-- What the program's tokens, which are places in a text, stand for. (This project's own.)
 use Rattle.std.specs.Prelude.{ℕ, ◌+◌, ◌≤◌, List, length, slice_range}
 use Rattle.lexer.specs.declared.token.Span as span
 use Rattle.lexer.specs.declared.token.Kind as kind

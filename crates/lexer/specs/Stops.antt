@@ -1,5 +1,5 @@
 -- What an answer of a pass says of the definition that it computes. Want of memory may stand in
--- place of any answer.
+-- place of any answer. (This project's own.)
 use Rattle.std.specs.Prelude.{◌≡◌, ℕ, Result, Err}
 use Rattle.lexer.specs.declared.fault.FaultKind.{FaultKind}
 use Rattle.lexer.specs.declared.fault.SyntaxFault.{SyntaxFault}

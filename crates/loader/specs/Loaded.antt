@@ -1,4 +1,4 @@
--- A workspace whose modules were evaluated.
+-- A workspace whose modules were evaluated. (This project's own.)
 use Rattle.std.specs.Prelude.{ℕ, List}
 use Rattle.std.specs.List.Sorted.{IsPermutation}
 use Rattle.load_graph.specs.Paths.{ArePaths}

@@ -1,4 +1,4 @@
--- What the modules before an evaluation declared, by number.
+-- What the modules before an evaluation declared, by number. (This project's own.)
 use Rattle.std.specs.Prelude.{ℕ, List, Option, option_and_then, slice_get}
 use Rattle.leaves.specs.declared.leaf.MadeId.{MadeId}
 use Rattle.targets.specs.declared.attributes.Attribute.{Attribute}

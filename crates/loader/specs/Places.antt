@@ -1,5 +1,6 @@
 -- The places of the evaluations of files, each with its work: what a module declares, and what a
--- `BUILD` file declares. That of an implementation is `implementations`'.
+-- `BUILD` file declares. That of an implementation is `implementations`'. (docs/PROFILE.md, "Rules
+-- of all calls"; this project's own.)
 use Rattle.std.specs.Prelude.{List, []}
 use Rattle.workspace.specs.FileKinds.{package_of}
 use Rattle.loading.specs.Loads.{Path}

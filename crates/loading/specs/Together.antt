@@ -1,6 +1,6 @@
 -- That all modules of a workspace are coherent together, where the evaluation of each keeps
 -- coherence. What a depset is, its id and the owner of an id come from outside; a module owns by
--- its path.
+-- its path. (This project's own.)
 use Rattle.std.specs.Prelude.{◌≡◌, ℕ, Bool, true, Option, Some, Result, Ok, Err}
 use Rattle.coherence.specs.Coherent.{Depsets, AreCoherent, AreFresh, IsMade}
 use Rattle.loading.specs.Loads.{Path}

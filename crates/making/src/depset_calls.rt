@@ -20,6 +20,7 @@ use values::{Broken, Depset, DepsetError, Element, Id, Key, Kind, Leaf, Order, S
 /// # Errors
 ///
 /// `type` for elements of two types; then `order`, `deep`, and `large` where no serial is left.
+/// `NoMemory` where memory was refused.
 pub fn new_depset(
     alloc: Global,
     state: &mut State,
@@ -168,7 +169,7 @@ fn read_parts(
 /// # Errors
 ///
 /// `type` for an argument, an element, elements of two types, or an order that isn't one; then
-/// `order`, `deep`, and `large` where no serial is left.
+/// `order`, `deep`, and `large` where no serial is left. `NoMemory` where memory was refused.
 pub fn depset(
     alloc: Global,
     state: &mut State,

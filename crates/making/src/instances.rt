@@ -28,7 +28,8 @@ use values::{
 ///
 /// # Errors
 ///
-/// `arity` for a position, and for a name that is none of the provider's fields.
+/// `arity` for a position, and for a name that is none of the provider's fields; `NoMemory` where
+/// memory was refused.
 pub fn construct(
     alloc: Global,
     state: &mut State,
@@ -152,7 +153,7 @@ fn slot_at<'a>(slots: Slots<'a>, place: usize) -> Option<Item<'a>>
 /// # Errors
 ///
 /// `type`, where the files are no depset that is empty or of Files; `large`, where no serial is
-/// left for the default.
+/// left for the default; `NoMemory` where memory was refused.
 pub fn default_info(
     alloc: Global,
     state: &mut State,

@@ -1,4 +1,4 @@
--- Codes that were compiled, each from a file of its own.
+-- Codes that were compiled, each from a file of its own. (This project's own.)
 use Rattle.std.specs.Prelude.{◌≡◌, List, [], ◌∷◌}
 use Rattle.program_tree.specs.Resolved.{Program}
 use Rattle.meaning.specs.Instructions.{FunctionCode, Codes}

@@ -1,4 +1,5 @@
--- What the names of a resolved tree stand for, as the tree has it.
+-- What the names of a resolved tree stand for, as the tree has it. (Starlark specification, "Name
+-- binding and variables"; slots and numbers are this project's own.)
 pub use Rattle.program_tree.specs.declared.names.Binding.{Binding}
 pub use Rattle.program_tree.specs.declared.names.Binding.TheVariants.{
   Slot as slot,

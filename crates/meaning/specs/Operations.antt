@@ -1,6 +1,6 @@
 -- What evaluation does to values and to a state, as a record of operations. What each of them does
 -- is said by the crates above: this one only puts them in order, and all that it says is so for
--- every such record.
+-- every such record. (This project's own.)
 --
 -- `S` is the type of states: the heap, the names of files, the ticks, and whatever else operations
 -- change. `V` is the type of values, `K` that of the kinds of fault.

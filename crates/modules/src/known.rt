@@ -27,7 +27,10 @@ impl<'a, M, S, K> Model for Known<'a, M, S, K> {
 
     ghost Value = { Table (Result M (LoadFault S K)) };
 
-    ghost view = { λ k. record { paths = k.paths.now; known = lower_of k.heights.now k.below k.done.now } };
+    ghost view = { λ k. record {
+      paths = k.paths.now;
+      known = lower_of k.heights.now k.below k.done.now;
+    } };
 
     ghost invariant = { λ k. (length k.heights.now ≡ length k.paths.now)
         × (length k.done.now ≡ length k.paths.now) };

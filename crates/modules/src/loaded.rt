@@ -34,7 +34,11 @@ impl<M, S, K> Model for Modules<M, S, K> {
 
     ghost Value = { ModulesView M S K };
 
-    ghost view = { λ m. record { paths = m.paths; values = m.values.items; faults = m.faults.items } };
+    ghost view = { λ m. record {
+      paths = m.paths;
+      values = m.values.items;
+      faults = m.faults.items;
+    } };
 
     ghost invariant = { λ m. length m.values.items ≡ length m.paths };
 }

@@ -1,4 +1,5 @@
-//! A chain and a cycle of many modules, on a thread with a small stack: nothing recurses by their length.
+//! A chain and a cycle of many modules, on a thread with a small stack: nothing recurses by their
+//! length.
 use crate::fake::{Fake, Names};
 use load_graph::Paths;
 use loading::{FileRead, LoadStatement};

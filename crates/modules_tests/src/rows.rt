@@ -9,8 +9,8 @@ use std::fmt;
 use std::test::Fail;
 use workspace::{Workspace, WorkspaceBuilder, is_module};
 
-/// Files, and behind a bar the faults. A file is its path and words: `LINE:TARGET:NAMES` is a load, where `-` spells no
-/// path, `+NAME` binds a name, and `!LINE` is a syntax fault.
+/// Files, and behind a bar the faults. A file is its path and words: `LINE:TARGET:NAMES` is a load,
+/// where `-` spells no path, `+NAME` binds a name, and `!LINE` is a syntax fault.
 const ROWS: &str = "a/p.bzl +x; a/q.bzl 1:a/p.bzl:x +y|
 a/p.bzl +x; a/q.bzl 1:a/p.bzl:x +y; a/r.bzl 1:a/q.bzl:y,x|a/r.bzl missing name at a/r.bzl:1;
 a/p.bzl +x; a/r.bzl 1:a/p.bzl:_u 2:a/none.bzl:v|a/r.bzl private name at a/r.bzl:1;
@@ -108,7 +108,8 @@ fn told(alloc: Global, faults: &[FileFault<u8, u8>]) -> Result<String, fmt::Erro
     Ok(text)
 }
 
-/// What these files are read as: those of the modules, in the order of their paths, as the table has them.
+/// What these files are read as: those of the modules, in the order of their paths, as the table
+/// has them.
 pub(crate) fn fake_of(
     alloc: Global,
     workspace: &Workspace,

@@ -1,4 +1,5 @@
--- What holds at each point of an evaluation, from what it is given to what it leaves.
+-- What holds at each point of an evaluation, from what it is given to what it leaves. (This
+-- project's own.)
 use Rattle.std.specs.Prelude.{◌≡◌, ℕ, ◌+◌, ◌⊎◌, List, [], ◌∷◌, ◌++◌}
 use Rattle.coherence.specs.Coherent.{IsMade}
 use Rattle.depsets.specs.Flat.{Among}

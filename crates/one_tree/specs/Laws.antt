@@ -1,4 +1,4 @@
--- What keeps one tree for an id.
+-- What keeps one tree for an id. (This project's own.)
 use Rattle.std.specs.Prelude.{◌≡◌, ℕ, ◌+◌, List, [], ◌∷◌, Ok}
 use Rattle.depsets.specs.Flat.{Among}
 use Rattle.depsets.specs.Listed.{IsCoherent}

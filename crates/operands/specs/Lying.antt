@@ -1,4 +1,5 @@
--- Operands, as the values that they are: of one's own, or lent by what lives longer.
+-- Operands, as the values that they are: of one's own, or lent by what lives longer. (This
+-- project's own.)
 use Rattle.values.specs.declared.value.Value.{Value}
 use Rattle.values.specs.Seeing.{item_value}
 use Rattle.operands.specs.declared.operand.Lies.{Lies}

@@ -34,11 +34,12 @@ with_argument (Ok v) f s = f v s
 with_argument (Err k) f s = Err k
 
 -- what `len` answers: how many bytes a string has, items a list or a tuple, entries a dict; all
--- else has no length
+-- else has no length. Here of a key
 abbrev pub key_size : Key → Option ℕ
 key_size (index.Text t) = Some (length t)
 key_size _ = None
 
+-- the length of any value, by what it shows
 abbrev pub size_in : Shape → Option ℕ
 size_in (key k) = key_size k
 size_in (items j xs) = Some (length xs)
@@ -49,15 +50,16 @@ size_in _ = None
 abbrev pub len : Value → Op Value
 len v s = keeping (of_type (size_in (shape s.heap v)) (λ n. Ok (number (pos n)))) s
 
--- str(x): the text of a value, and the ticks after its visit
+-- the text of a value as a string, with the ticks after its visit; or the fault of the visit
 abbrev pub text_value : State → Result (List ℕ × Count) Kind → Doing Value
 text_value s (Ok p) = Ok (text p.0, record s { ticks = p.1 })
 text_value s (Err k) = Err k
 
+-- str(x)
 abbrev pub str : Value → Op Value
 str v s = text_value s (repr_of s.heap v s.ticks)
 
--- range(n), range(a, b): a new list of the numbers, which may be too many (`large`)
+-- a new list of these numbers, or `large` where they are too many
 abbrev pub numbers : Option (List ℤ) → Result Made Kind
 numbers (Some ns) = Ok (new.List (map number ns))
 numbers None = Err kind.Large
@@ -73,6 +75,7 @@ range_in h (n ∷ []) = range_between (Some (pos 0)) (number_in (shape h n))
 range_in h (a ∷ b ∷ []) = range_between (number_in (shape h a)) (number_in (shape h b))
 range_in h _ = Err kind.Arity
 
+-- range(n), range(a, b): a new list
 abbrev pub range : Given → Op Value
 range g s = make (then_give (positions g) (range_in s.heap)) s
 

@@ -44,12 +44,12 @@ made_by None p g s = new_default_info p g s
 abbrev pub instance_call : Provider → Given → Op Value
 instance_call p g s = made_by p.id p g s
 
--- a method of one argument that only a string has, and one without arguments that only a depset
--- has: called on any other value it is `type`
+-- a method of one argument that only a string has: called on any other value it is `type`
 abbrev pub of_text : (List ℕ → Value → Op Value) → Option (List ℕ) → List Value → Op Value
 of_text f (Some t) vs s = with_one (f t) vs s
 of_text f None vs s = Err kind.Wrong
 
+-- a method without arguments that only a depset has: called on any other value it is `type`
 abbrev pub of_depset : Option (Rose Own) → List Value → Op Value
 of_depset (Some d) vs s = with_none (to_list d) vs s
 of_depset None vs s = Err kind.Wrong
@@ -73,5 +73,6 @@ abbrev pub method_with : Result (List Value) Kind → Method → Value → Op Va
 method_with (Ok vs) m v s = method_of m v vs s
 method_with (Err k) m v s = Err k
 
+-- the call of a method, with what it is given
 abbrev pub method_call : Method → Value → Given → Op Value
 method_call m v g s = method_with (positions g) m v s

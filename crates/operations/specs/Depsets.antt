@@ -29,17 +29,20 @@ use Rattle.operations.specs.Reading.{string_in, sequence_in, depset_in, of_type}
 use Rattle.operations.specs.Making.{new_list, truth, number, text}
 use Rattle.operations.specs.Arguments.{Given, Parameter, Bound, optional, named_only, bound}
 
--- what may be an element of a depset: strings, whole numbers, bools, labels and Files
+-- what may be an element of a depset: strings, whole numbers, bools, labels and Files. Here the
+-- first three
 abbrev pub key_element : Key → Element
 key_element (index.Text t) = element.Text t
 key_element (index.Number n) = element.Number n
 key_element (index.Truth b) = element.Truth b
 
+-- a label or a File as an element; no other leaf may be one
 abbrev pub leaf_element : Leaf → Option Element
 leaf_element (plain.Label t) = Some (element.Label t)
 leaf_element (plain.File f) = Some (element.File f)
 leaf_element _ = None
 
+-- the element that a value is, by what it shows, if it may be one
 abbrev pub element_in : Shape → Option Element
 element_in (key k) = Some (key_element k)
 element_in (atom l) = leaf_element l
@@ -74,6 +77,7 @@ order_named t =
     if bytes_eq t (codes "preorder") then Some order.Preorder else
     None
 
+-- the order that a text names, if there is a text
 abbrev pub order_text : Option (List ℕ) → Option Order
 order_text (Some t) = order_named t
 order_text None = None
@@ -142,6 +146,7 @@ depset_with (Ok (es ∷ o ∷ ds ∷ [])) s = depset_of es o ds s
 depset_with (Ok _) s = Err kind.Arity
 depset_with (Err k) s = Err k
 
+-- the call of `depset`
 abbrev pub depset : Given → Op Value
 depset g s = depset_with (bound depset_parameters g) s
 

@@ -24,11 +24,12 @@ use Rattle.operations.specs.Names.{in_slot}
 abbrev pub field_in : List ℕ → List (List ℕ) → List (Option Value) → Option Value
 field_in x names os = in_slot (at_place os (place_named x names))
 
--- the package of the label `//PACKAGE:NAME`, and its name
+-- what stands before the first colon: of `PACKAGE:NAME` the package
 abbrev pub before_colon : List ℕ → List ℕ
 before_colon [] = []
 before_colon (b ∷ bs) = if nat_eq b 58 then [] else b ∷ before_colon bs
 
+-- what stands behind the first colon: of `//PACKAGE:NAME` the name
 abbrev pub after_colon : List ℕ → List ℕ
 after_colon [] = []
 after_colon (b ∷ bs) = if nat_eq b 58 then bs else after_colon bs
@@ -52,13 +53,13 @@ file_field f x =
     if bytes_eq x (codes "basename") then Some (text (last_part [] f.path)) else
     None
 
--- the field of a value without parts, or of any value by what it shows: of an instance, of a label
--- or of a `File`; all else has none
+-- the field of a value without parts: of a label or of a `File`; all else has none
 abbrev pub leaf_field : Leaf → List ℕ → Option Value
 leaf_field (plain.Label t) x = label_field t x
 leaf_field (plain.File f) x = file_field f x
 leaf_field _ x = None
 
+-- the field of any value by what it shows: of an instance too
 abbrev pub shape_field : Shape → List ℕ → Option Value
 shape_field (fields p xs) x = field_in x p.fields xs
 shape_field (atom l) x = leaf_field l x
@@ -68,13 +69,14 @@ shape_field _ x = None
 abbrev pub field : Value → List ℕ → Op Value
 field v x s = keeping (or_fault kind.Name (shape_field (shape s.heap v) x)) s
 
--- the methods of each type, by name: of lists, of dicts, of strings and of depsets
+-- the methods of lists, by name
 abbrev pub list_method : List ℕ → Option Method
 list_method x =
     if bytes_eq x (codes "append") then Some method.Append else
     if bytes_eq x (codes "extend") then Some method.Extend else
     None
 
+-- the methods of dicts, by name
 abbrev pub dict_method : List ℕ → Option Method
 dict_method x =
     if bytes_eq x (codes "get") then Some method.Get else
@@ -83,6 +85,7 @@ dict_method x =
     if bytes_eq x (codes "items") then Some method.Items else
     None
 
+-- the methods of strings, by name
 abbrev pub string_method : List ℕ → Option Method
 string_method x =
     if bytes_eq x (codes "join") then Some method.Join else
@@ -91,18 +94,21 @@ string_method x =
     if bytes_eq x (codes "endswith") then Some method.EndsWith else
     None
 
+-- the one method of depsets
 abbrev pub depset_method : List ℕ → Option Method
 depset_method x = if bytes_eq x (codes "to_list") then Some method.ToList else None
 
--- the method of a value by what it shows; a tuple has none
+-- the method of a key: only a string has any
 abbrev pub key_method : Key → List ℕ → Option Method
 key_method (index.Text t) x = string_method x
 key_method _ x = None
 
+-- the method of a value without parts: only a depset has one
 abbrev pub leaf_method : Leaf → List ℕ → Option Method
 leaf_method (plain.Depset d) x = depset_method x
 leaf_method _ x = None
 
+-- the method of a value by what it shows; a tuple has none
 abbrev pub shape_method : Shape → List ℕ → Option Method
 shape_method (items true xs) x = list_method x
 shape_method (entries es) x = dict_method x

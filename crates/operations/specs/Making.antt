@@ -19,23 +19,27 @@ use Rattle.operations.specs.declared.made.Made.TheVariants as new
 use Rattle.operations.specs.States.{Op, with_heap, changed}
 use Rattle.operations.specs.Reading.{key_in, of_type}
 
--- values without parts: `None`, a bool, a whole number, a string
+-- `None` as a value
 abbrev pub none : Value
 none = value.Leaf plain.None
 
+-- a bool as a value
 abbrev pub truth : Bool → Value
 truth b = value.Key (index.Truth b)
 
+-- a whole number as a value
 abbrev pub number : ℤ → Value
 number n = value.Key (index.Number n)
 
+-- a string as a value
 abbrev pub text : List ℕ → Value
 text t = value.Key (index.Text t)
 
--- a display of a list or a tuple, after its items
+-- a display of a list, after its items
 abbrev pub new_list : List Value → Op Value
 new_list xs s = with_heap s (made s.heap (cell.List xs 0) (length xs))
 
+-- a display of a tuple, after its items
 abbrev pub new_tuple : List Value → Op Value
 new_tuple xs s = with_heap s (made s.heap (cell.Tuple xs) (length xs))
 

@@ -27,10 +27,11 @@ get es (k ∷ []) s = keeping (got es none (shape s.heap k)) s
 get es (k ∷ d ∷ []) s = keeping (got es d (shape s.heap k)) s
 get es _ s = Err Arity
 
--- d.keys(), d.values()
+-- d.keys(), in order of insertion
 abbrev pub keys : List (Key × Value) → Op Value
 keys es s = new_list (map value.Key (keys_of es)) s
 
+-- d.values(), in order of insertion
 abbrev pub values : List (Key × Value) → Op Value
 values es s = new_list (map (λ e. e.1) es) s
 

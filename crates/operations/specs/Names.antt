@@ -70,11 +70,12 @@ abbrev pub defaults : Linked → MadeId → State → List Value
 defaults world id s =
     if nat_eq id.«module» s.file then listed (slice_get s.defaults id.number) else world.defaults id
 
--- which function written in Starlark a value is, if it is one
+-- which function written in Starlark a value without parts is, if it is one
 abbrev pub leaf_function : Leaf → Option MadeId
 leaf_function (plain.Function f) = Some f.id
 leaf_function _ = None
 
+-- the same of any value
 abbrev pub function_of : Value → Option MadeId
 function_of (value.Leaf l) = leaf_function l
 function_of _ = None

@@ -34,11 +34,12 @@ abbrev pub number_fault : NumberError → Kind
 number_fault refused.Overflow = kind.Overflow
 number_fault refused.Zero = kind.Zero
 
--- the number or the string that `+` gives, or its fault
+-- the number that `+` gives, or its fault
 abbrev pub new_number : Result ℤ NumberError → Result Made Kind
 new_number (Ok n) = Ok (new.Key (index.Number n))
 new_number (Err e) = Err (number_fault e)
 
+-- the string that `+` gives, or its fault
 abbrev pub new_text : Result (List ℕ) Kind → Result Made Kind
 new_text (Ok t) = Ok (new.Key (index.Text t))
 new_text (Err k) = Err k

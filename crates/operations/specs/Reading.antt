@@ -32,11 +32,12 @@ abbrev pub sequence_in : Shape → Option (List Value)
 sequence_in (items j xs) = Some xs
 sequence_in _ = None
 
--- the depset that a value is, if it is one
+-- the depset that a value without parts is, if it is one
 abbrev pub leaf_depset : Leaf → Option (Rose Own)
 leaf_depset (plain.Depset d) = Some d
 leaf_depset _ = None
 
+-- the same of any value, by what it shows
 abbrev pub depset_in : Shape → Option (Rose Own)
 depset_in (atom l) = leaf_depset l
 depset_in _ = None

@@ -68,9 +68,10 @@ join t v s =
     (λ xs. then_give (all_in string_in s.heap xs) (λ ts.
     then_give (or_string_fault (join_of t ts)) (λ u. Ok (text u))))) s
 
--- t.startswith(p), t.endswith(p)
+-- t.startswith(p)
 abbrev pub starts_with : List ℕ → Value → Op Value
 starts_with t v s = keeping (of_type (string_in (shape s.heap v)) (λ p. Ok (truth (begins p t)))) s
 
+-- t.endswith(p)
 abbrev pub ends_with : List ℕ → Value → Op Value
 ends_with t v s = keeping (of_type (string_in (shape s.heap v)) (λ p. Ok (truth (ends p t)))) s

@@ -1,4 +1,4 @@
--- What `BUILD` files came to, before packages have their names.
+-- What `BUILD` files came to, before packages have their names. (This project's own.)
 use Rattle.std.specs.Prelude.{◌≡◌, ℕ, ◌+◌, ◌<◌, true, false, List, [], ◌∷◌, length, slice_index_or}
 use Rattle.std.specs.Prelude.{Option, Some, None, Result}
 use Rattle.lexer.specs.declared.fault.FaultKind.{FaultKind}

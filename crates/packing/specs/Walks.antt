@@ -1,4 +1,5 @@
--- A walk through a folder on its way.
+-- A walk through a folder on its way. (docs/REPORT.md, "From a folder to an input"; this project's
+-- own.)
 use Rattle.std.specs.Prelude.{◌≡◌, ◌⊎◌, ℕ, false, List, [], All, Contains}
 use Rattle.packing.specs.Folders.{Asks, At, Comes, IsFile, IsFound, IsHiddenFolder, IsKnown}
 use Rattle.packing.specs.Folders.{Reaches, below, is_output}

@@ -1,4 +1,5 @@
--- An input that is written file by file.
+-- An input that is written file by file. (docs/REPORT.md, "From a folder to an input"; this
+-- project's own.)
 use Rattle.std.specs.Prelude.{◌≡◌, ◌≢◌, ◌<◌, ◌≤◌, ◌⊎◌, ◌++◌, ◌+◌, ◌-◌, ◌^◌, ℕ, Bool, true, false}
 use Rattle.std.specs.Prelude.{not, min, List, [], ◌∷◌, length, All, Contains, IsUtf8, ⊤}
 use Rattle.std.specs.List.{list_all}

@@ -1,4 +1,4 @@
--- What calls of a function made, at the places of a list.
+-- What calls of a function made, at the places of a list. (This project's own.)
 use Rattle.std.specs.Prelude.{◌≡◌, ℕ, ◌<◌, List, length, slice_index_or, Option, Some, None, Result}
 use Rattle.std.specs.Prelude.{Ok, IfOk, Vec}
 use Rattle.std.specs.List.{All}

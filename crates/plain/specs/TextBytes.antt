@@ -1,4 +1,4 @@
--- Where the bytes of a text lie.
+-- Where the bytes of a text lie. (This project's own.)
 use Rattle.std.specs.Prelude.{ℕ, List, string_bytes}
 use Rattle.plain.specs.declared.text_bytes.TextBytes.{TextBytes}
 use Rattle.plain.specs.declared.text_bytes.TextBytes.TheVariants as kept

@@ -1,5 +1,5 @@
 -- The operations of the language, where `t.to_list()` lists a depset plainly. All others are those
--- of `language`.
+-- of `language`. (docs/PROFILE.md, "Listing a depset"; this project's own.)
 use Rattle.std.specs.Prelude.{ℕ, List, Option, Some, None}
 use Rattle.meaning.specs.Operations as meant
 use Rattle.values.specs.Shape.{shape}

@@ -1,5 +1,6 @@
-//! Tests of crates `plain`, `strings` and `first_places`. They are a crate of their own, so that these are proved once. What operations on strings
-//! and numbers give is shown by the stored runs of `module_check` and `serve_check`.
+//! Tests of crates `plain`, `strings` and `first_places`. They are a crate of their own, so that
+//! these are proved once. What operations on strings and numbers give is shown by the stored runs
+//! of `module_check` and `serve_check`.
 #![tactic(auto)]
 
 #[cfg(test)]

@@ -85,7 +85,8 @@ fn texts_are_compared_by_bytes(rt: HostRuntime) {
     assert!(rt; are_ordered(rt.alloc()) && are_one(rt.alloc()));
 }
 
-/// What a stack of 1 and 2 gives back, one after the other, and what is at its top before and after.
+/// What a stack of 1 and 2 gives back, one after the other, and what is at its top before and
+/// after.
 fn given_back(alloc: Global) -> Result<[Option<usize>; 4], AllocError> {
     let mut stack = Stack::new(alloc);
     stack.push(1_usize)?;

@@ -1,4 +1,5 @@
--- What a run begins with, and what a worker's end says of its pass.
+-- What a run begins with, and what a worker's end says of its pass. (docs/ARCHITECTURE.md,
+-- "Workers"; this project's own.)
 use Rattle.std.specs.Prelude.{◌≡◌, ◌⊎◌, ℕ, ◌+◌, ◌<◌, true, false, List, ◌∷◌, ◌++◌, length, Some}
 use Rattle.std.specs.List.{All}
 use Rattle.board.specs.declared.journal.Journal.{Journal}

@@ -1,5 +1,5 @@
 -- What a run found: a value for each node that ran, and the outcome of those that are cyclic. No
--- worker, order or number of threads stands here.
+-- worker, order or number of threads stands here. (This project's own.)
 use Rattle.std.specs.Prelude.{◌≡◌, ℕ, ◌<◌, List, length, unwrap_or}
 use Rattle.board.specs.Views.{ClosedView, told}
 use Rattle.edges.specs.Rows.{row}

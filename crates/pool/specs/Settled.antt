@@ -1,4 +1,4 @@
--- What the passes of a board say of the nodes that were worked on.
+-- What the passes of a board say of the nodes that were worked on. (This project's own.)
 use Rattle.std.specs.Prelude.{◌≡◌, ℕ, ◌<◌, true, false, List, length, Option, Some, slice_index}
 use Rattle.std.specs.Prelude.{slice_index_or}
 use Rattle.board.specs.Journal.{times, deps}

@@ -1,4 +1,4 @@
--- The worked examples of the tests: outcomes as numbers, and as texts.
+-- The worked examples of the tests: outcomes as numbers, and as texts. (This project's own.)
 use Rattle.std.specs.Prelude.{ℕ, ◌+◌, ◌-◌, ◌^◌, ◌%◌, List, [], ◌∷◌, ◌++◌, length, slice_index_or}
 
 -- of 64 bits

@@ -114,8 +114,8 @@ fn a_worker_steals_from_the_next_one_first(rt: HostRuntime) -> Result<(), Fail> 
     Ok(())
 }
 
-/// Whether an end that was asked before gives three nodes in the order in which it was given them, but
-/// for the second, which another takes in between.
+/// Whether an end that was asked before gives three nodes in the order in which it was given them,
+/// but for the second, which another takes in between.
 fn are_kept_in_order<S: Shelf>(mut ends: Vec<S>, nodes: usize) -> Result<bool, NoMemory>
     requires ends { All (λ e. S.nodes e ≡ nodes) ends.items }
     requires nodes { 3 < nodes }
@@ -147,7 +147,8 @@ fn a_worker_keeps_what_it_puts_on_an_empty_deque(rt: HostRuntime) -> Result<(), 
     Ok(())
 }
 
-/// Whether two ends that were given first nodes together give each of them once, in order, whichever is asked.
+/// Whether two ends that were given first nodes together give each of them once, in order,
+/// whichever is asked.
 fn are_spread<S: Shelf>(mut ends: Vec<S>, first: &[NodeId], nodes: usize) -> Result<bool, NoMemory>
     requires some { 0 < vec_len ends }
     requires ends { All (λ e. S.nodes e ≡ nodes) ends.items }
@@ -206,8 +207,8 @@ fn spread_deques(alloc: Global, workers: u64, nodes: usize) -> Option<Vec<StealS
     Some(ends)
 }
 
-/// How often each of so many nodes is given by ends that are asked in turn, one time more than there are
-/// nodes.
+/// How often each of so many nodes is given by ends that are asked in turn, one time more than
+/// there are nodes.
 fn times_given(alloc: Global, mut ends: Vec<StealShelf>, nodes: usize) -> Option<Vec<u64>> {
     let mut times = vec![in alloc; 0u64; nodes].ok()?;
     for _ in 0..nodes.saturating_add(1) {

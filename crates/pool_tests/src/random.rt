@@ -122,8 +122,8 @@ fn walked(alloc: Global, rows: &Adjacency) -> Result<Vec<u64>, AllocError> {
     Ok(outcomes)
 }
 
-/// Whether a random graph has its outcomes on such a shelf, and its nodes are entered and left once,
-/// but none that is cyclic. Tells also whether some are.
+/// Whether a random graph has its outcomes on such a shelf, and its nodes are entered and left
+/// once, but none that is cyclic. Tells also whether some are.
 fn is_found<R: Threads + Wait + Sync>(
     rt: &R,
     alloc: Global,

@@ -268,7 +268,8 @@ fn with_a_cycle(alloc: Global) -> Made {
     small(alloc, &rows)
 }
 
-/// Whether two nodes of these five are not cyclic, and they alone are entered and left, once, on a shelf.
+/// Whether two nodes of these five are not cyclic, and they alone are entered and left, once, on a
+/// shelf.
 fn two_alone_run<R: Threads + Wait + Sync>(
     rt: &R,
     alloc: Global,
@@ -419,7 +420,8 @@ fn refuse<G: Gate, R: Threads + Wait + Sync>(
     run_by(rt, alloc, &graph.edges, &refusing, by, gate)
 }
 
-/// Whether so many workers for whom there is no memory at one node of the diamond say so, on each shelf.
+/// Whether so many workers for whom there is no memory at one node of the diamond say so, on each
+/// shelf.
 fn are_refused<R: Threads + Wait + Sync>(rt: &R, alloc: Global, workers: usize, at: usize) -> bool {
     let Ok(Some(graph)) = diamond(alloc) else {
         return false;
@@ -442,8 +444,8 @@ fn a_worker_without_memory_ends_the_run(rt: HostRuntime) -> Result<(), Fail> {
     Ok(())
 }
 
-/// Whether four workers, each at a node of its own when node 2 is refused, all end. That node stays left, so only the halt
-/// ends the others.
+/// Whether four workers, each at a node of its own when node 2 is refused, all end. That node stays
+/// left, so only the halt ends the others.
 fn all_are_halted<R: Threads + Wait + Sync>(rt: &R, alloc: Global) -> bool {
     let Ok(Some(four)) = apart(alloc, 4) else {
         return false;
@@ -497,8 +499,8 @@ fn one_worker_alone_runs_a_chain(rt: HostRuntime) -> Result<(), Fail> {
     Ok(())
 }
 
-/// A run of two workers over the diamond whose ends have a fault at one number, and whether the watch over them finds
-/// it fine. Where the number is lost, the watch waits for few turns alone.
+/// A run of two workers over the diamond whose ends have a fault at one number, and whether the
+/// watch over them finds it fine. Where the number is lost, the watch waits for few turns alone.
 fn with_fault<R: Threads + Wait + Sync>(
     rt: &R,
     alloc: Global,

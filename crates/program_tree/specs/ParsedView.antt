@@ -1,4 +1,4 @@
--- The file with resolved names that an answer of the parser stands for.
+-- The file with resolved names that an answer of the parser stands for. (This project's own.)
 use Rattle.program_tree.specs.declared.parsed.Parsed.{Parsed}
 use Rattle.program_tree.specs.ProgramView.{steps}
 use Rattle.program_tree.specs.Resolved.{Program}

@@ -1,4 +1,4 @@
--- The file with resolved names that the program's tree stands for.
+-- The file with resolved names that the program's tree stands for. (This project's own.)
 use Rattle.std.specs.Prelude.{ℕ, List, [], ◌∷◌, map, option_map}
 use Rattle.grammar.specs.TreeView.{operator_seen, sign_seen}
 use Rattle.program_tree.specs.Resolved as resolved

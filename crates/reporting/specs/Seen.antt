@@ -1,4 +1,5 @@
--- Nodes where they lie, as the definitions of a report see them.
+-- Nodes where they lie, as the definitions of a report see them. (docs/REPORT.md, "Nodes"; this
+-- project's own.)
 use Rattle.std.specs.Prelude.{◌≡◌, ℕ, ◌+◌, ◌/◌, ◌%◌, ◌<◌, min, List, [], ◌∷◌, ◌++◌, length, map}
 use Rattle.std.specs.Prelude.{take, drop, slice_index_or, string_bytes, String}
 use Rattle.std.specs.Fork.{slice_chunk}

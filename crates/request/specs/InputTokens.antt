@@ -1,4 +1,5 @@
--- The tokens of JSON that an array of pairs is spelt by.
+-- The tokens of JSON that an array of pairs is spelt by. (docs/REPORT.md, "Input"; this project's
+-- own.)
 use Rattle.std.specs.Prelude.{◌≡◌, ℕ, List, [], ◌∷◌}
 use Rattle.json.specs.Token.{Token, begin_array, end_array, string}
 use Rattle.workspace.specs.Workspaces.{Pair}

@@ -1,4 +1,5 @@
--- What a call of a rule gives is frozen, one attribute after the other.
+-- What a call of a rule gives is frozen, one attribute after the other. (docs/PROFILE.md, "Calling
+-- a rule"; this project's own.)
 use Rattle.std.specs.Prelude.{List, [], ◌∷◌, Option, Some, None, Ok}
 use Rattle.ticks.specs.Ticking.{Count, Ticking, then_on}
 use Rattle.values.specs.declared.cells.Cell.{Cell}

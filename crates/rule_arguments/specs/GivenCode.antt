@@ -1,4 +1,4 @@
--- The code of what a call gives.
+-- The code of what a call gives. (This project's own.)
 use Rattle.std.specs.Prelude.{ℕ, List, refl}
 use Rattle.std.specs.Coded.{Coded, coded×, coded_list, code_by}
 use Rattle.depsets.specs.Own.{text_code}

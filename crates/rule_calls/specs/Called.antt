@@ -1,5 +1,5 @@
 -- A call of a rule in two steps: the target is read out of what is given, and then what is given is
--- frozen.
+-- frozen. (docs/PROFILE.md, "Calling a rule"; this project's own.)
 use Rattle.std.specs.Prelude.{◌≡◌, ◌||◌, List, [], ◌∷◌, ◌++◌, Option, Some, Result, Ok, Err}
 use Rattle.std.specs.Prelude.{MatchResult, if◌then◌else◌, codes}
 use Rattle.ticks.specs.Ticking.{FaultOr}

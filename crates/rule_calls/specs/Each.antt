@@ -1,4 +1,4 @@
--- Each of a list read as what is asked, one after the other.
+-- Each of a list read as what is asked, one after the other. (This project's own.)
 use Rattle.std.specs.Prelude.{List, [], ◌∷◌, ◌++◌, Option, Some, None, Result, Ok, Err}
 use Rattle.ticks.specs.declared.ticks.Kind.{Kind}
 use Rattle.ticks.specs.declared.ticks.Kind.TheVariants.{Wrong}

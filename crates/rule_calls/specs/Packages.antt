@@ -1,4 +1,4 @@
--- The targets that a package has declared so far.
+-- The targets that a package has declared so far. (This project's own.)
 use Rattle.std.specs.Prelude.{ℕ, Bool, List, map}
 use Rattle.std.specs.List.{list_all}
 use Rattle.workspace.specs.Labels.{same_label}

@@ -23,8 +23,9 @@ use workspace::Label;
 ///
 /// # Errors
 ///
-/// The first of `arity`, `type`, `key` and `steps`, as `docs/PROFILE.md` says of calls of rules.
-/// After a `Broken` the heap and the count of depsets are as they were; the ticks are open.
+/// The first of `arity`, `type`, `key` and `steps`, as `docs/PROFILE.md` says of calls of rules;
+/// `NoMemory` where memory was refused. After a `Broken` the heap and the count of depsets are as
+/// they were; the ticks are open.
 pub fn declare_target(
     alloc: Global,
     state: &mut State,

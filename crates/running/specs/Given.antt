@@ -1,4 +1,4 @@
--- What a run begins with.
+-- What a run begins with. (This project's own.)
 use Rattle.std.specs.Prelude.{◌≡◌, ℕ, List, length}
 use Rattle.meaning.specs.Functions.{Files, functions}
 use Rattle.loading.specs.Loads.{Name}

@@ -1,4 +1,5 @@
--- What a run came to, with its faults placed by path.
+-- What a run came to, with its faults placed by path. (docs/PROFILE.md, "Faults and positions";
+-- this project's own.)
 use Rattle.std.specs.Prelude.{List, Result, Ok, Err}
 use Rattle.meaning.specs.Outcome.{Final}
 use Rattle.ticks.specs.declared.ticks.Kind.{Kind}

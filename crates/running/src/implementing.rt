@@ -56,8 +56,8 @@ fn call<'a, L: Link<'a>, P: Place<'a>>(
 
 /// Calls the function that implements a target's rule, with `ctx` alone, from the beginning of the
 /// target: the value that it returned and the state after it, with the work of its place, or its
-/// fault. A fault of the call itself stands at the `def`. The codes are those of some files, and the
-/// answer is what the call means in them.
+/// fault. A fault of the call itself stands at the `def`. The codes are those of some files, and
+/// the answer is what the call means in them.
 ///
 /// # Errors
 ///

@@ -23,8 +23,8 @@ use workspace::{Label, Workspace};
 /// # Errors
 ///
 /// `Workers` exactly where the number of workers isn't one from 1 to 64. `TooMany` only where more
-/// than [`NODE_LIMIT`](crate::NODE_LIMIT) labels are reached. `NoMemory` where memory was refused; `NoThread` where a
-/// thread was refused, or the memory to start it, never with one worker.
+/// than [`NODE_LIMIT`](crate::NODE_LIMIT) labels are reached. `NoMemory` where memory was refused;
+/// `NoThread` where a thread was refused, or the memory to start it, never with one worker.
 pub fn analyse<R: Threads + Wait + Sync, G: Gate>(
     rt: &R,
     alloc: Global,

@@ -6,7 +6,8 @@ use std::alloc::{AllocError, Global};
 use std::sync::Wait;
 use std::thread::Threads;
 
-/// A module, as JSON spells it. Its rule writes the name of the target to a file, and fails where no file is named.
+/// A module, as JSON spells it. Its rule writes the name of the target to a file, and fails where
+/// no file is named.
 const MODULE: &str =
     "def _w(ctx):\\n    if ctx.attr.out == '':\\n        fail('no')\\n    o = ctx.actions.declare_file(ctx.attr.out)\\n    ctx.actions.write(o, ctx.label.name)\\n    return [DefaultInfo(files = depset([o]))]\\nw = rule(implementation = _w, attrs = {'out': attr.string(), 'deps': attr.label_list()})\\n";
 
@@ -33,7 +34,8 @@ pub(crate) fn split(alloc: Global, text: &str) -> Result<Vec<&str>, AllocError> 
     Ok(words)
 }
 
-/// How a request ends whose words a space parts, for the module and a `BUILD` file, which JSON spells.
+/// How a request ends whose words a space parts, for the module and a `BUILD` file, which JSON
+/// spells.
 pub(crate) fn ends<R: Threads + Wait + Sync + AllocGlobal>(
     rt: &R,
     words: &str,
@@ -90,8 +92,8 @@ pub(crate) fn refused(line: &'static str) -> Wanted {
     }
 }
 
-/// Whether that comes of words, which a space parts, and an input, and the input was read to its end; where words are refused, not
-/// at all.
+/// Whether that comes of words, which a space parts, and an input, and the input was read to its
+/// end; where words are refused, not at all.
 pub(crate) fn is_served<R: Threads + Wait + Sync + AllocGlobal>(
     rt: &R,
     words: &str,

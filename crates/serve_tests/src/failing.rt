@@ -9,7 +9,8 @@ use std::thread::Threads;
 
 const WORDS: [&str; 4] = ["bzlan", "--workers", "2", "//a:x"];
 
-/// How a request ends, by devices that take a few bytes a call, of which the call of this number fails.
+/// How a request ends, by devices that take a few bytes a call, of which the call of this number
+/// fails.
 fn ending<R: Threads + Wait + Sync + AllocGlobal>(
     rt: &R,
     input: &str,
@@ -47,7 +48,8 @@ fn each_read_fails(rt: HostRuntime) -> Result<(), Fail> {
     Ok(())
 }
 
-/// Whether the request ends with a failed write, after a beginning of the report, where the call of this number fails.
+/// Whether the request ends with a failed write, after a beginning of the report, where the call of
+/// this number fails.
 fn is_cut_off<R: Threads + Wait + Sync + AllocGlobal>(
     rt: &R,
     input: &str,

@@ -1,4 +1,5 @@
-//! Tests of crate `serve`: `analyse`, `serve` and `closing`, called as strangers do. Whole reports are compared by `serve_check`.
+//! Tests of crate `serve`: `analyse`, `serve` and `closing`, called as strangers do. Whole reports
+//! are compared by `serve_check`.
 #![tactic(auto)]
 
 #[cfg(test)]

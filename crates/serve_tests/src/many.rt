@@ -1,4 +1,5 @@
-//! The report on forty targets, some of which fail or are on a cycle: by numbers of workers, and on a page that is too small.
+//! The report on forty targets, some of which fail or are on a cycle: by numbers of workers, and on
+//! a page that is too small.
 use crate::asked::ends;
 use fakes::tapes::{Failing, Page};
 use serve::ServeStop;
@@ -7,8 +8,8 @@ use std::sync::Wait;
 use std::test::Fail;
 use std::thread::Threads;
 
-/// Forty targets, as JSON spells them. One fails, one needs itself, and each from the fourth on needs the one of a third of its
-/// number; each file is that of two.
+/// Forty targets, as JSON spells them. One fails, one needs itself, and each from the fourth on
+/// needs the one of a third of its number; each file is that of two.
 const FORTY: &str =
     "load(':w.bzl', 'w')\\n[w(name = 't' + str(k), out = '' if k == 1 else 'o' + str(k // 2), deps = [] if k < 3 else [':t10'] if k == 10 else [':t' + str(k // 3)]) for k in range(40)]\\n";
 

@@ -1,4 +1,5 @@
--- What a deque of node numbers holds, and what its passes know: how many nodes there are.
+-- What a deque of node numbers holds, and what its passes know: how many nodes there are. (This
+-- project's own.)
 use Rattle.std.specs.Prelude.{◌≡◌, ℕ, ◌<◌, ◌⊎◌, true, false, List, [], ◌∷◌, All}
 use mathlib.Core.Option.{some}
 use lib.ListN.{get_elem?}

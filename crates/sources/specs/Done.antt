@@ -1,4 +1,4 @@
--- Files that were read and compiled, apart.
+-- Files that were read and compiled, apart. (This project's own.)
 use Rattle.std.specs.Prelude.{◌≡◌, ℕ, ◌<◌, List, [], length, slice_index_or}
 use Rattle.meaning.specs.StatementCode.{file_code}
 use Rattle.workspace.specs.Workspaces.{Pair}

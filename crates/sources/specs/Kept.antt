@@ -1,4 +1,4 @@
--- What is kept of a file that was read and compiled.
+-- What is kept of a file that was read and compiled. (This project's own.)
 use Rattle.std.specs.Prelude.{◌≡◌, ℕ, List, length, map, Result, Ok, Err}
 use Rattle.lexer.specs.declared.fault.FaultKind.{FaultKind}
 use Rattle.lexer.specs.declared.fault.SyntaxFault.{SyntaxFault}

@@ -1,4 +1,4 @@
--- Files in the order of their paths.
+-- Files in the order of their paths. (This project's own.)
 use Rattle.std.specs.Prelude.{◌≡◌, List}
 use Rattle.loading.specs.Loads.{Path}
 use Rattle.workspace.specs.Workspaces.{Pair, paths_of}

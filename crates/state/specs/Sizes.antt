@@ -1,4 +1,5 @@
--- Sizes that are known before anything is made or copied.
+-- Sizes that are known before anything is made or copied. (docs/PROFILE.md, "Depth and size"; this
+-- project's own.)
 use Rattle.std.specs.Prelude.{Result, Ok, Err, if◌then◌else◌}
 use Rattle.depsets.specs.Elements.{same_truth}
 use Rattle.heap.specs.Cells.{after, joined_items}

@@ -21,7 +21,7 @@ use values::{Broken, Group, Item, Key, Kind, Seen, Table, Value};
 /// # Errors
 ///
 /// `type`, where the base has no items or the index isn't one of it; then `index`, or of a dict
-/// `key`.
+/// `key`. `NoMemory` where memory was refused.
 #[inline(always)]
 pub fn item<'a>(
     alloc: Global,

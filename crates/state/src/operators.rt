@@ -32,7 +32,7 @@ use values::{Broken, Group, Item, Items, Key, Kind, LARGEST, Seen, Value};
 ///
 /// # Errors
 ///
-/// `type` for all else; then `overflow` or `large`.
+/// `type` for all else; then `overflow` or `large`. `NoMemory` where memory was refused.
 #[inline(always)]
 pub fn plus(alloc: Global, state: &mut State, a: Item<'_>, b: Item<'_>) -> Result<Value, Broken>
     ensures { Does (plus (item_value a.entry) (item_value b.entry)) state.old result state.new }

@@ -1,4 +1,4 @@
--- The lines that are put into blocks, as the program has them.
+-- The lines that are put into blocks, as the program has them. (This project's own.)
 use Rattle.std.specs.Prelude.{List, map, reverse}
 use Rattle.grammar.specs.LineView.{form_of, lines_of}
 use Rattle.grammar.specs.BareLines.{Lines}

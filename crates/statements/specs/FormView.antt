@@ -1,4 +1,4 @@
--- What the program's readings of lines stand for.
+-- What the program's readings of lines stand for. (This project's own.)
 use Rattle.std.specs.Prelude.{Bool, true, false, List, [], ◌∷◌, Option, option_map}
 use Rattle.grammar.specs.declared.statements.Form.{Form}
 use Rattle.statements.specs.declared.blocks.Body.{Body}

@@ -1,4 +1,5 @@
 -- Where logical lines may stand, said of their outlines alone: line by line, with the open blocks.
+-- (docs/PROFILE.md, "Statements"; outlines are this project's own.)
 use Rattle.std.specs.Prelude.{ℕ, Bool, true, false, ◌&&◌, ◌==◌, nat_le, nat_lt, List, [], ◌∷◌}
 use Rattle.std.specs.Prelude.{Option, Some, None, Result, Ok, Err, if◌then◌else◌}
 use Rattle.statements.specs.declared.outline.Place.{Place}

@@ -1,4 +1,4 @@
--- How a call that takes memory answers what a definition gives.
+-- How a call that takes memory answers what a definition gives. (This project's own.)
 use Rattle.std.specs.Prelude.{◌≡◌, Result, Ok, Err, MatchResult}
 use Rattle.strings.specs.declared.errors.StringError.{StringError}
 use Rattle.strings.specs.declared.errors.StringRefusal.{StringRefusal}

@@ -1,4 +1,5 @@
--- What the tests on texts say, without a way of looking.
+-- What the tests on texts say, without a way of looking. (This project's own; what is tested is the
+-- Starlark specification's, "Built-in methods" and "Membership tests".)
 use Rattle.std.specs.Prelude.{◌≡◌, ◌↔◌, ◌<◌, ℕ, true, false, List, [], ◌∷◌, ◌++◌, length, Some}
 use Rattle.strings.specs.Affixes.{begins, ends}
 use Rattle.strings.specs.Joining.{glued}

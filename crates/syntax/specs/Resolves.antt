@@ -1,4 +1,5 @@
--- What the functions that resolve names ensure.
+-- What the functions that resolve names ensure. (This project's own; the rules of scopes are those
+-- of docs/PROFILE.md, "Scopes".)
 use Rattle.std.specs.Prelude.{◌≡◌, ◌≤◌, ℕ, Bool, true, false, not, ◌&&◌, List, Option, Some, None}
 use Rattle.std.specs.Prelude.{Result, Ok, Err, max, option_map, reverse}
 use Rattle.std.specs.Global.{Box}

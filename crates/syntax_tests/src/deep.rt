@@ -1,4 +1,5 @@
-//! The deepest texts that are served: expressions 200 deep, which 100 brackets may take part in, and 32 blocks.
+//! The deepest texts that are served: expressions 200 deep, which 100 brackets may take part in,
+//! and 32 blocks.
 use crate::small_stack::{Verdict, expect, nested};
 use std::alloc::Global;
 use std::process::Abort;
@@ -20,7 +21,8 @@ fn in_blocks(alloc: Global, expression: &str) -> Result<String, Fail> {
     Ok(text)
 }
 
-/// Reads a module whose expression is a middle with something before it and something behind it, so many times.
+/// Reads a module whose expression is a middle with something before it and something behind it, so
+/// many times.
 fn expect_nested<R: Abort + Threads>(
     rt: &R,
     alloc: Global,

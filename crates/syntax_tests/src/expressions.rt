@@ -192,7 +192,8 @@ fn repeated(alloc: Global, part: &str, times: usize, end: &str) -> Result<String
     Ok(text)
 }
 
-/// Whether a part so often, and an end, are an expression of this form, or none where `none` is wanted.
+/// Whether a part so often, and an end, are an expression of this form, or none where `none` is
+/// wanted.
 fn repeats(alloc: Global, part: &str, times: usize, end: &str, want: &str) -> bool {
     match repeated(alloc, part, times, end) {
         Ok(text) => is_shown(alloc, text.as_str(), want),

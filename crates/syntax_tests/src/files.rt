@@ -1,4 +1,5 @@
-//! Files and their verdicts, as tables: the fault that each text has by one of the five passes, or a tree.
+//! Files and their verdicts, as tables: the fault that each text has by one of the five passes, or
+//! a tree.
 use std::alloc::{AllocError, Global};
 use std::process::Abort;
 use syntax::{FaultKind, FileKind, ParseStop, SyntaxFault, parse};
@@ -191,7 +192,8 @@ fn put_line(text: &mut String, spaces: usize, line: &str) -> Result<(), AllocErr
     Ok(())
 }
 
-/// A function with blocks in its block, as many as there are, and in the last a head with its statement on its own line.
+/// A function with blocks in its block, as many as there are, and in the last a head with its
+/// statement on its own line.
 fn nested(alloc: Global, blocks: usize) -> Result<String, AllocError> {
     let mut text = String::from_str(alloc, "def f(x):\n")?;
     for depth in 1..blocks {
@@ -201,7 +203,8 @@ fn nested(alloc: Global, blocks: usize) -> Result<String, AllocError> {
     Ok(text)
 }
 
-/// Whether so many blocks inside of one another have this fault, or a tree where no fault is wanted.
+/// Whether so many blocks inside of one another have this fault, or a tree where no fault is
+/// wanted.
 fn nested_have(alloc: Global, blocks: usize, want: Option<SyntaxFault>) -> bool {
     match nested(alloc, blocks) {
         Ok(text) => has(alloc, text.as_str(), FileKind::Module, want),

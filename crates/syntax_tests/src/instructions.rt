@@ -1,4 +1,5 @@
-//! Files that are read and compiled: their instructions are those that the definitions of the code give for them.
+//! Files that are read and compiled: their instructions are those that the definitions of the code
+//! give for them.
 use code::{Code, Instruction, Lined, Source, compile};
 use keys::TextKey;
 use std::alloc::{AllocError, Global};

@@ -1,6 +1,7 @@
-//! Tests of the crates that read files, from `lexer` to `code`. They are a crate of their own, so that these are proved once.
-//! `small_stack` shows that `syntax` takes little of the stack, however long a text is and however deep one may be: each text is
-//! read, and its tree let go, on a thread with a small stack. A text that takes more ends the tests.
+//! Tests of the crates that read files, from `lexer` to `code`. They are a crate of their own, so
+//! that these are proved once. `small_stack` shows that `syntax` takes little of the stack, however
+//! long a text is and however deep one may be: each text is read, and its tree let go, on a thread
+//! with a small stack. A text that takes more ends the tests.
 #![tactic(auto)]
 
 #[cfg(test)]

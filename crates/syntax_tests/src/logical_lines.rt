@@ -165,7 +165,8 @@ fn repeated(
     Ok(text)
 }
 
-/// Whether a piece so often, another as often, and an end are a text that has this fault, or none where none is wanted.
+/// Whether a piece so often, another as often, and an end are a text that has this fault, or none
+/// where none is wanted.
 fn repeated_has(
     alloc: Global,
     (first, second): (&str, &str),

@@ -93,8 +93,8 @@ fn names_of_functions(rt: HostRuntime) {
     );
 }
 
-/// What the element of the returned comprehension stands for, and that of the comprehension which its first `for` goes
-/// through.
+/// What the element of the returned comprehension stands for, and that of the comprehension which
+/// its first `for` goes through.
 fn elements(term: &Term) -> Option<(Binding, Binding)> {
     match term {
         Term::ListEach(_, _, clauses) => match clauses.as_slice() {
@@ -141,7 +141,8 @@ fn last_function(steps: &[Step]) -> Option<&Function> {
     }
 }
 
-/// The slots of the returned comprehension, and those of the one which its first `for` goes through.
+/// The slots of the returned comprehension, and those of the one which its first `for` goes
+/// through.
 fn own_slots(term: &Term) -> Option<(OwnSlots, OwnSlots)> {
     match term {
         Term::ListEach(outer, _, clauses) => match clauses.as_slice() {
@@ -186,7 +187,8 @@ fn slots_of_comprehensions(rt: HostRuntime) {
     assert!(rt; are_own(rt.alloc(), text, own(1, 2)));
 }
 
-/// How many names are loaded, how many slots the top level has, and the number of the last function and of what it binds.
+/// How many names are loaded, how many slots the top level has, and the number of the last function
+/// and of what it binds.
 type Numbers = (usize, usize, usize, usize);
 
 /// The numbers of a file.

@@ -1,4 +1,5 @@
--- What an action runs: how it is given, and what it may be.
+-- What an action runs: how it is given, and what it may be. (Bazel documentation, "actions";
+-- docs/PROFILE.md, "Calls for files and actions".)
 use Rattle.std.specs.Prelude.{ℕ, List, [], ◌∷◌, Option, Some, codes}
 use Rattle.values.specs.Shape.{Shape}
 use Rattle.values.specs.declared.value.Value.{Value}

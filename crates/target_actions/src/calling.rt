@@ -22,7 +22,7 @@ use workspace::Label;
 /// # Errors
 ///
 /// The first of `arity`, `type`, `place` and `key`, as `docs/PROFILE.md` says of calls for files
-/// and actions.
+/// and actions; `NoMemory` where memory was refused.
 pub fn call_method(
     alloc: Global,
     label: &Label,

@@ -1,4 +1,5 @@
--- The names of a rule's attributes, and their defaults.
+-- The names of a rule's attributes, and their defaults. (Bazel documentation, "Rules",
+-- "Attributes"; docs/PROFILE.md, "Attributes".)
 use Rattle.std.specs.Prelude.{ℕ, List, map}
 use Rattle.targets.specs.Defaults.{default_of}
 use Rattle.targets.specs.declared.attributes.AttributeValue.{AttributeValue}

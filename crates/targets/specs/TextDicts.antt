@@ -34,10 +34,11 @@ text_entry h e = text_shown e.0 (shape h e.1)
 
 -- ---- the frozen dict
 
--- the key of an entry as one of the frozen dict, and its value as a frozen value
+-- the key of an entry as one of the frozen dict
 abbrev pub entry_key : TextEntry → Key
 entry_key e = index.Text e.key
 
+-- the value of an entry as a frozen value
 abbrev pub entry_tree : TextEntry → FrozenTree
 entry_tree e = text_tree e.value
 

@@ -24,7 +24,7 @@ use values::{Broken, Group, Key, Kind, Seen, Value};
 ///
 /// # Errors
 ///
-/// `type`, where it is no sequence of strings; then `large`.
+/// `type`, where it is no sequence of strings; then `large`. `NoMemory` where memory was refused.
 pub fn join(
     alloc: Global,
     state: &State,

@@ -20,7 +20,8 @@ use values::{Broken, Items, Key, Kind, Seen, Value};
 ///
 /// # Errors
 ///
-/// `type`, where the separator is no string or empty; then `large`.
+/// `type`, where the separator is no string or empty; then `large`. `NoMemory` where memory was
+/// refused.
 pub fn split(
     alloc: Global,
     state: &mut State,

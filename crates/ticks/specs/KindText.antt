@@ -1,4 +1,5 @@
--- How a fault of an evaluation is printed.
+-- How a fault of an evaluation is printed. (docs/REPORT.md, "Load faults" and "Nodes"; this
+-- project's own.)
 use Rattle.std.specs.Prelude.{ℕ, List, codes}
 use Rattle.ticks.specs.declared.ticks.Kind.{Kind}
 use Rattle.ticks.specs.declared.ticks.Kind.TheVariants as kind
@@ -25,7 +26,8 @@ kind_text kind.Order = codes "order"
 kind_text kind.Place = codes "place"
 kind_text (kind.Fail s) = codes "fail"
 
--- a fault by its kind, or want of memory, as a report names it
+-- how a call that broke is printed: a fault by its kind's name, want of memory as "no memory",
+-- which no report says
 abbrev pub broken_text : Broken → List ℕ
 broken_text (broken.Kind k) = kind_text k
 broken_text broken.NoMemory = codes "no memory"

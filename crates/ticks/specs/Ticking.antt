@@ -1,4 +1,5 @@
--- Ticks, visits, and how a call's answer agrees with what a definition gives.
+-- Ticks, visits, and how a call's answer agrees with what a definition gives. (docs/PROFILE.md,
+-- "Ticks" and "Depth and size"; this project's own.)
 use Rattle.std.specs.Prelude.{◌≡◌, ℕ, zero, suc, ◌+◌, Result, Ok, Err, MatchResult, if◌then◌else◌}
 use Rattle.std.specs.Prelude.{nat_lt, ◌≤◌, ◌<◌, Bool, true, false}
 use Rattle.ticks.specs.declared.ticks.Kind.{Kind}

@@ -1,4 +1,4 @@
--- A code of cells.
+-- A code of cells. (This project's own.)
 use Rattle.std.specs.Prelude.{◌≡◌, ℕ, List, Option, ◌⊎◌, refl}
 use Rattle.std.specs.Coded.{Coded, coded×, coded⊎, coded_ℕ, coded_list, code_by}
 use Rattle.std.proofs.Common.{inl, inr}

@@ -1,4 +1,4 @@
--- Each part of a frozen value weighs less than it.
+-- Each part of a frozen value weighs less than it. (This project's own.)
 use Rattle.std.specs.Prelude.{◌≡◌, ◌+◌, ◌≤◌, max, List, [], ◌∷◌, length, Option, Some, None}
 use Rattle.std.proofs.Common.{arith}
 use denote.Param.Weighed.{most}

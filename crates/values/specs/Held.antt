@@ -1,4 +1,5 @@
--- The items of a cell, which it owns until the first walk over them, or has behind a count.
+-- The items of a cell, which it owns until the first walk over them, or has behind a count. (This
+-- project's own.)
 use Rattle.std.specs.Prelude.{List}
 use Rattle.values.specs.declared.value.Value.{Value}
 use Rattle.values.specs.declared.held.KeptItems.{KeptItems}

@@ -1,4 +1,4 @@
--- What the views of a value show.
+-- What the views of a value show. (This project's own.)
 use Rattle.std.specs.Borrow.{Bor}
 use Rattle.std.specs.Prelude.{List, map, true, false, Option, Some, None}
 use Rattle.values.specs.Shape.{Shape, key, atom, items, entries, fields, nothing, value_of, slot_of}

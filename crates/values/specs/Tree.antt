@@ -1,6 +1,7 @@
 -- Frozen values as trees: keys, leaves, and branches. A branch is a list, a tuple, a dict with its
 -- entries in order, or a provider instance with its fields by the places of their names in the
--- provider. Generic in leaves, keys and providers. And a code of them.
+-- provider. Generic in leaves, keys and providers. And a code of them. (Starlark specification,
+-- "Freezing a value"; that they are trees, and the code, is this project's own.)
 use Rattle.std.specs.Prelude.{◌≡◌, ℕ, ◌+◌, List, [], ◌∷◌, Option, Some, None, refl}
 use Rattle.std.specs.Coded.{Coded}
 use Rattle.std.proofs.Common.{ap, sym, subst, arith}

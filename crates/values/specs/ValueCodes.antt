@@ -1,4 +1,4 @@
--- Codes of values, items, fields and entries.
+-- Codes of values, items, fields and entries. (This project's own.)
 use Rattle.std.specs.Prelude.{◌≡◌, ℕ, List, Option, ◌⊎◌, refl}
 use Rattle.std.specs.Coded.{Coded, coded×, coded⊎, coded_ℕ, coded_list, coded_option, code_by}
 use Rattle.std.proofs.Common.{inl, inr}

@@ -1,4 +1,4 @@
--- The tree of a frozen value.
+-- The tree of a frozen value. (This project's own.)
 use Rattle.std.specs.Prelude.{◌≡◌, length, Bool, true, false}
 use Rattle.values.specs.Tree.{Tree, Branch, key, leaf, branch, list, tuple, dict, instance, trees}
 use Rattle.values.specs.Tree.{pairs, slots}

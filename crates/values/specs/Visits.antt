@@ -1,4 +1,5 @@
--- Visits of all parts of a value, from left to right.
+-- Visits of all parts of a value, from left to right. (docs/PROFILE.md, "Ticks" and "Freezing";
+-- this project's own.)
 use Rattle.std.specs.Prelude.{List, [], ◌∷◌, Ok, map}
 use Rattle.ticks.specs.Ticking.{Count, Ticking, then_on}
 use Rattle.keys.specs.declared.key.Key.{Key}

@@ -1,4 +1,4 @@
--- What a walk goes over.
+-- What a walk goes over. (Starlark specification, "For loops"; docs/PROFILE.md, "Walks".)
 use Rattle.std.specs.Prelude.{List, [], map}
 use Rattle.values.specs.Shape.{Shape, items, entries}
 use Rattle.values.specs.Visits.{keys_of}

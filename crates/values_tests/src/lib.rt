@@ -1,6 +1,6 @@
-//! Tests of crates `depsets`, `values`, `operands` and `printing`. They are a crate of their own, so that these are proved once.
-//! Changes, equality, freezing, depsets and texts, with their ticks and depths, are shown by the stored runs of `serve_check` and
-//! `module_check`.
+//! Tests of crates `depsets`, `values`, `operands` and `printing`. They are a crate of their own,
+//! so that these are proved once. Changes, equality, freezing, depsets and texts, with their ticks
+//! and depths, are shown by the stored runs of `serve_check` and `module_check`.
 #![tactic(auto)]
 
 #[cfg(test)]

@@ -1,4 +1,5 @@
-//! The greatest list of a depset, and one that is too large. Worked depsets are shown by the stored runs of `serve_check`.
+//! The greatest list of a depset, and one that is too large. Worked depsets are shown by the stored
+//! runs of `serve_check`.
 use crate::made_depsets::{made, over};
 use depsets::{Depset, Element, ListError};
 use std::alloc::{AllocError, Global};

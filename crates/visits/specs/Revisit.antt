@@ -1,4 +1,5 @@
 -- What it costs to visit a frozen value again: the ticks of freezing, without its tree.
+-- (docs/PROFILE.md, "Ticks" and "Freezing"; this project's own.)
 use Rattle.std.specs.Prelude.{◌≡◌, MatchResult, ℕ, zero, suc, List, [], ◌∷◌, Option, Some, None}
 use Rattle.std.specs.Prelude.{Result, Ok, Err, Bool, true, false, if◌then◌else◌}
 use Rattle.values.specs.Tree.{Pairs, key, leaf, branch, list, tuple, dict, instance, stop, pair}

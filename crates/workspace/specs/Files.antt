@@ -1,4 +1,4 @@
--- The files of a workspace that is held in memory.
+-- The files of a workspace that is held in memory. (This project's own.)
 use Rattle.std.specs.Prelude.{List, map}
 use Rattle.workspace.specs.declared.workspace.File.{File}
 use Rattle.workspace.specs.Workspaces.{Pair}

@@ -1,5 +1,5 @@
 -- That all modules of a workspace are coherent together, and what follows of the depsets that stand
--- in them.
+-- in them. (This project's own.)
 use Rattle.std.specs.Prelude.{ℕ, List}
 use Rattle.depsets.specs.Flat.{Among}
 use Rattle.coherence.specs.Coherent.{Depsets, AreCoherent, AreFresh}

@@ -1,5 +1,6 @@
 -- What an implementation has while it runs, where `ctx.files` lists depsets plainly (Bazel
--- documentation, "ctx"). All else is as `implementations` has it.
+-- documentation, "ctx"; plain listings are this project's own). All else is as `implementations`
+-- has it.
 use Rattle.std.specs.Prelude.{List}
 use Rattle.depsets.specs.Listed.{flat}
 use Rattle.language.specs.Place.{Place}

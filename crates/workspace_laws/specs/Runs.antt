@@ -1,5 +1,5 @@
 -- What the evaluation of one file, and the call of one implementation, come to by plain listings.
--- But for the operations it is all as `evaluation` has it.
+-- But for the operations it is all as `evaluation` has it. (This project's own.)
 use Rattle.std.specs.Prelude.{ℕ, List, Result}
 use Rattle.meaning.specs.Functions.{Files}
 use Rattle.ticks.specs.declared.ticks.Kind.{Kind}

@@ -23,9 +23,11 @@ same_own a b =
     same_id a.id b.id && (same_order a.order b.order && pointwise same_element a.direct b.direct)
 
 abbrev mutual
+  -- whether two depsets are the same tree
   pub same_set : Set → Set → Bool
   same_set (node x ts) (node y us) = same_own x y && same_sets ts us
 
+  -- whether the children of two are the same, one after the other
   pub same_sets : Roses Own → Roses Own → Bool
   same_sets none none = true
   same_sets (more t ts) (more u us) = same_set t u && same_sets ts us

@@ -1,4 +1,4 @@
--- What the calls of implementations keep.
+-- What the calls of implementations keep. (This project's own.)
 use Rattle.std.specs.Prelude.{◌≡◌, ℕ, List}
 use Rattle.loading.specs.Loads.{Path}
 use Rattle.meaning.specs.Functions.{Files}
