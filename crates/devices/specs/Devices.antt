@@ -22,9 +22,9 @@ CountsStall old new r piece = MatchResult r
     × (n ≡ 0 → 0 < length piece → new ≡ one_more old))
     (λ _. new ≡ one_more old)
 
--- some call failed; a count that has reached its greatest value can't tell
+-- one call failed and no more: the count is one higher, or stays at the greatest `u64`
 abbrev pub Failed : ℕ → ℕ → Type 0
-Failed old new = old < 2 ^ 64 - 1 → old < new
+Failed old new = new ≡ one_more old
 
 -- the bytes bs came from a source and stand at the end of a text: some if `more` says so, and else
 -- the source is at its end

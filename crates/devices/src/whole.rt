@@ -1,6 +1,6 @@
 //! The loops that read all that a source has and write all of a text.
 
-ghost use Rattle.std.specs.Prelude.{◌≡◌, ◌≢◌, ◌<◌, ◌≤◌, ◌+◌, true, IfOk, OnOk, OnErr, Err};
+ghost use Rattle.std.specs.Prelude.{◌≡◌, ◌≢◌, ◌<◌, ◌≤◌, ◌+◌, true, false, IfOk, OnOk, OnErr, Err};
 ghost use Rattle.std.specs.Prelude.{string_bytes, vec_len};
 ghost use Rattle.std.specs.List.{flat_map};
 ghost use Rattle.std.specs.Io.KnownBytes.{Appends, Consumes, IsAtEnd, Keeps};
@@ -37,6 +37,7 @@ fn read_some<S: Source>(source: &mut S, input: &mut Vec<u8>, room: usize) -> Res
         → Failed (S.failures source.old) (S.failures source.new) }
     ensures kept { result ≡ Err InputStop.Read
         → Keeps (S.remaining source.old) (S.remaining source.new) }
+    ensures most { GaveAtMost (S.remaining source.old) (S.remaining source.new) room }
     ensures not_long { result ≡ Err InputStop.TooLong → ⊥ }
 {
     let mut chunk = [0u8; CHUNK];
@@ -55,7 +56,8 @@ fn read_some<S: Source>(source: &mut S, input: &mut Vec<u8>, room: usize) -> Res
 /// # Errors
 ///
 /// `Read` at the first read that fails, before any byte past the limit is read; `TooLong` at the
-/// first byte past it; `NoMemory` where memory was refused.
+/// first byte past it; `NoMemory` where memory was refused. Whatever it answers, no byte past that
+/// one is read.
 pub fn read_input<S: Source>(
     alloc: Global,
     source: &mut S,
@@ -73,6 +75,7 @@ pub fn read_input<S: Source>(
         → GaveAtMost (S.remaining source.old) (S.remaining source.new) limit }
     ensures long_only { result ≡ Err InputStop.TooLong
         → GaveBytes (S.remaining source.old) (S.remaining source.new) (limit + 1) }
+    ensures most { GaveAtMost (S.remaining source.old) (S.remaining source.new) (limit + 1) }
 {
     let mut input = Vec::new(alloc);
     while input.len() <= limit {
@@ -97,6 +100,7 @@ fn write_whole<K: Sink>(sink: &mut K, text: &[u8]) -> Result<(), WriteFailed>
     ensures beginning { OnErr result
         (WritesBeginning (K.contents sink.old) (K.contents sink.new) text.now) }
     ensures failed { OnErr result (Failed (K.failures sink.old) (K.failures sink.new)) }
+    ensures unflushed { OnErr result (K.flushed sink.new ≡ false) }
 {
     let mut at = 0;
     while at < text.len() {
@@ -115,6 +119,7 @@ fn flush<K: Sink>(sink: &mut K) -> Result<(), WriteFailed>
     ensures counted { OnOk result (K.failures sink.new ≡ K.failures sink.old) }
     ensures flushed { OnOk result (K.flushed sink.new ≡ true) }
     ensures failed { OnErr result (Failed (K.failures sink.old) (K.failures sink.new)) }
+    ensures unflushed { OnErr result (K.flushed sink.new ≡ false) }
 {
     match sink.flush() {
         Ok(()) => Ok(()),
@@ -127,7 +132,7 @@ fn flush<K: Sink>(sink: &mut K) -> Result<(), WriteFailed>
 /// # Errors
 ///
 /// `WriteFailed` at the first call that fails or takes no byte; then a beginning of the text was
-/// written.
+/// written, and the last call was no flush that succeeded.
 pub fn write_all<K: Sink>(sink: &mut K, text: &[u8]) -> Result<(), WriteFailed>
     ensures ok { OnOk result (Appends (K.contents sink.old) (K.contents sink.new) text.now) }
     ensures counted { OnOk result (K.failures sink.new ≡ K.failures sink.old) }
@@ -135,6 +140,7 @@ pub fn write_all<K: Sink>(sink: &mut K, text: &[u8]) -> Result<(), WriteFailed>
     ensures beginning { OnErr result
         (WritesBeginning (K.contents sink.old) (K.contents sink.new) text.now) }
     ensures failed { OnErr result (Failed (K.failures sink.old) (K.failures sink.new)) }
+    ensures unflushed { OnErr result (K.flushed sink.new ≡ false) }
 {
     match write_whole(sink, text) {
         Ok(()) => flush(sink),
@@ -150,6 +156,7 @@ fn write_each<K: Sink>(sink: &mut K, texts: &[String]) -> Result<(), WriteFailed
     ensures beginning { OnErr result (WritesBeginning (K.contents sink.old)
         (K.contents sink.new) (flat_map string_bytes texts.now)) }
     ensures failed { OnErr result (Failed (K.failures sink.old) (K.failures sink.new)) }
+    ensures unflushed { OnErr result (K.flushed sink.new ≡ false) }
 {
     for text in texts {
         if let Err(failed) = write_whole(sink, text.as_bytes()) {
@@ -164,7 +171,7 @@ fn write_each<K: Sink>(sink: &mut K, texts: &[String]) -> Result<(), WriteFailed
 /// # Errors
 ///
 /// `WriteFailed` at the first call that fails or takes no byte; then a beginning of the texts was
-/// written.
+/// written, and the last call was no flush that succeeded.
 pub fn write_parts<K: Sink>(sink: &mut K, texts: &[String]) -> Result<(), WriteFailed>
     ensures ok { OnOk result
         (Appends (K.contents sink.old) (K.contents sink.new) (flat_map string_bytes texts.now)) }
@@ -173,6 +180,7 @@ pub fn write_parts<K: Sink>(sink: &mut K, texts: &[String]) -> Result<(), WriteF
     ensures beginning { OnErr result (WritesBeginning (K.contents sink.old)
         (K.contents sink.new) (flat_map string_bytes texts.now)) }
     ensures failed { OnErr result (Failed (K.failures sink.old) (K.failures sink.new)) }
+    ensures unflushed { OnErr result (K.flushed sink.new ≡ false) }
 {
     match write_each(sink, texts) {
         Ok(()) => flush(sink),
