@@ -1,8 +1,7 @@
 //! A whole request: from the words and the input to the report that is written.
 
 ghost use Rattle.std.specs.Prelude.{◌≡◌, ◌≢◌, ◌⊎◌, ◌<◌, IfErr, IfOk, IfSome, OnOk, Err, None};
-ghost use Rattle.std.specs.Prelude.{map};
-ghost use Rattle.std.specs.Prelude.{true};
+ghost use Rattle.std.specs.Prelude.{◌+◌, map, true, false};
 ghost use Rattle.devices.specs.Devices.{Failed, GaveAtMost};
 ghost use Rattle.request.specs.Asked.{Asked, asked, asked_by};
 ghost use Rattle.request.specs.Input.{input_limit};
@@ -77,8 +76,8 @@ fn report_of<R: Threads + Wait + Sync, G: Gate>(
 /// Found in this order: `Words` before a byte is read; `Read`; `Input`; `TooMany`; `Write`. The
 /// input is read to its end or to the first byte past [`INPUT_LIMIT`]. `NoMemory` and `NoThread`
 /// may stand in place of any of these that isn't found yet, `NoThread` only where the words ask for
-/// more than one worker. After `Write` a beginning of the report was written, after any other
-/// refusal nothing.
+/// more than one worker. After `Write` a beginning of the report was written, and the writer's last
+/// call was no flush that succeeded; after any other refusal nothing was written.
 pub fn serve<R, S, K, W, G>(
     rt: &R,
     alloc: Global,
@@ -131,10 +130,15 @@ where
     ensures writes_last { result ≢ Err ServeStop.Write
         → K.failures writer.new ≡ K.failures writer.old }
 
+    // What was read: whatever it answers, at most one byte past the limit of an input.
+    ensures read_most { GaveAtMost (S.remaining reader.old) (S.remaining reader.new)
+        (input_limit + 1) }
+
     // What was written.
     ensures beginning { result ≡ Err ServeStop.Write
         → OfWholeInput (S.remaining reader.old) (S.remaining reader.new) (λ input. BeginsAnswer
         (map W.text words.now) input (K.contents writer.old) (K.contents writer.new)) }
+    ensures unflushed { result ≡ Err ServeStop.Write → K.flushed writer.new ≡ false }
     ensures nothing { IfErr result (λ e. e ≢ ServeStop.Write → writer.new ≡ writer.old) }
 {
     let request = match read_words(alloc, words) {
