@@ -1,16 +1,19 @@
 -- What `pack` says of a folder with one file comes to that file's pair.
 use Rattle.std.proofs.Common.{◌≡◌, ◌≢◌, ◌∙◌, ℕ, Bool, true, false, List, [], ◌∷◌, refl, ap, ap₂, sym, subst, inl, inr, arith, true≢false}
-use Rattle.std.specs.Prelude.{All, Contains, IfOk, IsSome, Option, Some, None, Result, Ok, Err, if◌then◌else◌}
+use Rattle.std.specs.Prelude.{All, Contains, IfErr, IfOk, IsSome, Option, Some, None, Result, Ok, Err, if◌then◌else◌}
 use Rattle.std.specs.List.{IsDistinct}
 use Rattle.std.specs.Str.{bytes_eq}
 use Rattle.std.proofs.lemmas.List.Elements.{All-head, All-tail, All-weaker, Contains-push, Contains-push_cases}
 use Rattle.std.proofs.lemmas.Slice.Eq.{bytes_eq-Decides}
-use Rattle.request.specs.Input.{Spells}
 use Rattle.workspace.specs.Workspaces.{Pair, paths_of}
-use Rattle.packing.specs.Folders.{IsHiddenFolder, IsKnown, Node, Reaches, below, file, folder, here, inside, is_output, onward, start}
+use Rattle.packing.specs.Folders.{IsHiddenFolder, IsKnown, Node, Reaches, below, file, folder, here, inside, onward, passes_over, start}
+use Rattle.packing.specs.Inputs.{input_text}
 use Rattle.packing.specs.Packs.{AreAscending, IsOf, Packs, used_text}
+use Rattle.packing.specs.Refusals.{Refuses}
 use Rattle.packing.specs.declared.leaving.LeftOut.{LeftOut}
+use Rattle.packing.specs.declared.folders.Unread.{Unread}
 use Rattle.packing.specs.declared.whole.PackStop.{PackStop}
+use Rattle.packing.specs.declared.whole.PackStop.TheVariants as stop
 use Rattle.packing.specs.declared.whole.Packed.{Packed}
 use Rattle.packing.proofs.WritingLemmas.{ascending-distinct}
 use Rattle.input_tests.specs.Singles.{single}
@@ -67,7 +70,7 @@ reached : (name bytes from path : List ℕ) → Reaches (single name bytes) from
 reached name bytes from path (here p there is) = only_file name bytes p there is
 reached name bytes from path (inside f n p names there listed kept seen later) = reached name bytes (below f n) p later
 
-reaches : (name bytes : List ℕ) → name ≢ [] → is_output [] name ≡ false → Reaches (single name bytes) [] name
+reaches : (name bytes : List ℕ) → name ≢ [] → passes_over [] name ≡ false → Reaches (single name bytes) [] name
 reaches name bytes some kept =
     inside [] name name (name ∷ []) refl (Contains-push [] name) kept
     (λ hidden. subst (λ (n : Option Node). IsHiddenFolder n name) (is_file name bytes some) hidden)
@@ -99,18 +102,26 @@ one_pair name bytes (p ∷ q ∷ ps) some is of = absurd (cc)
 
 -- ---- the input
 
-spells_single : (name bytes : List ℕ) (p : Packed) → Packs (single name bytes) p → p.left.items ≡ [] → name ≢ [] → is_output [] name ≡ false
-    → Spells p.input.items ((name, used_text name bytes) ∷ [])
-spells_single name bytes p h left some kept =
+some_name : (name : List ℕ) → passes_over [] name ≡ false → name ≢ []
+some_name name kept is = true≢false (subst (λ (n : List ℕ). passes_over [] n ≡ false) is kept)
+
+input_of_single : (name bytes : List ℕ) (p : Packed) → Packs (single name bytes) p → p.left.items ≡ [] → passes_over [] name ≡ false
+    → p.input.items ≡ input_text ((name, used_text name bytes) ∷ [])
+input_of_single name bytes p h left kept =
+    let some : name ≢ [] = some_name name kept in
     let all : All (λ y. y ≡ name) (paths_of h.workspace) =
     All-weaker (Reaches (single name bytes) []) (λ y. y ≡ name) (λ y r. reached name bytes [] y r) (paths_of h.workspace) (h.only (known name bytes some)) in
     let there : Contains (paths_of h.workspace) name = elim (h.whole name (reaches name bytes some kept)) [
       | inl has ↦ has
       | inr out ↦ absurd (none_in out.0 (subst (λ (ls : List LeftOut). Contains ls out.0) left out.1))
     ] in
-    subst (Spells p.input.items) (one_pair name bytes h.workspace some (one_path (paths_of h.workspace) name h.ascending all there) h.of) h.spelt
+    h.told ∙ ap input_text (one_pair name bytes h.workspace some (one_path (paths_of h.workspace) name h.ascending all there) h.of)
 
 pub packs-single : (name bytes : List ℕ) (r : Result Packed PackStop) → IfOk r (Packs (single name bytes)) → IfOk r (λ p. true ≡ true → p.left.items ≡ [])
-    → IfOk r (λ p. name ≢ [] → is_output [] name ≡ false → Spells p.input.items ((name, used_text name bytes) ∷ []))
-packs-single name bytes (Ok p) packs strict = λ some kept. spells_single name bytes p packs (strict refl) some kept
+    → IfOk r (λ p. passes_over [] name ≡ false → p.input.items ≡ input_text ((name, used_text name bytes) ∷ []))
+packs-single name bytes (Ok p) packs strict = λ kept. input_of_single name bytes p packs (strict refl) kept
 packs-single name bytes (Err e) packs strict = tt
+
+-- its root is read
+pub root-read : (name bytes : List ℕ) (r : Result Packed PackStop) (u : Unread) → IfErr r (Refuses (single name bytes) true) → r ≡ Err (stop.Root u) → ⊥
+root-read name bytes r u refuses is = (subst (λ (x : Result Packed PackStop). IfErr x (Refuses (single name bytes) true)) is refuses).1

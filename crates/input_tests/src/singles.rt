@@ -1,8 +1,9 @@
 //! A folder with one file in it, of which all is known.
 
-ghost use Rattle.std.specs.Prelude.{◌≡◌, ◌≢◌, ◌≤◌, ◌<◌, [], ◌∷◌, false, Err, IfOk, length, vec_len};
-ghost use Rattle.request.specs.Input.{Spells};
-ghost use Rattle.packing.specs.Folders.{is_output};
+ghost use Rattle.std.specs.Prelude.{◌≡◌, ◌≢◌, ◌≤◌, ◌<◌, [], ◌∷◌, false, Err, IfErr, IfOk, length};
+ghost use Rattle.std.specs.Prelude.{vec_len, ⊥};
+ghost use Rattle.packing.specs.Folders.{passes_over};
+ghost use Rattle.packing.specs.Inputs.{input_text};
 ghost use Rattle.packing.specs.Packs.{used_text};
 ghost use Rattle.input_tests.specs.Singles.{single};
 
@@ -25,6 +26,7 @@ pub fn given(alloc: Global, bytes: &[u8], limit: usize) -> Result<Vec<u8>, Unrea
     ensures items { IfOk result (λ b. b.items ≡ bytes.now) }
     ensures limit { IfOk result (λ b. vec_len b ≤ limit) }
     ensures long { result ≡ Err Unread.TooLong → limit < length bytes.now }
+    ensures read { IfErr result (λ e. e ≢ Unread.NoMemory → e ≢ Unread.TooLong → ⊥) }
 {
     if bytes.len() > limit {
         return Err(Unread::TooLong);
@@ -79,16 +81,16 @@ impl<'a> Folder for Single<'a> {
 }
 
 /// Packs such a folder with nothing left out. What `pack` says of every folder comes here to the
-/// very input: that file's pair, and no other.
+/// very bytes of the input: that file's pair, and no other. And the folder is read.
 pub fn pack_single<K: Sink>(
     folder: &Single<'_>,
     alloc: Global,
     sink: &mut K,
 ) -> Result<Packed, PackStop>
-    ensures { IfOk result (λ p. folder.now.name.now ≢ []
-        → is_output [] folder.now.name.now ≡ false
-        → Spells p.input.items
+    ensures input { IfOk result (λ p. passes_over [] folder.now.name.now ≡ false
+        → p.input.items ≡ input_text
         ((folder.now.name.now, used_text folder.now.name.now folder.now.bytes.now) ∷ [])) }
+    ensures read { (unread : Unread) → result ≡ Err (PackStop.Root unread) → ⊥ }
 {
     pack(folder, alloc, true, sink)
 }

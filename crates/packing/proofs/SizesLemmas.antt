@@ -1,6 +1,6 @@
 -- Files with their sizes, the greatest first.
 use Rattle.std.proofs.Common.{◌≡◌, ◌∙◌, ◌<◌, ◌≤◌, ◌+◌, ◌-◌, ◌++◌, ℕ, false, List, [], ◌∷◌, length, ap, subst, sym, inl, inr, arith, cond, get_or, lt-ltb, take, true, true≢false}
-use Rattle.std.specs.Prelude.{All, ◌==◌, None, Option, Some, reverse}
+use Rattle.std.specs.Prelude.{All, IsUtf8, ◌==◌, None, Option, Some, reverse}
 use Rattle.std.specs.Cmp.Lexicographic.{slice_cmp}
 use Rattle.std.specs.Ordering.{is_lt, nat_cmp, ordering_then}
 use Rattle.std.specs.declared.cmp.Ordering.{Ordering}
@@ -10,7 +10,8 @@ use Rattle.std.proofs.lemmas.List.{get_or-reverse, get_or-take, length-reverse, 
 use Rattle.std.proofs.lemmas.List.Elements.{All-push, All-same, All-take}
 use Rattle.std.proofs.lemmas.List.Sorted.{All-permutation, IsNonDecreasingBy-from_all_adjacent}
 use Rattle.std.proofs.lemmas.Bool.{cases_lt}
-use Rattle.packing.specs.Folders.{At, HasBytes, IsFound, Node, file, folder, link, special}
+use Rattle.workspace.specs.Paths.{is_path}
+use Rattle.packing.specs.Folders.{At, HasBytes, IsFound, Node, file, folder, link, special, unread}
 use Rattle.packing.specs.Packs.{is_used}
 use Rattle.packing.specs.Refusals.{AreSizes, HasSize, IsSize}
 use Rattle.packing.specs.declared.whole.FileSize.{FileSize}
@@ -33,20 +34,23 @@ rises xs sorted =
 
 -- ---- one file more
 
-sized : (n : Option Node) (bytes : List ℕ) → HasBytes n bytes → HasSize n (length bytes)
-sized None bytes told = told
-sized (Some (folder names)) bytes told = told
-sized (Some (file there)) bytes told = ap length told
-sized (Some link) bytes told = told
-sized (Some special) bytes told = told
+sized : (n : Option Node) (bytes : List ℕ) → IsUtf8 bytes → HasBytes n bytes → HasSize n (length bytes)
+sized None bytes utf8 told = told
+sized (Some (folder names)) bytes utf8 told = told
+sized (Some (file there)) bytes utf8 told = (ap length told, subst IsUtf8 told utf8)
+sized (Some link) bytes utf8 told = told
+sized (Some special) bytes utf8 told = told
+sized (Some (unread u)) bytes utf8 told = told
 
 pub sized-more : (at : At) (sizes more : List FileSize) (s : FileSize) (path bytes : List ℕ) → more ≡ sizes ++ s ∷ [] → IsFound at path
-    → is_used path ≡ true → HasBytes (at path) bytes → s.bytes ≡ length bytes → path ≡ s.path → All (IsSize at) sizes → All (IsSize at) more
-sized-more at sizes more s path bytes is found used told count same each =
+    → is_path path ≡ true → is_used path ≡ true → IsUtf8 bytes → HasBytes (at path) bytes → s.bytes ≡ length bytes → path ≡ s.path
+    → All (IsSize at) sizes → All (IsSize at) more
+sized-more at sizes more s path bytes is found legal used utf8 told count same each =
     let size : IsSize at s = record {
       found = subst (IsFound at) same found;
+      legal = subst (λ p. is_path p ≡ true) same legal;
       used = subst (λ p. is_used p ≡ true) same used;
-      bytes = subst (λ p. HasSize (at p) s.bytes) same (subst (HasSize (at path)) (sym count) (sized (at path) bytes told));
+      bytes = subst (λ p. HasSize (at p) s.bytes) same (subst (HasSize (at path)) (sym count) (sized (at path) bytes utf8 told));
     } in
     All-same (IsSize at) more (sizes ++ s ∷ []) is (All-push (IsSize at) sizes s each size)
 

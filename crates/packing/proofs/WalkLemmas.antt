@@ -7,14 +7,15 @@ use Rattle.std.specs.BTreeSet.{insert_key}
 use Rattle.std.specs.Cmp.Lexicographic.{slice_cmp}
 use Rattle.std.specs.Ordering.{is_eq, match_ordering, nat_cmp}
 use Rattle.std.proofs.lemmas.List.{take_more}
-use Rattle.std.proofs.lemmas.List.Elements.{All-cons, All-nil, All-pop, All-push, All-same, Contains-append_cases, Contains-append_left, Contains-append_right, Contains-push, Contains-push_cases}
+use Rattle.std.proofs.lemmas.List.Elements.{All-nil, All-pop, All-push, All-same, Contains-append_cases, Contains-append_left, Contains-append_right, Contains-push, Contains-push_cases}
 use Rattle.std.proofs.lemmas.Map.Text.{is_eq-slice_cmp}
 use Rattle.std.proofs.lemmas.Slice.Eq.{bytes_eq-Decides}
 use Rattle.std.proofs.lemmas.Map.Views.{All-insert_key}
-use Rattle.packing.specs.Folders.{Asks, At, Comes, HasKind, HasNames, IsFile, IsFolder, IsHiddenFolder, IsKnown, IsListed, Node, Reaches, below, by_name, file, folder, here, inside, is_hidden, is_output, link, onward, root, special, start}
+use Rattle.packing.specs.Folders.{Asks, At, Comes, HasKind, HasNames, IsFile, IsFolder, HasNoBytes, HasNoNames, IsHiddenFolder, IsKnown, IsListed, IsUnread, Node, Reaches, below, by_name, file, folder, here, inside, is_hidden, passes_over, link, onward, root, special, start, unread}
 use Rattle.packing.specs.Packs.{HasReason, IsNamed}
-use Rattle.packing.specs.Walks.{CoversFrom, CoversName, Grows, IsCovered, IsWithin, Stays}
+use Rattle.packing.specs.Walks.{CoversFrom, CoversName, Grows, IsBegun, IsBelow, IsCovered, IsWithin, Stays}
 use Rattle.packing.specs.declared.folders.Kind.TheVariants as kind
+use Rattle.packing.specs.declared.folders.Unread.{Unread}
 use Rattle.packing.specs.declared.leaving.LeftOut.{LeftOut}
 use Rattle.packing.specs.declared.leaving.Reason.TheVariants as reason
 use Rattle.packing.specs.declared.walk.Walk.{Walk}
@@ -24,7 +25,7 @@ same-contains xs ys x same h = subst (λ zs. Contains zs x) (sym same) h
 
 named-same : (at : At) (left more : List LeftOut) (l : LeftOut) (path : List ℕ) → more ≡ left ++ l ∷ [] → IsNamed at left path → IsNamed at more path
 named-same at left more l path is n =
-    (n.0, same-contains (left ++ l ∷ []) more n.0 is (Contains-append_left left (l ∷ []) n.0 n.1), n.2, n.3)
+    (n.0, same-contains (left ++ l ∷ []) more n.0 is (Contains-append_left left (l ∷ []) n.0 n.1), n.2, n.3, n.4)
 
 -- something more is named
 pub grows-left : (at : At) (old new : Walk) (l : LeftOut) → new.files.keys ≡ old.files.keys → new.waiting.items ≡ old.waiting.items
@@ -39,21 +40,23 @@ grows-left at old new l files waiting left reason = record {
   ];
   files = λ h. subst (λ ks. All (λ p. IsFile (at p)) ks) (sym files) h;
   reasons = λ h. subst (λ ls. All (HasReason at) ls) (sym left) (All-push (HasReason at) old.left.items l h reason);
+  onward = λ h. subst (λ ws. All (IsBelow at) ws) (sym waiting) h;
 }
 
-pub covers-left : (at : At) (new : Walk) (left : List LeftOut) (l : LeftOut) → new.left.items ≡ left ++ l ∷ [] → l.reason ≢ reason.NamesNotUtf8
-    → CoversFrom at new l.path
-covers-left at new left l is itself path h =
-    inr (inl (l, same-contains (left ++ l ∷ []) new.left.items l is (Contains-push left l), itself, h))
+pub covers-left : (at : At) (new : Walk) (left : List LeftOut) (l : LeftOut) → new.left.items ≡ left ++ l ∷ [] → l.path ≢ []
+    → l.reason ≢ reason.NamesNotUtf8 → CoversFrom at new l.path
+covers-left at new left l is below itself path h =
+    inr (inl (l, same-contains (left ++ l ∷ []) new.left.items l is (Contains-push left l), below, itself, h))
 
 pub grows-same : (at : At) (w : Walk) → Grows at w w
-grows-same at w = record { covered = λ path h. h; files = λ h. h; reasons = λ h. h }
+grows-same at w = record { covered = λ path h. h; files = λ h. h; reasons = λ h. h; onward = λ h. h }
 
 pub grows-then : (at : At) (a b c : Walk) → Grows at a b → Grows at b c → Grows at a c
 grows-then at a b c g h = record {
   covered = λ path k. h.covered path (g.covered path k);
   files = λ k. h.files (g.files k);
   reasons = λ k. h.reasons (g.reasons k);
+  onward = λ k. h.onward (g.onward k);
 }
 
 -- ---- paths in order
@@ -97,12 +100,13 @@ grows-found at old new path files waiting left is = record {
   covered = λ p h. elim h [
     | inl found ↦ inl (same-contains (insert_key order old.files.keys path) new.files.keys p files (insert-keeps old.files.keys path p found))
     | inr rest ↦ elim rest [
-      | inl named ↦ inr (inl (named.0, same-contains old.left.items new.left.items named.0 left named.1, named.2, named.3))
+      | inl named ↦ inr (inl (named.0, same-contains old.left.items new.left.items named.0 left named.1, named.2, named.3, named.4))
       | inr waits ↦ inr (inr (waits.0, same-contains old.waiting.items new.waiting.items waits.0 waiting waits.1, waits.2))
     ]
   ];
   files = λ h. subst (λ ks. All (λ p. IsFile (at p)) ks) (sym files) (All-insert_key order path (λ p. IsFile (at p)) old.files.keys h is);
   reasons = λ h. subst (λ ls. All (HasReason at) ls) (sym left) h;
+  onward = λ h. subst (λ ws. All (IsBelow at) ws) (sym waiting) h;
 }
 
 -- from a regular file only itself is reached
@@ -113,6 +117,44 @@ alone at from path is (inside f name p names there listed kept seen later) =
 
 pub covers-found : (at : At) (w : Walk) (path : List ℕ) → HasKind (at path) kind.File → Contains w.files.keys path → CoversFrom at w path
 covers-found at w path is found p h = inl (subst (λ q. Contains w.files.keys q) (sym (alone at path p is h)) found)
+
+-- ---- below the root
+
+pub below-some : (from name : List ℕ) → passes_over from name ≡ false → below from name ≢ []
+below-some from [] kept is = true≢false kept
+below-some [] (c ∷ cs) kept is = absurd (cc)
+below-some (b ∷ bs) (c ∷ cs) kept is = absurd (cc)
+
+reached-below : (at : At) (from path : List ℕ) → from ≢ [] → Reaches at from path → path ≢ []
+reached-below at from path some (here p bytes there) = some
+reached-below at from path some (inside f name p names there listed kept seen later) =
+    reached-below at (below f name) p (below-some f name kept) later
+
+folder-no_file : (n : Option Node) (bytes : List ℕ) → n ≡ Some (file bytes) → IsFolder n → ⊥
+folder-no_file n bytes there is = subst IsFolder there is
+
+-- a file that is reached from a folder is below it
+pub file-below : (at : At) (path : List ℕ) → IsFolder (at []) → Reaches at [] path → path ≢ []
+file-below at path is (here p bytes there) = absurd (folder-no_file (at []) bytes there is)
+file-below at path is (inside f name p names there listed kept seen later) =
+    reached-below at (below f name) p (below-some f name kept) later
+
+-- a folder below the root will be gone into
+pub grows-waits : (at : At) (old new : Walk) (path : List ℕ) → new.files.keys ≡ old.files.keys → new.waiting.items ≡ old.waiting.items ++ path ∷ []
+    → new.left.items ≡ old.left.items → IsBelow at path → Grows at old new
+grows-waits at old new path files waiting left below = record {
+  covered = λ p h. elim h [
+    | inl found ↦ inl (same-contains old.files.keys new.files.keys p files found)
+    | inr rest ↦ elim rest [
+      | inl named ↦ inr (inl (named.0, same-contains old.left.items new.left.items named.0 left named.1, named.2, named.3, named.4))
+      | inr waits ↦ inr (inr (waits.0, same-contains (old.waiting.items ++ path ∷ []) new.waiting.items waits.0 waiting
+          (Contains-append_left old.waiting.items (path ∷ []) waits.0 waits.1), waits.2))
+    ]
+  ];
+  files = λ h. subst (λ ks. All (λ p. IsFile (at p)) ks) (sym files) h;
+  reasons = λ h. subst (λ ls. All (HasReason at) ls) (sym left) h;
+  onward = λ h. subst (λ ws. All (IsBelow at) ws) (sym waiting) (All-push (IsBelow at) old.waiting.items path h below);
+}
 
 -- ---- into a folder
 
@@ -166,6 +208,7 @@ known-folder (Some (folder names)) told some has = ap (λ (ns : List (List ℕ))
 known-folder (Some (file bytes)) told some has = absurd has
 known-folder (Some link) told some has = absurd has
 known-folder (Some special) told some has = absurd has
+known-folder (Some (unread u)) told some has = absurd has
 
 known-file : (n : Option Node) → IsSome n → HasKind n kind.File → (bytes : List ℕ) × (n ≡ Some (file bytes))
 known-file None some has = absurd (cc)
@@ -173,6 +216,7 @@ known-file (Some (folder names)) some has = absurd (cc)
 known-file (Some (file bytes)) some has = (bytes, refl)
 known-file (Some link) some has = absurd (cc)
 known-file (Some special) some has = absurd (cc)
+known-file (Some (unread u)) some has = absurd has
 
 -- a file isn't hidden
 seen-file : (n : Option Node) (name : List ℕ) → HasKind n kind.File → IsHiddenFolder n name → ⊥
@@ -181,6 +225,7 @@ seen-file (Some (folder names)) name has h = absurd (cc)
 seen-file (Some (file bytes)) name has h = h
 seen-file (Some link) name has h = h
 seen-file (Some special) name has h = h
+seen-file (Some (unread u)) name has h = h
 
 -- nor is a name that begins with no dot
 pub seen-name : (n : Option Node) (name : List ℕ) → is_hidden name ≡ false → IsHiddenFolder n name → ⊥
@@ -189,6 +234,7 @@ seen-name (Some (folder names)) name shown h = absurd (true≢false (sym h ∙ s
 seen-name (Some (file bytes)) name shown h = h
 seen-name (Some link) name shown h = h
 seen-name (Some special) name shown h = h
+seen-name (Some (unread u)) name shown h = h
 
 -- what is reached from where a walk comes to is reached from the root
 comes-reaches : (at : At) (from path : List ℕ) → Comes at from → Reaches at from path → Reaches at [] path
@@ -201,12 +247,12 @@ pub listed-by : (at : At) (from : List ℕ) (told : List (List ℕ)) (name : Lis
     → Contains told name → IsListed at from name
 listed-by at from told name k c has listed = (told, c, known-folder (at from) told (k from c) has, listed)
 
-pub comes-by : (at : At) (from name : List ℕ) → IsListed at from name → is_output from name ≡ false → (IsHiddenFolder (at (below from name)) name → ⊥)
+pub comes-by : (at : At) (from name : List ℕ) → IsListed at from name → passes_over from name ≡ false → (IsHiddenFolder (at (below from name)) name → ⊥)
     → Comes at (below from name)
 comes-by at from name l kept seen = onward from name l.0 l.1 l.2 l.3 kept seen
 
 -- to a regular file
-pub reached-file : (at : At) (from name : List ℕ) → HasKind (at (below from name)) kind.File → is_output from name ≡ false
+pub reached-file : (at : At) (from name : List ℕ) → HasKind (at (below from name)) kind.File → passes_over from name ≡ false
     → IsKnown at → IsListed at from name → Reaches at [] (below from name)
 reached-file at from name is kept k l =
     let c : Comes at (below from name) = comes-by at from name l kept (seen-file (at (below from name)) name is) in
@@ -233,19 +279,56 @@ told-folder (Some (folder names)) told has = tt
 told-folder (Some (file bytes)) told has = has
 told-folder (Some link) told has = has
 told-folder (Some special) told has = has
+told-folder (Some (unread u)) told has = has
+
+-- a folder that tells no names, a regular file that tells no bytes, and what is unread, for one reason
+pub unread-folder : (n : Option Node) (u : Unread) → IsFolder n → HasNoNames n u → IsUnread n u
+unread-folder None u is has = has
+unread-folder (Some (folder names)) u is has = has
+unread-folder (Some (file bytes)) u is has = absurd is
+unread-folder (Some link) u is has = absurd is
+unread-folder (Some special) u is has = absurd is
+unread-folder (Some (unread there)) u is has = has
+
+pub unread-file : (n : Option Node) (u : Unread) → IsFile n → HasNoBytes n u → IsUnread n u
+unread-file None u is has = has
+unread-file (Some (folder names)) u is has = absurd is
+unread-file (Some (file bytes)) u is has = has
+unread-file (Some link) u is has = absurd is
+unread-file (Some special) u is has = absurd is
+unread-file (Some (unread there)) u is has = has
+
+-- what is told to be a folder is one, where it is known
+pub kind-folder : (n : Option Node) → HasKind n kind.Folder → IsFolder n
+kind-folder None has = has
+kind-folder (Some (folder names)) has = tt
+kind-folder (Some (file bytes)) has = absurd (cc)
+kind-folder (Some link) has = absurd (cc)
+kind-folder (Some special) has = absurd (cc)
+kind-folder (Some (unread u)) has = has
 
 -- ---- the whole walk
 
--- the root alone waits
-pub covers-root : (at : At) (w : Walk) → w.waiting.items ≡ [] ∷ [] → CoversFrom at w []
-covers-root at w waiting path r = inr (inr ([], same-contains ([] ∷ []) w.waiting.items [] waiting (one [] [] [] refl), r))
-
-pub within-root : (at : At) (w : Walk) → w.files.keys ≡ [] → w.waiting.items ≡ [] ∷ [] → w.left.items ≡ [] → IsWithin at w
-within-root at w files waiting left = record {
-  files = All-same (Reaches at []) w.files.keys [] files (All-nil (Reaches at []));
-  waiting = All-same (Comes at) w.waiting.items ([] ∷ []) waiting (All-cons (Comes at) [] [] start (All-nil (Comes at)));
-  left = All-same (λ (l : LeftOut). Asks at l.path) w.left.items [] left (All-nil (λ (l : LeftOut). Asks at l.path));
+-- a walk that has found nothing yet, and then went through the names in the root
+pub begun : (at : At) (names : List (List ℕ)) (none w : Walk) (from : List ℕ) → none.files.keys ≡ [] → none.waiting.items ≡ [] → none.left.items ≡ []
+    → from ≡ [] → HasNames (at []) names → Grows at none w → CoversFrom at w from → (Comes at from → Stays at none w) → IsBegun at w
+begun at names none w from files waiting left is told grows covers only = record {
+  root = told-folder (at []) names told;
+  covers = subst (CoversFrom at w) is covers;
+  onward = grows.onward (All-same (IsBelow at) none.waiting.items [] waiting (All-nil (IsBelow at)));
+  only = λ k. only (subst (Comes at) (sym is) start) k (record {
+    files = All-same (Reaches at []) none.files.keys [] files (All-nil (Reaches at []));
+    waiting = All-same (Comes at) none.waiting.items [] waiting (All-nil (Comes at));
+    left = All-same (λ (l : LeftOut). Asks at l.path) none.left.items [] left (All-nil (λ (l : LeftOut). Asks at l.path));
+  });
+  files = grows.files (All-same (λ p. IsFile (at p)) none.files.keys [] files (All-nil (λ p. IsFile (at p))));
+  reasons = grows.reasons (All-same (HasReason at) none.left.items [] left (All-nil (HasReason at)));
 }
+
+-- a folder that waited is taken out, and all that wait are below the root
+pub below-taken : (at : At) (old new : Walk) (from : List ℕ) → old.waiting.items ≡ new.waiting.items ++ from ∷ [] → All (IsBelow at) old.waiting.items
+    → All (IsBelow at) new.waiting.items × IsBelow at from
+below-taken at old new from waiting h = All-pop (IsBelow at) old.waiting.items new.waiting.items (Some from) waiting h
 
 -- a folder that waited is taken out
 pub within-taken : (at : At) (old new : Walk) (from : List ℕ) → new.files.keys ≡ old.files.keys → new.left.items ≡ old.left.items
@@ -265,7 +348,7 @@ pub taken-covered : (at : At) (old new : Walk) (from path : List ℕ) → new.fi
 taken-covered at old new from path files left waiting h = elim h [
   | inl found ↦ inl (inl (same-contains old.files.keys new.files.keys path files found))
   | inr rest ↦ elim rest [
-    | inl named ↦ inl (inr (inl (named.0, same-contains old.left.items new.left.items named.0 left named.1, named.2, named.3)))
+    | inl named ↦ inl (inr (inl (named.0, same-contains old.left.items new.left.items named.0 left named.1, named.2, named.3, named.4)))
     | inr waits ↦ elim (Contains-push_cases new.waiting.items from waits.0 (subst (λ (xs : List (List ℕ)). Contains xs waits.0) waiting waits.1)) [
       | inl other ↦ inl (inr (inr (waits.0, other, waits.2)))
       | inr this ↦ inr (subst (λ (f : List ℕ). Reaches at f path) (sym this) waits.2)

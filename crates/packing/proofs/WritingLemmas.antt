@@ -23,7 +23,7 @@ use Rattle.workspace.specs.FileKinds.{is_build_file, is_module}
 use Rattle.workspace.specs.Workspaces.{IsWorkspace, Pair, is_file, paths_of}
 use Rattle.packing.specs.Folders.{At, IsFound, Reaches, below, here, inside}
 use Rattle.packing.specs.Inputs.{begun_text, comma, input_text, pair_text}
-use Rattle.packing.specs.Packs.{AreAscending, HasCause, Holds, IsOf, Packs, counts_of, how_many, is_used}
+use Rattle.packing.specs.Packs.{AreAscending, HasCause, Holds, IsOf, Packs, counts_of, how_many, is_bazel_file, is_used}
 use Rattle.packing.specs.Walks.{IsWalked}
 use Rattle.packing.specs.Writing.{ArePacked, AreTooMuch, Exceeds, Leaves, Names, Puts, Takes, Written, counted_too, one_more}
 use Rattle.packing.specs.declared.leaving.LeftOut.{LeftOut}
@@ -34,7 +34,7 @@ use Rattle.packing.specs.declared.whole.Packed.{Packed}
 use Rattle.packing.specs.declared.walk.Walk.{Walk}
 use Rattle.packing.specs.declared.writing.Writing.{Writing}
 use Rattle.packing.specs.declared.writing.WriteStop.{WriteStop}
-use Rattle.packing.proofs.WalkLemmas.{reaches-asks}
+use Rattle.packing.proofs.WalkLemmas.{file-below, reaches-asks}
 use Rattle.packing.proofs.InputTexts.{begun-closed, begun-nil, begun-push, text_spells}
 
 abbrev order : List ℕ → List ℕ → Ordering
@@ -70,15 +70,16 @@ pub takes-put : (at : At) (path text : List ℕ) (old : Writing) (r : Result Wri
     → IfOk r (λ w. w.input.items ≡ old.input.items ++ (comma old.input.items ++ pair_text (path, text)))
     → IfOk r (λ _. IsUtf8 (pair_text (path, text))) → IfOk r (λ w. length w.input.items < input_limit) → IfOk r (λ w. w.left ≡ old.left)
     → IfOk r (λ w. w.counts ≡ counted_too path old.counts)
-    → is_file (path, text) ≡ true → IsOf (at path) (path, text) → IfOk r (Takes at path old)
-takes-put at path text old (Err e) input utf8 limit left counted file of = tt
-takes-put at path text old (Ok w) input utf8 limit left counted file of = record {
+    → is_file (path, text) ≡ true → IsOf (at path) (path, text) → is_bazel_file path ≡ false → IfOk r (Takes at path old)
+takes-put at path text old (Err e) input utf8 limit left counted file of served = tt
+takes-put at path text old (Ok w) input utf8 limit left counted file of served = record {
   taken = λ pairs begun. inl (record {
     text = text;
     begun = input ∙ ap (λ i. i ++ (comma i ++ pair_text (path, text))) begun ∙ sym (begun-push pairs (path, text));
     limit = limit;
     file = file;
     of = of;
+    served = served;
     left = ap (λ l. l.items) left;
     counted = counted;
   });
@@ -119,15 +120,20 @@ before_is_below keys i d x ascending lt h =
     let at : get_or keys h.0 x ≡ x = sym (get_or-take i keys h.0 x within) ∙ h.2 in
     sym (ap₂ order at (get_or_default keys i x d lt)) ∙ Less-from_sorted order keys h.0 i x ascending within lt
 
+abbrev is_served : Pair → Type 0
+is_served p = is_bazel_file p.0 ≡ false
+
 packed-push : (at : At) (keys : List (List ℕ)) (i : ℕ) (d : List ℕ) (ps : List Pair) (text : List ℕ) → AreAscending keys → i < length keys
     → All (Contains (take i keys)) (paths_of ps) → ArePacked at ps → is_file (get_or keys i d, text) ≡ true
-    → IsOf (at (get_or keys i d)) (get_or keys i d, text) → ArePacked at (ps ++ (get_or keys i d, text) ∷ [])
-packed-push at keys i d ps text ascending lt within packed file of = record {
+    → IsOf (at (get_or keys i d)) (get_or keys i d, text) → is_bazel_file (get_or keys i d) ≡ false
+    → ArePacked at (ps ++ (get_or keys i d, text) ∷ [])
+packed-push at keys i d ps text ascending lt within packed file of served = record {
   files = list_all-push ps (get_or keys i d, text) packed.files file;
   ascending = subst AreAscending (sym (map-append (λ (p : Pair). p.0) ps ((get_or keys i d, text) ∷ [])))
       (ascending-push (paths_of ps) (get_or keys i d) packed.ascending
       (All-weaker (Contains (take i keys)) (λ x. order x (get_or keys i d) ≡ Less) (λ x h. before_is_below keys i d x ascending lt h) (paths_of ps) within));
   of = All-push (λ (p : Pair). IsOf (at p.0) p) ps (get_or keys i d, text) packed.of of;
+  served = All-push is_served ps (get_or keys i d, text) packed.served served;
 }
 
 paths-push : (ps : List Pair) (path text : List ℕ) → paths_of (ps ++ (path, text) ∷ []) ≡ paths_of ps ++ path ∷ []
@@ -175,7 +181,7 @@ written-step at keys i d before old new ascending lt h t = elim (t.taken h.pairs
     put : Puts at (get_or keys i d) old new h.pairs → Written at (take (i + 1) keys) before new
     put p = record {
       pairs = h.pairs ++ (get_or keys i d, p.text) ∷ [];
-      packed = packed-push at keys i d h.pairs p.text ascending lt h.within h.packed p.file p.of;
+      packed = packed-push at keys i d h.pairs p.text ascending lt h.within h.packed p.file p.of p.served;
       begun = p.begun;
       limit = p.limit;
       utf8 = t.utf8 h.utf8;
@@ -230,7 +236,7 @@ pub written-none : (at : At) (before : List LeftOut) (w : Writing) → w.input.i
 written-none at before w is left causes counted =
     let bracket : w.input.items ≡ 91 ∷ [] = is ∙ begun-nil in record {
       pairs = [];
-      packed = record { files = refl; ascending = ascending-nil; of = All-nil (λ (p : Pair). IsOf (at p.0) p) };
+      packed = record { files = refl; ascending = ascending-nil; of = All-nil (λ (p : Pair). IsOf (at p.0) p); served = All-nil is_served };
       begun = is;
       limit = subst (λ (bs : List ℕ). length bs < input_limit) (sym bracket) (lit< tt);
       utf8 = subst IsUtf8 (sym bracket) (IsUtf8-are_ascii (91 ∷ []) refl);
@@ -286,12 +292,13 @@ too_much at keys rest i x before w ascending is h e =
     ∙ ap₂ (λ (i : List ℕ) (p : List ℕ). i ++ (comma i ++ pair_text (p, e.0))) (sym h.begun) head.1) in record {
       pairs = pairs;
       packed = packed-push at keys i x h.pairs e.0 ascending head.0 h.within h.packed
-          (subst (λ (p : List ℕ). is_file (p, e.0) ≡ true) path e.1) (subst (λ (p : List ℕ). IsOf (at p) (p, e.0)) path e.2);
+          (subst (λ (p : List ℕ). is_file (p, e.0) ≡ true) path e.1) (subst (λ (p : List ℕ). IsOf (at p) (p, e.0)) path e.2)
+          (subst (λ (p : List ℕ). is_bazel_file p ≡ false) path e.3);
       within = subst (All (Contains keys)) (sym (paths-push h.pairs (get_or keys i x) e.0))
           (All-push (Contains keys) (paths_of h.pairs) (get_or keys i x)
           (All-weaker (Contains (take i keys)) (Contains keys) (λ y. taken-within keys i y head.0) (paths_of h.pairs) h.within)
           (Contains-get_or keys i x head.0));
-      long = omega (arith, e.3, ap length text, length-append (w.input.items ++ (comma w.input.items ++ pair_text (x, e.0))) (93 ∷ []));
+      long = omega (arith, e.4, ap length text, length-append (w.input.items ++ (comma w.input.items ++ pair_text (x, e.0))) (93 ∷ []));
     }
 
 -- ---- the whole input
@@ -306,10 +313,14 @@ reaches_itself : (at : At) (from path : List ℕ) → Reaches at from path → R
 reaches_itself at from path (here p bytes there) = here p bytes there
 reaches_itself at from path (inside f name p names there listed kept seen later) = reaches_itself at (below f name) p later
 
+closed_text : (at : At) (done : List (List ℕ)) (before : List LeftOut) (w : Writing) (h : Written at done before w) (input : List ℕ)
+    → input ≡ w.input.items ++ 93 ∷ [] → input ≡ input_text h.pairs
+closed_text at done before w h input is = is ∙ ap (λ (bs : List ℕ). bs ++ 93 ∷ []) h.begun ∙ sym (begun-closed h.pairs)
+
 whole_input : (at : At) (done : List (List ℕ)) (before : List LeftOut) (w : Writing) (h : Written at done before w) (input : List ℕ)
     → input ≡ w.input.items ++ 93 ∷ [] → Spells input h.pairs
 whole_input at done before w h input is =
-    let text : input ≡ input_text h.pairs = is ∙ ap (λ (bs : List ℕ). bs ++ 93 ∷ []) h.begun ∙ sym (begun-closed h.pairs) in
+    let text : input ≡ input_text h.pairs = closed_text at done before w h input is in
     let utf8 : IsUtf8 input = subst IsUtf8 (sym is) (IsUtf8-append w.input.items (93 ∷ []) h.utf8 (IsUtf8-are_ascii (93 ∷ []) refl)) in
     let limit : length input ≤ input_limit = omega (arith, h.limit, ap length is, length-append w.input.items (93 ∷ [])) in
     subst (λ (bs : List ℕ). Spells bs h.pairs) (sym text)
@@ -322,15 +333,18 @@ pub packs-closed : (at : At) (walk : Walk) (w : Writing) (r : Result Packed Pack
 packs-closed at walk w (Err e) walked h input left counted = tt
 packs-closed at walk w (Ok p) walked h input left counted = record {
   workspace = h.pairs;
+  told = closed_text at walk.files.keys walk.left.items w h p.input.items input;
   spelt = whole_input at walk.files.keys walk.left.items w h p.input.items input;
   ascending = h.packed.ascending;
   of = h.packed.of;
+  served = h.packed.served;
   whole = λ path r. elim (walked.whole path r) [
     | inl found ↦ elim (h.whole path found) [
       | inl there ↦ inl there
       | inr out ↦ inr (
         out.0,
         subst (λ (ls : List LeftOut). Contains ls out.0) (sym same) out.1,
+        subst (λ (q : List ℕ). q ≢ []) (sym out.2.0) (file-below at path walked.root r),
         out.2.1,
         subst (λ (from : List ℕ). Reaches at from path) (sym out.2.0) (reaches_itself at [] path r),
       )
@@ -341,6 +355,7 @@ packs-closed at walk w (Ok p) walked h input left counted = record {
           (h.kept out.0 out.1),
       out.2,
       out.3,
+      out.4,
     )
   ];
   only = λ k. All-weaker (Contains walk.files.keys) (Reaches at [])

@@ -9,13 +9,16 @@ use Rattle.std.specs.Prelude.{codes, Option, Some, None, Contains, IsSome, ⊤}
 use Rattle.std.specs.List.{starts_with}
 use Rattle.packing.specs.declared.folders.Kind.{Kind}
 use Rattle.packing.specs.declared.folders.Kind.TheVariants as kind
+use Rattle.packing.specs.declared.folders.Unread.{Unread}
 
--- a folder with the names in it, a regular file with its bytes, a link, or what is none of these
+-- a folder with the names in it, a regular file with its bytes, a link, what is none of these, or
+-- what the system tells nothing of, and why
 pub data Node : Type 0 where
   folder : List (List ℕ) → Node
   file : List ℕ → Node
   link : Node
   special : Node
+  unread : Unread → Node
 
 -- what is known of a folder: what stands at each path below it
 abbrev pub At : Type 0
@@ -26,10 +29,12 @@ abbrev pub below : List ℕ → List ℕ → List ℕ
 below [] name = name
 below (b ∷ bs) name = (b ∷ bs) ++ 47 ∷ name
 
--- `bazel-*` in the root: Bazel's links to what it makes
-abbrev pub is_output : List ℕ → List ℕ → Bool
-is_output [] name = starts_with nat_eq name (codes "bazel-")
-is_output (b ∷ bs) name = false
+-- a name that is passed over: `bazel-*` in the root, as Bazel's links to what it makes are called,
+-- and the empty name, which no system has
+abbrev pub passes_over : List ℕ → List ℕ → Bool
+passes_over from [] = true
+passes_over [] (c ∷ cs) = starts_with nat_eq (c ∷ cs) (codes "bazel-")
+passes_over (b ∷ bs) (c ∷ cs) = false
 
 -- its name begins with a dot
 abbrev pub is_hidden : List ℕ → Bool
@@ -42,6 +47,7 @@ IsHiddenFolder (Some (folder names)) name = is_hidden name ≡ true
 IsHiddenFolder (Some (file bytes)) name = ⊥
 IsHiddenFolder (Some link) name = ⊥
 IsHiddenFolder (Some special) name = ⊥
+IsHiddenFolder (Some (unread u)) name = ⊥
 
 -- from a folder a walk reaches the regular file at a path: by names that stand in the folders on
 -- the way, none of them passed over
@@ -49,16 +55,16 @@ pub data Reaches (at : At) : List ℕ → List ℕ → Type 0 where
   here : (path bytes : List ℕ) → at path ≡ Some (file bytes) → Reaches at path path
   inside : (from name path : List ℕ) (names : List (List ℕ))
       → at from ≡ Some (folder names) → Contains names name
-      → is_output from name ≡ false → (IsHiddenFolder (at (below from name)) name → ⊥)
+      → passes_over from name ≡ false → (IsHiddenFolder (at (below from name)) name → ⊥)
       → Reaches at (below from name) path → Reaches at from path
 
 -- a walk comes to a path: that of the folder itself, and of each name in a folder that it comes to,
--- if what the name stands for isn't passed over
+-- but for names and folders that are passed over
 pub data Comes (at : At) : List ℕ → Type 0 where
   start : Comes at []
   onward : (from name : List ℕ) (names : List (List ℕ)) → Comes at from
       → at from ≡ Some (folder names) → Contains names name
-      → is_output from name ≡ false → (IsHiddenFolder (at (below from name)) name → ⊥)
+      → passes_over from name ≡ false → (IsHiddenFolder (at (below from name)) name → ⊥)
       → Comes at (below from name)
 
 -- a name stands in a folder that a walk comes to
@@ -67,10 +73,10 @@ IsListed at from name = (names : List (List ℕ)) × Comes at from
     × (at from ≡ Some (folder names)) × Contains names name
 
 -- a walk asks what stands at a path: that of the folder itself, and of each name in a folder that
--- it comes to, but not of Bazel's links
+-- it comes to, but not of those that are passed over
 pub data Asks (at : At) : List ℕ → Type 0 where
   root : Asks at []
-  by_name : (from name : List ℕ) → IsListed at from name → is_output from name ≡ false
+  by_name : (from name : List ℕ) → IsListed at from name → passes_over from name ≡ false
       → Asks at (below from name)
 
 -- what stands at each path that a walk comes to is known
@@ -84,6 +90,7 @@ HasNames (Some (folder names)) told = told ≡ names
 HasNames (Some (file bytes)) told = ⊥
 HasNames (Some link) told = ⊥
 HasNames (Some special) told = ⊥
+HasNames (Some (unread u)) told = ⊥
 
 -- what a folder tells is true of what is known: the kind of what stands at a path
 abbrev pub HasKind : Option Node → Kind → Type 0
@@ -92,6 +99,7 @@ HasKind (Some (folder names)) k = k ≡ kind.Folder
 HasKind (Some (file bytes)) k = k ≡ kind.File
 HasKind (Some link) k = k ≡ kind.Link
 HasKind (Some special) k = k ≡ kind.Special
+HasKind (Some (unread u)) k = ⊥
 
 -- what a folder tells is true of what is known: the bytes of a regular file
 abbrev pub HasBytes : Option Node → List ℕ → Type 0
@@ -100,6 +108,34 @@ HasBytes (Some (folder names)) told = ⊥
 HasBytes (Some (file bytes)) told = told ≡ bytes
 HasBytes (Some link) told = ⊥
 HasBytes (Some special) told = ⊥
+HasBytes (Some (unread u)) told = ⊥
+
+-- why nothing is told of a path is true of what is known
+abbrev pub IsUnread : Option Node → Unread → Type 0
+IsUnread None u = ⊤
+IsUnread (Some (folder names)) u = ⊥
+IsUnread (Some (file bytes)) u = ⊥
+IsUnread (Some link) u = ⊥
+IsUnread (Some special) u = ⊥
+IsUnread (Some (unread there)) u = there ≡ u
+
+-- why no names are told: a folder that is known tells them
+abbrev pub HasNoNames : Option Node → Unread → Type 0
+HasNoNames None u = ⊤
+HasNoNames (Some (folder names)) u = ⊥
+HasNoNames (Some (file bytes)) u = ⊤
+HasNoNames (Some link) u = ⊤
+HasNoNames (Some special) u = ⊤
+HasNoNames (Some (unread there)) u = there ≡ u
+
+-- why no bytes are told: a regular file that is known tells them
+abbrev pub HasNoBytes : Option Node → Unread → Type 0
+HasNoBytes None u = ⊤
+HasNoBytes (Some (folder names)) u = ⊤
+HasNoBytes (Some (file bytes)) u = ⊥
+HasNoBytes (Some link) u = ⊤
+HasNoBytes (Some special) u = ⊤
+HasNoBytes (Some (unread there)) u = there ≡ u
 
 -- a regular file of more bytes than the limit, where it is known
 abbrev pub IsLonger : Option Node → ℕ → Type 0
@@ -108,6 +144,7 @@ IsLonger (Some (folder names)) limit = ⊥
 IsLonger (Some (file bytes)) limit = limit < length bytes
 IsLonger (Some link) limit = ⊥
 IsLonger (Some special) limit = ⊥
+IsLonger (Some (unread u)) limit = ⊥
 
 -- a folder, where it is known
 abbrev pub IsFolder : Option Node → Type 0
@@ -116,6 +153,7 @@ IsFolder (Some (folder names)) = ⊤
 IsFolder (Some (file bytes)) = ⊥
 IsFolder (Some link) = ⊥
 IsFolder (Some special) = ⊥
+IsFolder (Some (unread u)) = ⊥
 
 -- a regular file, where it is known
 abbrev pub IsFile : Option Node → Type 0
@@ -124,6 +162,7 @@ IsFile (Some (folder names)) = ⊥
 IsFile (Some (file bytes)) = ⊤
 IsFile (Some link) = ⊥
 IsFile (Some special) = ⊥
+IsFile (Some (unread u)) = ⊥
 
 -- the path of a file that a walk found: a regular file stands there, where it is known, and where
 -- all is known that a walk comes to, it reaches the file

@@ -12,8 +12,10 @@ use Rattle.request.specs.Input.{Spells}
 use Rattle.workspace.specs.FileKinds.{is_build_file, is_module}
 use Rattle.workspace.specs.Paths.{is_path, last_segment}
 use Rattle.workspace.specs.Workspaces.{Pair, paths_of, text_limit}
-use Rattle.packing.specs.Folders.{Asks, At, IsFile, IsFolder, IsKnown, IsLonger, Node, Reaches}
-use Rattle.packing.specs.Folders.{file, folder, link, special}
+use Rattle.packing.specs.Folders.{Asks, At, IsFile, IsFolder, IsKnown, IsLonger, IsUnread, Node}
+use Rattle.packing.specs.Folders.{Reaches, file, folder, link, special, unread}
+use Rattle.packing.specs.Inputs.{input_text}
+use Rattle.packing.specs.declared.folders.Unread.TheVariants as why
 use Rattle.packing.specs.declared.leaving.LeftOut.{LeftOut}
 use Rattle.packing.specs.declared.leaving.Reason.{Reason}
 use Rattle.packing.specs.declared.leaving.Reason.TheVariants as reason
@@ -34,13 +36,15 @@ is_bazel_file path =
 abbrev pub used_text : List ℕ → List ℕ → List ℕ
 used_text path bytes = if is_used path then bytes else []
 
--- the pair is of the regular file that stands there, where that is known
+-- the pair is of the regular file that stands there, where that is known; where it isn't, the pair
+-- of a file that isn't used has the empty text
 abbrev pub IsOf : Option Node → Pair → Type 0
-IsOf None pair = ⊤
+IsOf None pair = is_used pair.0 ≡ false → pair.1 ≡ []
 IsOf (Some (folder names)) pair = ⊥
 IsOf (Some (file bytes)) pair = pair.1 ≡ used_text pair.0 bytes
 IsOf (Some link) pair = ⊥
 IsOf (Some special) pair = ⊥
+IsOf (Some (unread u)) pair = ⊥
 
 -- the bytes aren't UTF-8, where they are known
 abbrev pub IsNoText : Option Node → Type 0
@@ -49,6 +53,7 @@ IsNoText (Some (folder names)) = ⊥
 IsNoText (Some (file bytes)) = IsUtf8 bytes → ⊥
 IsNoText (Some link) = ⊥
 IsNoText (Some special) = ⊥
+IsNoText (Some (unread u)) = ⊥
 
 -- neither folder, file nor link, where it is known
 abbrev pub IsSpecial : Option Node → Type 0
@@ -57,10 +62,10 @@ IsSpecial (Some (folder names)) = ⊥
 IsSpecial (Some (file bytes)) = ⊥
 IsSpecial (Some link) = ⊥
 IsSpecial (Some special) = ⊤
+IsSpecial (Some (unread u)) = ⊥
 
 -- the reason holds of the path. The first four are told of a regular file, and of these the last
--- two only where its text is used. What couldn't be read and which names aren't UTF-8, no
--- definition tells
+-- two only where its text is used. Which names aren't UTF-8, no definition tells
 abbrev pub Holds : At → List ℕ → Reason → Type 0
 Holds at path reason.IllegalPath = IsFile (at path) × (is_path path ≡ false)
 Holds at path reason.BazelFile = IsFile (at path) × (is_bazel_file path ≡ true)
@@ -68,10 +73,10 @@ Holds at path reason.NotUtf8 = IsNoText (at path) × (is_used path ≡ true)
 Holds at path reason.TooLong = IsLonger (at path) text_limit × (is_used path ≡ true)
 Holds at path reason.Special = IsSpecial (at path)
 Holds at path reason.NamesNotUtf8 = IsFolder (at path)
-Holds at path reason.Gone = ⊤
-Holds at path reason.Denied = ⊤
-Holds at path reason.NameTooLong = ⊤
-Holds at path reason.Failed = ⊤
+Holds at path reason.Gone = IsUnread (at path) why.Gone
+Holds at path reason.Denied = IsUnread (at path) why.Denied
+Holds at path reason.NameTooLong = IsUnread (at path) why.NameTooLong
+Holds at path reason.Failed = IsUnread (at path) why.Failed ⊎ IsUnread (at path) why.TooLong
 
 -- what is named as left out has the reason that is told for it
 abbrev pub HasReason : At → LeftOut → Type 0
@@ -81,11 +86,11 @@ HasReason at l = Holds at l.path l.reason
 abbrev pub HasCause : At → LeftOut → Type 0
 HasCause at l = HasReason at l × (IsKnown at → Asks at l.path)
 
--- the file at a path, or a folder on the way to it, is named as left out. That a folder has names
--- that aren't UTF-8 leaves out no file that is reached by others
+-- the file at a path, or a folder on the way to it, is named as left out; the root is no such
+-- folder. That a folder has names that aren't UTF-8 leaves out no file that is reached by others
 abbrev pub IsNamed : At → List LeftOut → List ℕ → Type 0
-IsNamed at left path = (l : LeftOut) × Contains left l × (l.reason ≢ reason.NamesNotUtf8)
-    × Reaches at l.path path
+IsNamed at left path = (l : LeftOut) × Contains left l × (l.path ≢ [])
+    × (l.reason ≢ reason.NamesNotUtf8) × Reaches at l.path path
 
 -- the paths ascend by their bytes
 abbrev pub AreAscending : List (List ℕ) → Type 0
@@ -103,15 +108,18 @@ counts_of paths = record {
   sources = how_many (λ path. not (is_used path)) paths;
 }
 
--- what is written spells a workspace: its pairs ascend by their paths, and each is of a file of the
--- folder. Each file that a walk reaches is one of them, or is named as left out, and each that is
--- named has its cause. Where all is known that a walk comes to, no other file is one of them. The
--- files are counted by their kinds
+-- what is written is the text of a workspace, and spells it: its pairs ascend by their paths, and
+-- each is of a file of the folder, none of them a `BUILD.bazel` or `MODULE.bazel`. Each file that a
+-- walk reaches is one of them, or it or a folder on the way to it is named as left out, and each
+-- that is named has its cause. Where all is known that a walk comes to, no other file is one of
+-- them. The files are counted by their kinds
 pub record Packs (at : At) (p : Packed) : Type 0 where
   pub workspace : List Pair
+  pub told : p.input.items ≡ input_text workspace
   pub spelt : Spells p.input.items workspace
   pub ascending : AreAscending (paths_of workspace)
   pub of : All (λ q. IsOf (at q.0) q) workspace
+  pub served : All (λ q. is_bazel_file q.0 ≡ false) workspace
   pub whole : (path : List ℕ) → Reaches at [] path
       → Contains (paths_of workspace) path ⊎ IsNamed at p.left.items path
   pub only : IsKnown at → All (Reaches at []) (paths_of workspace)

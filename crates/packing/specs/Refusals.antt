@@ -1,9 +1,11 @@
 -- Why nothing is packed (docs/REPORT.md, "From a folder to an input"; this project's own choice).
 use Rattle.std.specs.Prelude.{◌≡◌, ◌≢◌, ◌<◌, ◌≤◌, ℕ, Bool, true, List, [], Option, Some, None}
-use Rattle.std.specs.Prelude.{length, slice_index_or, All, ⊤}
+use Rattle.std.specs.Prelude.{length, slice_index_or, All, IsUtf8, ⊤}
 use Rattle.devices.specs.Devices.{WritesBeginning}
-use Rattle.packing.specs.Folders.{At, IsFound, Node, file, folder, link, special}
-use Rattle.packing.specs.Packs.{HasCause, Packs, is_used}
+use Rattle.workspace.specs.Paths.{is_path}
+use Rattle.packing.specs.Folders.{At, HasNoNames, IsFound, Node, file, folder, link, special}
+use Rattle.packing.specs.Folders.{unread}
+use Rattle.packing.specs.Packs.{Packs, is_used}
 use Rattle.packing.specs.Writing.{IsTooMuch}
 use Rattle.packing.specs.declared.folders.Unread.TheVariants as why
 use Rattle.packing.specs.declared.whole.FileSize.{FileSize}
@@ -11,17 +13,19 @@ use Rattle.packing.specs.declared.whole.Packed.{Packed}
 use Rattle.packing.specs.declared.whole.PackStop.{PackStop}
 use Rattle.packing.specs.declared.whole.PackStop.TheVariants as stop
 
--- a regular file of so many bytes, where it is known
+-- a regular file of so many bytes that are UTF-8, where it is known
 abbrev pub HasSize : Option Node → ℕ → Type 0
 HasSize None n = ⊤
 HasSize (Some (folder names)) n = ⊥
-HasSize (Some (file bytes)) n = n ≡ length bytes
+HasSize (Some (file bytes)) n = (n ≡ length bytes) × IsUtf8 bytes
 HasSize (Some link) n = ⊥
 HasSize (Some special) n = ⊥
+HasSize (Some (unread u)) n = ⊥
 
--- a file that a walk found, whose text is used, with the number of its bytes
+-- a file that a walk found, whose path is legal and whose text is used, with the number of its bytes
 pub record IsSize (at : At) (s : FileSize) : Type 0 where
   pub found : IsFound at s.path
+  pub legal : is_path s.path ≡ true
   pub used : is_used s.path ≡ true
   pub bytes : HasSize (at s.path) s.bytes
 
@@ -33,14 +37,14 @@ pub record AreSizes (at : At) (sizes : List FileSize) : Type 0 where
   pub falling : (i j : ℕ) (d : FileSize) → i ≤ j → j < length sizes
       → (slice_index_or sizes j d).bytes ≤ (slice_index_or sizes i d).bytes
 
--- each refusal has its cause. That the folder couldn't be read and that memory was refused, no
--- definition tells, but want of memory isn't told of the folder. Of a failed write the clauses of
--- `pack` tell
+-- each refusal has its cause: the folder itself couldn't be read, for that reason and not for want
+-- of memory; the input would be too long; nothing may be left out, and what is left out is named.
+-- That memory was refused, no definition tells; of a failed write the clauses of `pack` tell
 abbrev pub Refuses : At → Bool → PackStop → Type 0
-Refuses at strict (stop.Root unread) = unread ≢ why.NoMemory
+Refuses at strict (stop.Root u) = (u ≢ why.NoMemory) × HasNoNames (at []) u
 Refuses at strict (stop.TooLong sizes) = IsTooMuch at × AreSizes at sizes.items
 Refuses at strict (stop.LeftOut left) = (strict ≡ true) × (0 < length left.items)
-    × All (HasCause at) left.items
+    × ((p : Packed) × Packs at p × (p.left ≡ left))
 Refuses at strict stop.NoMemory = ⊤
 Refuses at strict stop.Write = ⊤
 

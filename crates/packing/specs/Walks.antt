@@ -1,8 +1,8 @@
 -- A walk through a folder on its way. (docs/REPORT.md, "From a folder to an input"; this project's
 -- own.)
-use Rattle.std.specs.Prelude.{◌≡◌, ◌⊎◌, ℕ, false, List, [], All, Contains}
-use Rattle.packing.specs.Folders.{Asks, At, Comes, IsFile, IsFound, IsHiddenFolder, IsKnown}
-use Rattle.packing.specs.Folders.{Reaches, below, is_output}
+use Rattle.std.specs.Prelude.{◌≡◌, ◌≢◌, ◌⊎◌, ℕ, false, List, [], All, Contains}
+use Rattle.packing.specs.Folders.{Asks, At, Comes, IsFile, IsFolder, IsFound, IsHiddenFolder}
+use Rattle.packing.specs.Folders.{IsKnown, Reaches, below, passes_over}
 use Rattle.packing.specs.Packs.{HasCause, HasReason, IsNamed}
 use Rattle.packing.specs.declared.walk.Walk.{Walk}
 
@@ -22,14 +22,20 @@ CoversFrom at w from = (path : List ℕ) → Reaches at from path → IsCovered 
 -- so is each file that is reached by a name in a folder, if what it stands for isn't passed over
 abbrev pub CoversName : At → Walk → List ℕ → List ℕ → Type 0
 CoversName at w from name =
-    is_output from name ≡ false → (IsHiddenFolder (at (below from name)) name → ⊥)
+    passes_over from name ≡ false → (IsHiddenFolder (at (below from name)) name → ⊥)
     → CoversFrom at w (below from name)
 
--- a step of a walk loses nothing, takes files alone, and leaves nothing out without a reason
+-- a path of a folder below the root
+abbrev pub IsBelow : At → List ℕ → Type 0
+IsBelow at path = (path ≢ []) × IsFolder (at path)
+
+-- a step of a walk loses nothing, takes files alone, leaves nothing out without a reason, and
+-- doesn't go back to the root
 pub record Grows (at : At) (old new : Walk) : Type 0 where
   pub covered : (path : List ℕ) → IsCovered at old path → IsCovered at new path
   pub files : All (λ p. IsFile (at p)) old.files.keys → All (λ p. IsFile (at p)) new.files.keys
   pub reasons : All (HasReason at) old.left.items → All (HasReason at) new.left.items
+  pub onward : All (IsBelow at) old.waiting.items → All (IsBelow at) new.waiting.items
 
 -- each file that was found is reached, a walk comes to each folder that waits, and it asked what
 -- stands where something is left out
@@ -42,9 +48,20 @@ pub record IsWithin (at : At) (w : Walk) : Type 0 where
 abbrev pub Stays : At → Walk → Walk → Type 0
 Stays at old new = IsKnown at → IsWithin at old → IsWithin at new
 
--- a whole walk: each file that it reaches was found or is named as left out, what it found are
--- files that it reaches, and it left nothing out without a cause
+-- a walk that went through the names in the root: each file that it reaches is found, named as left
+-- out, or will be reached, and the root isn't waiting
+pub record IsBegun (at : At) (w : Walk) : Type 0 where
+  pub root : IsFolder (at [])
+  pub covers : CoversFrom at w []
+  pub onward : All (IsBelow at) w.waiting.items
+  pub only : IsKnown at → IsWithin at w
+  pub files : All (λ p. IsFile (at p)) w.files.keys
+  pub reasons : All (HasReason at) w.left.items
+
+-- a whole walk: through a folder, and each file that it reaches was found or is named as left out,
+-- what it found are files that it reaches, and it left nothing out without a cause
 pub record IsWalked (at : At) (w : Walk) : Type 0 where
+  pub root : IsFolder (at [])
   pub whole : (path : List ℕ) → Reaches at [] path
       → Contains w.files.keys path ⊎ IsNamed at w.left.items path
   pub found : All (IsFound at) w.files.keys

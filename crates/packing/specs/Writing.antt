@@ -8,7 +8,8 @@ use Rattle.workspace.specs.FileKinds.{is_build_file, is_module}
 use Rattle.workspace.specs.Workspaces.{Pair, is_file, paths_of}
 use Rattle.packing.specs.Folders.{At, IsFound}
 use Rattle.packing.specs.Inputs.{begun_text, comma, input_text, pair_text}
-use Rattle.packing.specs.Packs.{AreAscending, HasCause, IsOf, counts_of, is_used}
+use Rattle.packing.specs.Packs.{AreAscending, HasCause, IsOf, counts_of, is_bazel_file}
+use Rattle.packing.specs.Packs.{is_used}
 use Rattle.packing.specs.declared.leaving.LeftOut.{LeftOut}
 use Rattle.packing.specs.declared.leaving.Reason.TheVariants as reason
 use Rattle.packing.specs.declared.writing.Counts.{Counts}
@@ -36,6 +37,7 @@ pub record Puts (at : At) (path : List ℕ) (old new : Writing) (pairs : List Pa
   pub limit : length new.input.items < input_limit
   pub file : is_file (path, text) ≡ true
   pub of : IsOf (at path) (path, text)
+  pub served : is_bazel_file path ≡ false
   pub left : new.left.items ≡ old.left.items
   pub counted : new.counts ≡ counted_too path old.counts
 
@@ -61,14 +63,15 @@ pub record Takes (at : At) (path : List ℕ) (old new : Writing) : Type 0 where
 -- with the file's pair, and the last bracket, the input would be above the limit
 abbrev pub Exceeds : At → List ℕ → List ℕ → Type 0
 Exceeds at path input = (text : List ℕ) × (is_file (path, text) ≡ true)
-    × IsOf (at path) (path, text)
+    × IsOf (at path) (path, text) × (is_bazel_file path ≡ false)
     × (input_limit ≤ length (input ++ (comma input ++ pair_text (path, text))))
 
--- the pairs of some legal files, in order
+-- the pairs of some legal files that are served, in order
 pub record ArePacked (at : At) (pairs : List Pair) : Type 0 where
   pub files : list_all is_file pairs ≡ true
   pub ascending : AreAscending (paths_of pairs)
   pub of : All (λ p. IsOf (at p.0) p) pairs
+  pub served : All (λ p. is_bazel_file p.0 ≡ false) pairs
 
 -- each of the files `done` was taken, and is packed or named as left out; what was left out before
 -- still is

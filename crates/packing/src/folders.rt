@@ -1,7 +1,8 @@
 //! Folders that are walked.
 
-ghost use Rattle.std.specs.Prelude.{◌≡◌, ◌≤◌, IfOk, Err, vec_len};
-ghost use Rattle.packing.specs.Folders.{At, HasBytes, HasKind, HasNames, IsLonger, below};
+ghost use Rattle.std.specs.Prelude.{◌≡◌, ◌≢◌, ◌≤◌, IfErr, IfOk, Err, vec_len};
+ghost use Rattle.packing.specs.Folders.{At, HasBytes, HasKind, HasNames, HasNoBytes, HasNoNames};
+ghost use Rattle.packing.specs.Folders.{IsLonger, IsUnread, below};
 
 use plain::Text;
 use std::alloc::{AllocError, Global};
@@ -59,7 +60,9 @@ pub trait Folder {
     ///
     /// Where the folder can't be read, and `NoMemory` where memory was refused.
     fn names(&self, alloc: Global, path: &str) -> Result<Names, Unread>
-        ensures { IfOk result (λ n. HasNames (at self.now path.now) n.names.items) };
+        ensures names { IfOk result (λ n. HasNames (at self.now path.now) n.names.items) }
+        ensures unread { IfErr result (λ e. e ≢ Unread.NoMemory
+            → HasNoNames (at self.now path.now) e) };
 
     /// What stands at a path. A link isn't followed.
     ///
@@ -67,7 +70,9 @@ pub trait Folder {
     ///
     /// Where the system doesn't tell, and `NoMemory` where memory was refused.
     fn kind(&self, alloc: Global, path: &str) -> Result<Kind, Unread>
-        ensures { IfOk result (λ k. HasKind (at self.now path.now) k) };
+        ensures kind { IfOk result (λ k. HasKind (at self.now path.now) k) }
+        ensures unread { IfErr result (λ e. e ≢ Unread.NoMemory
+            → IsUnread (at self.now path.now) e) };
 
     /// The bytes of the regular file at a path, of which there are at most `limit`.
     ///
@@ -78,7 +83,9 @@ pub trait Folder {
     fn bytes(&self, alloc: Global, path: &str, limit: usize) -> Result<Vec<u8>, Unread>
         ensures bytes { IfOk result (λ b. HasBytes (at self.now path.now) b.items) }
         ensures limit { IfOk result (λ b. vec_len b ≤ limit) }
-        ensures long { result ≡ Err Unread.TooLong → IsLonger (at self.now path.now) limit };
+        ensures long { result ≡ Err Unread.TooLong → IsLonger (at self.now path.now) limit }
+        ensures unread { IfErr result (λ e. e ≢ Unread.NoMemory → e ≢ Unread.TooLong
+            → HasNoBytes (at self.now path.now) e) };
 }
 
 /// The path of a name in a folder.

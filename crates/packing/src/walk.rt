@@ -3,12 +3,13 @@
 //! Folders that wait stand in a list, so that nothing recurses by their depth.
 
 ghost use Rattle.std.specs.Prelude.{◌≡◌, ◌≢◌, ◌∷◌, ℕ, List, [], Contains, IfOk, OnOk};
-ghost use Rattle.packing.specs.Folders.{Asks, At, Comes, IsFile, IsListed, Reaches, is_hidden};
-ghost use Rattle.packing.specs.Folders.{is_output};
+ghost use Rattle.packing.specs.Folders.{Asks, At, Comes, HasNames, IsFile, IsListed, Reaches};
+ghost use Rattle.packing.specs.Folders.{IsUnread, is_hidden, passes_over};
 ghost use Rattle.packing.specs.Packs.{Holds};
-ghost use Rattle.packing.specs.Walks.{CoversFrom, CoversName, Grows, IsWalked, Stays};
+ghost use Rattle.packing.specs.Walks.{CoversFrom, CoversName, Grows, IsBegun, IsBelow, IsWalked};
+ghost use Rattle.packing.specs.Walks.{Stays};
 
-use crate::folders::{Folder, Kind, Unread, below};
+use crate::folders::{Folder, Kind, Names, Unread, below};
 use crate::leaving::{LeftOut, Reason};
 use plain::Text;
 use std::alloc::{AllocError, Global};
@@ -25,11 +26,12 @@ pub struct Walk {
     pub left: Vec<LeftOut>,
 }
 
-/// Whether a name in a folder is of Bazel's links to what it makes: `bazel-*` in the root.
-fn is_output(folder: &str, name: &str) -> bool
-    ensures { result ≡ is_output folder.now name.now }
+/// Whether a name in a folder is passed over: `bazel-*` in the root, which are Bazel's links to what
+/// it makes, and the empty name, which no system has.
+fn passes_over(folder: &str, name: &str) -> bool
+    ensures { result ≡ passes_over folder.now name.now }
 {
-    folder.is_empty() && name.starts_with("bazel-")
+    name.is_empty() || folder.is_empty() && name.starts_with("bazel-")
 }
 
 /// Whether a name begins with a dot.
@@ -45,8 +47,10 @@ fn is_hidden(name: &str) -> bool
 ///
 /// `AllocError` where it couldn't be read because memory was refused.
 pub fn unread_reason(unread: Unread) -> Result<Reason, AllocError>
-    ensures holds { IfOk result (λ r. (at : At) (path : List ℕ) → Holds at path r) }
+    ensures holds { IfOk result (λ r. (at : At) (path : List ℕ) → IsUnread (at path) unread
+        → Holds at path r) }
     ensures itself { IfOk result (λ r. r ≢ Reason.NamesNotUtf8) }
+    ensures memory { OnOk result (unread ≢ Unread.NoMemory) }
 {
     match unread {
         Unread::Gone => Ok(Reason::Gone),
@@ -58,26 +62,24 @@ pub fn unread_reason(unread: Unread) -> Result<Reason, AllocError>
 }
 
 impl Walk {
-    /// Nothing found, and the root to go into.
-    fn new(alloc: Global) -> Result<Walk, AllocError>
-        ensures waiting { IfOk result (λ w. w.waiting.items ≡ [] ∷ []) }
-        ensures files { IfOk result (λ w. w.files.keys ≡ []) }
-        ensures left { IfOk result (λ w. w.left.items ≡ []) }
+    /// Nothing found, and nowhere to go.
+    fn new(alloc: Global) -> Walk
+        ensures waiting { result.waiting.items ≡ [] }
+        ensures files { result.files.keys ≡ [] }
+        ensures left { result.left.items ≡ [] }
     {
-        let mut waiting = Vec::new(alloc);
-        waiting.push(Text::new(alloc, "")?)?;
-        Ok(Walk {
-            waiting,
+        Walk {
+            waiting: Vec::new(alloc),
             files: BTreeSet::new(alloc),
             left: Vec::new(alloc),
-        })
+        }
     }
 
     /// Names what is left out.
     fn leave(&mut self, path: Text, reason: Reason) -> Result<(), AllocError>
         ensures grows { OnOk result ((at : At) → Holds at path reason
             → Grows at self.old self.new) }
-        ensures covers { OnOk result (reason ≢ Reason.NamesNotUtf8 → (at : At)
+        ensures covers { OnOk result (path ≢ [] → reason ≢ Reason.NamesNotUtf8 → (at : At)
             → CoversFrom at self.new path) }
         ensures only { OnOk result ((at : At) → Asks at path → Stays at self.old self.new) }
     {
@@ -87,7 +89,7 @@ impl Walk {
 
     /// Goes into a folder later.
     fn wait(&mut self, path: Text) -> Result<(), AllocError>
-        ensures grows { OnOk result ((at : At) → Grows at self.old self.new) }
+        ensures grows { OnOk result ((at : At) → IsBelow at path → Grows at self.old self.new) }
         ensures covers { OnOk result ((at : At) → CoversFrom at self.new path) }
         ensures only { OnOk result ((at : At) → Comes at path → Stays at self.old self.new) }
     {
@@ -118,7 +120,7 @@ impl Walk {
         ensures only { OnOk result (IsListed (F.at folder.now) from.now name.now
             → Stays (F.at folder.now) self.old self.new) }
     {
-        if is_output(from, name) {
+        if passes_over(from, name) {
             return Ok(());
         }
         let path = below(alloc, from, name)?;
@@ -160,37 +162,66 @@ impl Walk {
         Ok(())
     }
 
-    /// Goes into a folder.
-    fn visit<F: Folder>(&mut self, folder: &F, alloc: Global, from: Text) -> Result<(), AllocError>
+    /// Goes through the names in a folder.
+    fn go_in<F: Folder>(
+        &mut self,
+        folder: &F,
+        alloc: Global,
+        from: Text,
+        listing: Names,
+    ) -> Result<(), AllocError>
+        requires { HasNames (F.at folder.now from) listing.names.items }
         ensures grows { OnOk result (Grows (F.at folder.now) self.old self.new) }
         ensures covers { OnOk result (CoversFrom (F.at folder.now) self.new from) }
         ensures only { OnOk result (Comes (F.at folder.now) from
             → Stays (F.at folder.now) self.old self.new) }
     {
-        let listing = match folder.names(alloc, from.as_str()) {
-            Ok(listing) => listing,
-            Err(unread) => {
-                let reason = unread_reason(unread)?;
-                return self.leave(from, reason);
-            }
-        };
         self.take_each(folder, alloc, from.as_str(), &listing.names)?;
         if listing.others {
             self.leave(from, Reason::NamesNotUtf8)?;
         }
         Ok(())
     }
+
+    /// Goes into a folder below the root.
+    fn visit<F: Folder>(&mut self, folder: &F, alloc: Global, from: Text) -> Result<(), AllocError>
+        requires { IsBelow (F.at folder.now) from }
+        ensures grows { OnOk result (Grows (F.at folder.now) self.old self.new) }
+        ensures covers { OnOk result (CoversFrom (F.at folder.now) self.new from) }
+        ensures only { OnOk result (Comes (F.at folder.now) from
+            → Stays (F.at folder.now) self.old self.new) }
+    {
+        match folder.names(alloc, from.as_str()) {
+            Ok(listing) => self.go_in(folder, alloc, from, listing),
+            Err(unread) => {
+                let reason = unread_reason(unread)?;
+                self.leave(from, reason)
+            }
+        }
+    }
+
+    /// Goes through the names in the root.
+    fn begin<F: Folder>(folder: &F, alloc: Global, root: Names) -> Result<Walk, AllocError>
+        requires { HasNames (F.at folder.now []) root.names.items }
+        ensures { IfOk result (IsBegun (F.at folder.now)) }
+    {
+        let mut walk = Walk::new(alloc);
+        walk.go_in(folder, alloc, Text::new(alloc, "")?, root)?;
+        Ok(walk)
+    }
 }
 
-/// Walks through a folder: the regular files that it reaches, and what is left out.
+/// Walks through a folder, from the names in its root on: the regular files that it reaches, and
+/// what is left out.
 ///
 /// # Errors
 ///
 /// `AllocError` where memory was refused, or where there were 2^64 - 1 folders.
-pub fn walk_through<F: Folder>(folder: &F, alloc: Global) -> Result<Walk, AllocError>
+pub fn walk_through<F: Folder>(folder: &F, alloc: Global, root: Names) -> Result<Walk, AllocError>
+    requires { HasNames (F.at folder.now []) root.names.items }
     ensures { IfOk result (IsWalked (F.at folder.now)) }
 {
-    let mut walk = Walk::new(alloc)?;
+    let mut walk = Walk::begin(folder, alloc, root)?;
     for _ in 0..u64::MAX {
         let Some(from) = walk.waiting.pop() else {
             return Ok(walk);

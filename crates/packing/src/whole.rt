@@ -16,7 +16,7 @@ use devices::{Sink, WriteFailed, write_all};
 use plain::Text;
 use std::alloc::{AllocError, Global};
 use std::collections::BTreeSet;
-use workspace::TEXT_LIMIT;
+use workspace::{TEXT_LIMIT, is_path};
 
 /// How many of the greatest files a refusal names.
 const GREATEST: usize = 5;
@@ -57,7 +57,7 @@ pub enum PackStop {
     Write,
 }
 
-/// The size of a file behind the others, if its text is used and can be read.
+/// The size of a file behind the others, if its text is used and can be packed.
 fn push_size<F: Folder>(
     folder: &F,
     alloc: Global,
@@ -68,10 +68,13 @@ fn push_size<F: Folder>(
     ensures { OnOk result (All (IsSize (F.at folder.now)) sizes.old.items
         → All (IsSize (F.at folder.now)) sizes.new.items) }
 {
-    if !is_used(path.as_str()) {
+    if !is_path(path.as_str()) || !is_used(path.as_str()) {
         return Ok(());
     }
     let Ok(bytes) = folder.bytes(alloc, path.as_str(), TEXT_LIMIT) else {
+        return Ok(());
+    };
+    let Ok(_) = str::from_utf8(&bytes) else {
         return Ok(());
     };
     sizes.push(FileSize {
@@ -81,7 +84,7 @@ fn push_size<F: Folder>(
     Ok(())
 }
 
-/// The sizes of the files whose texts are used, where these can be read.
+/// The sizes of the files whose texts are used, where these can be packed.
 fn sizes_of<F: Folder>(
     folder: &F,
     alloc: Global,
@@ -140,12 +143,12 @@ fn pack_folder<F: Folder>(folder: &F, alloc: Global) -> Result<Packed, PackStop>
     ensures refuses { IfErr result (λ e. (strict : Bool) → Refuses (F.at folder.now) strict e) }
     ensures unwritten { result ≡ Err PackStop.Write → ⊥ }
 {
-    match folder.names(alloc, "") {
-        Ok(_) => {}
+    let root = match folder.names(alloc, "") {
+        Ok(root) => root,
         Err(Unread::NoMemory) => return Err(PackStop::NoMemory),
         Err(unread) => return Err(PackStop::Root(unread)),
-    }
-    let Ok(Walk { files, left, .. }) = walk_through(folder, alloc) else {
+    };
+    let Ok(Walk { files, left, .. }) = walk_through(folder, alloc, root) else {
         return Err(PackStop::NoMemory);
     };
     match Writing::of_files(folder, alloc, &files, left) {

@@ -3,7 +3,7 @@
 //! A text is read, written and let go before the next one is read.
 
 ghost use Rattle.std.specs.Prelude.{◌≡◌, ◌≤◌, ◌++◌, [], ◌∷◌, Err, IfErr, IfOk, OnOk, All};
-ghost use Rattle.std.specs.Prelude.{length, ◌<◌, IsUtf8, string_bytes, string_len, true};
+ghost use Rattle.std.specs.Prelude.{false, length, ◌<◌, IsUtf8, string_bytes, string_len, true};
 ghost use Rattle.packing.specs.Folders.{IsFile, IsFound};
 ghost use Rattle.packing.specs.Inputs.{begun_text, comma, pair_text};
 ghost use Rattle.packing.specs.Packs.{HasCause, Holds, IsOf, counts_of};
@@ -130,6 +130,7 @@ fn packed_text<F: Folder>(folder: &F, alloc: Global, path: &str) -> Result<Strin
     requires { IsFile (F.at folder.now path.now) }
     ensures of { IfOk result (λ s. IsOf (F.at folder.now path.now) (path.now, string_bytes s)) }
     ensures file { IfOk result (λ s. is_file (path.now, string_bytes s) ≡ true) }
+    ensures served { OnOk result (is_bazel_file path.now ≡ false) }
     ensures cause { (r : Reason) → result ≡ Err (Skip.Left r) → Holds (F.at folder.now) path.now r }
     ensures itself { result ≡ Err (Skip.Left Reason.NamesNotUtf8) → ⊥ }
 {

@@ -1,5 +1,8 @@
-use Rattle.input_tests.proofs.SingleLemmas.{packs-single}
+use Rattle.input_tests.proofs.SingleLemmas.{packs-single, root-read}
 use Rattle.input_tests.proofs.singles.pack_single.Goals as goal
 
-pub returns : goal.returns
-returns g c = packs-single c.args.folder.now.name.now c.args.folder.now.bytes.now c.pack.result c.pack.ensures.packs c.pack.ensures.strict
+pub returns-clause-input : goal.returns-clause-input
+returns-clause-input g c = packs-single c.args.folder.now.name.now c.args.folder.now.bytes.now c.pack.result c.pack.ensures.packs c.pack.ensures.strict
+
+pub returns-clause-read : goal.returns-clause-read
+returns-clause-read g c u is = root-read c.args.folder.now.name.now c.args.folder.now.bytes.now c.pack.result u c.pack.ensures.refuses is

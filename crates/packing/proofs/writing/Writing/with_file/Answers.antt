@@ -1,6 +1,6 @@
-use Rattle.std.proofs.Common.{◌≡◌, ◌∙◌, List, ℕ, IfOk, ap₂, string_bytes, subst, sym, true, Err, ap}
+use Rattle.std.proofs.Common.{◌≡◌, ◌∙◌, List, ℕ, IfOk, false, ap₂, string_bytes, subst, sym, true, Err, ap}
 use Rattle.workspace.specs.Workspaces.{Pair, is_file}
-use Rattle.packing.specs.Packs.{Holds, IsOf}
+use Rattle.packing.specs.Packs.{Holds, IsOf, is_bazel_file}
 use Rattle.packing.specs.Writing.{Takes}
 use Rattle.packing.specs.declared.writing.Skip.TheVariants as skip
 use Rattle.packing.proofs.WritingLemmas.{takes-left, takes-put}
@@ -16,7 +16,8 @@ returns-in-Ok-clause-takes g c =
     (takes-put at c.as_str-in-Ok.result.now c.as_str-in-Ok-2.result.now c.args.self c.with_text.result
     c.with_text.ensures.input c.with_text.ensures.utf8 c.with_text.ensures.limit c.with_text.ensures.left c.with_text.ensures.counted
     (subst (λ (q : Pair). is_file q ≡ true) pairs c.in-Ok.ensures.file)
-    (subst (λ (q : Pair). IsOf (at q.0) q) pairs c.in-Ok.ensures.of))
+    (subst (λ (q : Pair). IsOf (at q.0) q) pairs c.in-Ok.ensures.of)
+    (subst (λ (p : List ℕ). is_bazel_file p ≡ false) paths c.in-Ok.ensures.served))
 
 pub returns-in-Err-Left-clause-takes : goal.returns-in-Err-Left-clause-takes
 returns-in-Err-Left-clause-takes g c =
