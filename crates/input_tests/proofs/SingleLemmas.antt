@@ -6,9 +6,9 @@ use Rattle.std.specs.Str.{bytes_eq}
 use Rattle.std.proofs.lemmas.List.Elements.{All-head, All-tail, All-weaker, Contains-push, Contains-push_cases}
 use Rattle.std.proofs.lemmas.Slice.Eq.{bytes_eq-Decides}
 use Rattle.workspace.specs.Workspaces.{Pair, paths_of}
-use Rattle.packing.specs.Folders.{IsHiddenFolder, IsKnown, Node, Reaches, below, file, folder, here, inside, onward, passes_over, start}
+use Rattle.packing.specs.Folders.{IsHiddenFolder, IsKnown, IsKnownFile, Leads, Node, Reaches, below, file, folder, here, inside, onward, passes_over, start}
 use Rattle.packing.specs.Inputs.{input_text}
-use Rattle.packing.specs.Packs.{AreAscending, IsOf, Packs, used_text}
+use Rattle.packing.specs.Packs.{AreAscending, IsOf, IsTold, Packs, used_text}
 use Rattle.packing.specs.Refusals.{Refuses}
 use Rattle.packing.specs.declared.leaving.LeftOut.{LeftOut}
 use Rattle.packing.specs.declared.folders.Unread.{Unread}
@@ -36,45 +36,41 @@ is_file (c ∷ cs) bytes some = ap (λ b. if b then Some (file bytes) else None)
 choice : List ℕ → Bool → Option Node
 choice bytes b = if b then Some (file bytes) else None
 
-no_folder : (bytes : List ℕ) (names : List (List ℕ)) (b : Bool) → choice bytes b ≡ Some (folder names) → ⊥
+no_folder : (bytes : List ℕ) (names : List (List ℕ)) (others b : Bool) → choice bytes b ≡ Some (folder names others) → ⊥
 unfolding choice
-no_folder bytes names true is = cc
-no_folder bytes names false is = cc
+no_folder bytes names others true is = cc
+no_folder bytes names others false is = cc
 
-only_root : (name bytes from : List ℕ) (names : List (List ℕ)) → single name bytes from ≡ Some (folder names) → (from ≡ []) × (names ≡ name ∷ [])
+only_root : (name bytes from : List ℕ) (names : List (List ℕ)) (others : Bool) → single name bytes from ≡ Some (folder names others)
+    → (from ≡ []) × (names ≡ name ∷ [])
 unfolding choice
-only_root name bytes [] names is = (refl, cc)
-only_root name bytes (c ∷ cs) names is = absurd (no_folder bytes names (bytes_eq (c ∷ cs) name) is)
+only_root name bytes [] names others is = (refl, cc)
+only_root name bytes (c ∷ cs) names others is = absurd (no_folder bytes names others (bytes_eq (c ∷ cs) name) is)
 
-no_file : (bytes there : List ℕ) (b : Bool) → choice bytes b ≡ Some (file there) → b ≡ true
+chosen : (bytes : List ℕ) (b : Bool) → IsKnownFile (choice bytes b) → b ≡ true
 unfolding choice
-no_file bytes there true is = refl
-no_file bytes there false is = absurd (cc)
+chosen bytes true is = refl
+chosen bytes false is = absurd is
 
-only_file : (name bytes path there : List ℕ) → single name bytes path ≡ Some (file there) → path ≡ name
+only_file : (name bytes path : List ℕ) → IsKnownFile (single name bytes path) → path ≡ name
 unfolding choice
-only_file name bytes [] there is = absurd (cc)
-only_file name bytes (c ∷ cs) there is = (bytes_eq-Decides (c ∷ cs) name).0 (no_file bytes there (bytes_eq (c ∷ cs) name) is)
+only_file name bytes [] is = absurd is
+only_file name bytes (c ∷ cs) is = (bytes_eq-Decides (c ∷ cs) name).0 (chosen bytes (bytes_eq (c ∷ cs) name) is)
 
 -- ---- what a walk reaches
 
 known : (name bytes : List ℕ) → name ≢ [] → IsKnown (single name bytes)
 known name bytes some path start = refl
-known name bytes some path (onward from n names c there listed kept seen) =
-    let r = only_root name bytes from names there in
+known name bytes some path (onward from n names others c there listed kept seen) =
+    let r = only_root name bytes from names others there in
     let is : name ≡ n = one_in name n (subst (λ (ns : List (List ℕ)). Contains ns n) r.1 listed) in
     let at_root : below from n ≡ name = ap (λ f. below f n) r.0 ∙ sym is in
     subst IsSome (sym (ap (single name bytes) at_root ∙ is_file name bytes some)) refl
 
-reached : (name bytes from path : List ℕ) → Reaches (single name bytes) from path → path ≡ name
-reached name bytes from path (here p there is) = only_file name bytes p there is
-reached name bytes from path (inside f n p names there listed kept seen later) = reached name bytes (below f n) p later
-
-reaches : (name bytes : List ℕ) → name ≢ [] → passes_over [] name ≡ false → Reaches (single name bytes) [] name
+reaches : (name bytes : List ℕ) → name ≢ [] → passes_over [] name ≡ false → Leads (single name bytes) [] name
 reaches name bytes some kept =
-    inside [] name name (name ∷ []) refl (Contains-push [] name) kept
-    (λ hidden. subst (λ (n : Option Node). IsHiddenFolder n name) (is_file name bytes some) hidden)
-    (here name bytes (is_file name bytes some))
+    inside [] name name (name ∷ []) false refl (Contains-push [] name) kept
+    (λ hidden. subst (λ (n : Option Node). IsHiddenFolder n name) (is_file name bytes some) hidden) (here name)
 
 -- ---- one pair
 
@@ -110,9 +106,9 @@ input_of_single : (name bytes : List ℕ) (p : Packed) → Packs (single name by
 input_of_single name bytes p h left kept =
     let some : name ≢ [] = some_name name kept in
     let all : All (λ y. y ≡ name) (paths_of h.workspace) =
-    All-weaker (Reaches (single name bytes) []) (λ y. y ≡ name) (λ y r. reached name bytes [] y r) (paths_of h.workspace) (h.only (known name bytes some)) in
+    All-weaker (Reaches (single name bytes) []) (λ y. y ≡ name) (λ y r. only_file name bytes y r.1) (paths_of h.workspace) (h.only (known name bytes some)) in
     let there : Contains (paths_of h.workspace) name = elim (h.whole name (reaches name bytes some kept)) [
-      | inl has ↦ has
+      | inl told ↦ subst (λ (n : Option Node). IsTold n name (paths_of h.workspace) p.left.items) (is_file name bytes some) told
       | inr out ↦ absurd (none_in out.0 (subst (λ (ls : List LeftOut). Contains ls out.0) left out.1))
     ] in
     h.told ∙ ap input_text (one_pair name bytes h.workspace some (one_path (paths_of h.workspace) name h.ascending all there) h.of)

@@ -1,7 +1,7 @@
 //! A folder with one file in it, of which all is known.
 
 ghost use Rattle.std.specs.Prelude.{◌≡◌, ◌≢◌, ◌≤◌, ◌<◌, [], ◌∷◌, false, Err, IfErr, IfOk, length};
-ghost use Rattle.std.specs.Prelude.{vec_len, ⊥};
+ghost use Rattle.std.specs.Prelude.{vec_len};
 ghost use Rattle.packing.specs.Folders.{passes_over};
 ghost use Rattle.packing.specs.Inputs.{input_text};
 ghost use Rattle.packing.specs.Packs.{used_text};

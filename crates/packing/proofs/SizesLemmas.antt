@@ -36,7 +36,7 @@ rises xs sorted =
 
 sized : (n : Option Node) (bytes : List ℕ) → IsUtf8 bytes → HasBytes n bytes → HasSize n (length bytes)
 sized None bytes utf8 told = told
-sized (Some (folder names)) bytes utf8 told = told
+sized (Some (folder names others)) bytes utf8 told = told
 sized (Some (file there)) bytes utf8 told = (ap length told, subst IsUtf8 told utf8)
 sized (Some link) bytes utf8 told = told
 sized (Some special) bytes utf8 told = told

@@ -1,5 +1,5 @@
 -- Steps of a walk.
-use Rattle.std.proofs.Common.{◌≡◌, ◌∙◌, ◌≢◌, ◌⊎◌, ◌<◌, ◌+◌, ◌++◌, ℕ, false, List, [], ◌∷◌, length, refl, ap, sym, subst, inl, inr, arith, take, get_or, true≢false}
+use Rattle.std.proofs.Common.{◌≡◌, ◌∙◌, ◌≢◌, ◌⊎◌, ◌<◌, ◌+◌, ◌++◌, ℕ, Bool, true, false, List, [], ◌∷◌, length, refl, ap, ap₂, sym, subst, inl, inr, arith, take, get_or, true≢false}
 use Rattle.std.specs.Prelude.{All, Contains, IsSome, Option, Some, None}
 use Rattle.std.specs.declared.cmp.Ordering.{Ordering}
 use Rattle.std.specs.declared.cmp.Ordering.TheVariants.{Less, Equal, Greater}
@@ -11,9 +11,10 @@ use Rattle.std.proofs.lemmas.List.Elements.{All-nil, All-pop, All-push, All-same
 use Rattle.std.proofs.lemmas.Map.Text.{is_eq-slice_cmp}
 use Rattle.std.proofs.lemmas.Slice.Eq.{bytes_eq-Decides}
 use Rattle.std.proofs.lemmas.Map.Views.{All-insert_key}
-use Rattle.packing.specs.Folders.{Asks, At, Comes, HasKind, HasNames, IsFile, IsFolder, HasNoBytes, HasNoNames, IsHiddenFolder, IsKnown, IsListed, IsUnread, Node, Reaches, below, by_name, file, folder, here, inside, is_hidden, passes_over, link, onward, root, special, start, unread}
-use Rattle.packing.specs.Packs.{HasReason, IsNamed}
+use Rattle.packing.specs.Folders.{Asks, At, Comes, HasKind, HasNames, HasNoBytes, HasNoNames, HasOthers, IsFile, IsFolder, IsHiddenFolder, IsKnown, IsKnownFile, IsListed, IsUnread, Leads, Node, Reaches, below, by_name, file, folder, here, inside, is_hidden, passes_over, link, onward, root, special, start, unread}
+use Rattle.packing.specs.Packs.{HasReason, IsTold}
 use Rattle.packing.specs.Walks.{CoversFrom, CoversName, Grows, IsBegun, IsBelow, IsCovered, IsWithin, Stays}
+use Rattle.packing.specs.declared.folders.Kind.{Kind}
 use Rattle.packing.specs.declared.folders.Kind.TheVariants as kind
 use Rattle.packing.specs.declared.folders.Unread.{Unread}
 use Rattle.packing.specs.declared.leaving.LeftOut.{LeftOut}
@@ -23,21 +24,35 @@ use Rattle.packing.specs.declared.walk.Walk.{Walk}
 same-contains : {X : Type 0} (xs ys : List X) (x : X) → ys ≡ xs → Contains xs x → Contains ys x
 same-contains xs ys x same h = subst (λ zs. Contains zs x) (sym same) h
 
-named-same : (at : At) (left more : List LeftOut) (l : LeftOut) (path : List ℕ) → more ≡ left ++ l ∷ [] → IsNamed at left path → IsNamed at more path
-named-same at left more l path is n =
-    (n.0, same-contains (left ++ l ∷ []) more n.0 is (Contains-append_left left (l ∷ []) n.0 n.1), n.2, n.3, n.4)
+-- ---- nothing is lost
+
+told-kept : (n : Option Node) (path : List ℕ) (files more : List (List ℕ)) (left rest : List LeftOut) → ((x : List ℕ) → Contains files x → Contains more x)
+    → ((l : LeftOut) → Contains left l → Contains rest l) → IsTold n path files left → IsTold n path more rest
+told-kept None path files more left rest found kept told = told
+told-kept (Some (folder names others)) path files more left rest found kept told = λ is. kept (record { path = path; reason = reason.NamesNotUtf8 }) (told is)
+told-kept (Some (file bytes)) path files more left rest found kept told = found path told
+told-kept (Some link) path files more left rest found kept told = told
+told-kept (Some special) path files more left rest found kept told = told
+told-kept (Some (unread u)) path files more left rest found kept told = told
+
+covered-kept : (at : At) (old new : Walk) (path : List ℕ) → ((x : List ℕ) → Contains old.files.keys x → Contains new.files.keys x)
+    → ((l : LeftOut) → Contains old.left.items l → Contains new.left.items l) → ((x : List ℕ) → Contains old.waiting.items x → Contains new.waiting.items x)
+    → IsCovered at old path → IsCovered at new path
+covered-kept at old new path found kept waits h = elim h [
+  | inl told ↦ inl (told-kept (at path) path old.files.keys new.files.keys old.left.items new.left.items found kept told)
+  | inr rest ↦ elim rest [
+    | inl named ↦ inr (inl (named.0, kept named.0 named.1, named.2, named.3, named.4))
+    | inr waiting ↦ inr (inr (waiting.0, waits waiting.0 waiting.1, waiting.2))
+  ]
+]
 
 -- something more is named
 pub grows-left : (at : At) (old new : Walk) (l : LeftOut) → new.files.keys ≡ old.files.keys → new.waiting.items ≡ old.waiting.items
     → new.left.items ≡ old.left.items ++ l ∷ [] → HasReason at l → Grows at old new
 grows-left at old new l files waiting left reason = record {
-  covered = λ path h. elim h [
-    | inl found ↦ inl (same-contains old.files.keys new.files.keys path files found)
-    | inr rest ↦ elim rest [
-      | inl named ↦ inr (inl (named-same at old.left.items new.left.items l path left named))
-      | inr waits ↦ inr (inr (waits.0, same-contains old.waiting.items new.waiting.items waits.0 waiting waits.1, waits.2))
-    ]
-  ];
+  covered = λ path h. covered-kept at old new path (λ x k. same-contains old.files.keys new.files.keys x files k)
+      (λ m k. same-contains (old.left.items ++ l ∷ []) new.left.items m left (Contains-append_left old.left.items (l ∷ []) m k))
+      (λ x k. same-contains old.waiting.items new.waiting.items x waiting k) h;
   files = λ h. subst (λ ks. All (λ p. IsFile (at p)) ks) (sym files) h;
   reasons = λ h. subst (λ ls. All (HasReason at) ls) (sym left) (All-push (HasReason at) old.left.items l h reason);
   onward = λ h. subst (λ ws. All (IsBelow at) ws) (sym waiting) h;
@@ -97,26 +112,72 @@ insert-has (x ∷ xs) k = go (insert-has xs k) (order k x) refl
 pub grows-found : (at : At) (old new : Walk) (path : List ℕ) → new.files.keys ≡ insert_key order old.files.keys path
     → new.waiting.items ≡ old.waiting.items → new.left.items ≡ old.left.items → IsFile (at path) → Grows at old new
 grows-found at old new path files waiting left is = record {
-  covered = λ p h. elim h [
-    | inl found ↦ inl (same-contains (insert_key order old.files.keys path) new.files.keys p files (insert-keeps old.files.keys path p found))
-    | inr rest ↦ elim rest [
-      | inl named ↦ inr (inl (named.0, same-contains old.left.items new.left.items named.0 left named.1, named.2, named.3, named.4))
-      | inr waits ↦ inr (inr (waits.0, same-contains old.waiting.items new.waiting.items waits.0 waiting waits.1, waits.2))
-    ]
-  ];
+  covered = λ p h. covered-kept at old new p
+      (λ x k. same-contains (insert_key order old.files.keys path) new.files.keys x files (insert-keeps old.files.keys path x k))
+      (λ l k. same-contains old.left.items new.left.items l left k) (λ x k. same-contains old.waiting.items new.waiting.items x waiting k) h;
   files = λ h. subst (λ ks. All (λ p. IsFile (at p)) ks) (sym files) (All-insert_key order path (λ p. IsFile (at p)) old.files.keys h is);
   reasons = λ h. subst (λ ls. All (HasReason at) ls) (sym left) h;
   onward = λ h. subst (λ ws. All (IsBelow at) ws) (sym waiting) h;
 }
 
--- from a regular file only itself is reached
-alone : (at : At) (from path : List ℕ) → HasKind (at from) kind.File → Reaches at from path → path ≡ from
-alone at from path is (here p bytes there) = refl
-alone at from path is (inside f name p names there listed kept seen later) =
-    let bad : kind.File ≡ kind.Folder = subst (λ n. HasKind n kind.File) there is in absurd (cc)
+-- what is told to be a folder is one, where it is known
+pub kind-folder : (n : Option Node) → HasKind n kind.Folder → IsFolder n
+kind-folder None has = has
+kind-folder (Some (folder names others)) has = tt
+kind-folder (Some (file bytes)) has = absurd (cc)
+kind-folder (Some link) has = absurd (cc)
+kind-folder (Some special) has = absurd (cc)
+kind-folder (Some (unread u)) has = has
+
+-- what isn't a folder leads to itself alone
+alone : (at : At) (from path : List ℕ) (k : Kind) → HasKind (at from) k → k ≢ kind.Folder → Leads at from path → path ≡ from
+alone at from path k is other (here p) = refl
+alone at from path k is other (inside f name p names others there listed kept seen later) = absurd (other (subst (λ n. HasKind n k) there is))
+
+covers-alone : (at : At) (w : Walk) (path : List ℕ) (k : Kind) → HasKind (at path) k → k ≢ kind.Folder → IsTold (at path) path w.files.keys w.left.items
+    → CoversFrom at w path
+covers-alone at w path k is other told p r = subst (IsCovered at w) (sym (alone at path p k is other r)) (inl told)
+
+told-file : (n : Option Node) (path : List ℕ) (files : List (List ℕ)) (left : List LeftOut) → HasKind n kind.File → Contains files path → IsTold n path files left
+told-file None path files left is found = is
+told-file (Some (folder names others)) path files left is found = absurd (cc)
+told-file (Some (file bytes)) path files left is found = found
+told-file (Some link) path files left is found = absurd (cc)
+told-file (Some special) path files left is found = absurd (cc)
+told-file (Some (unread u)) path files left is found = is
+
+told-link : (n : Option Node) (path : List ℕ) (files : List (List ℕ)) (left : List LeftOut) → HasKind n kind.Link → IsTold n path files left
+told-link None path files left is = is
+told-link (Some (folder names others)) path files left is = absurd (cc)
+told-link (Some (file bytes)) path files left is = absurd (cc)
+told-link (Some link) path files left is = tt
+told-link (Some special) path files left is = absurd (cc)
+told-link (Some (unread u)) path files left is = is
 
 pub covers-found : (at : At) (w : Walk) (path : List ℕ) → HasKind (at path) kind.File → Contains w.files.keys path → CoversFrom at w path
-covers-found at w path is found p h = inl (subst (λ q. Contains w.files.keys q) (sym (alone at path p is h)) found)
+covers-found at w path is found = covers-alone at w path kind.File is (λ e. cc) (told-file (at path) path w.files.keys w.left.items is found)
+
+pub covers-link : (at : At) (w : Walk) (path : List ℕ) → HasKind (at path) kind.Link → CoversFrom at w path
+covers-link at w path is = covers-alone at w path kind.Link is (λ e. cc) (told-link (at path) path w.files.keys w.left.items is)
+
+-- a folder that is passed over
+told-hidden : (n : Option Node) (name path : List ℕ) (files : List (List ℕ)) (left : List LeftOut) → HasKind n kind.Folder → is_hidden name ≡ true
+    → (IsHiddenFolder n name → ⊥) → IsTold n path files left
+told-hidden None name path files left is hidden seen = is
+told-hidden (Some (folder names others)) name path files left is hidden seen = absurd (seen hidden)
+told-hidden (Some (file bytes)) name path files left is hidden seen = absurd (cc)
+told-hidden (Some link) name path files left is hidden seen = absurd (cc)
+told-hidden (Some special) name path files left is hidden seen = absurd (cc)
+told-hidden (Some (unread u)) name path files left is hidden seen = is
+
+hidden-folder : (n : Option Node) (name : List ℕ) (names : List (List ℕ)) (others : Bool) → n ≡ Some (folder names others) → is_hidden name ≡ true → IsHiddenFolder n name
+hidden-folder n name names others there hidden = subst (λ m. IsHiddenFolder m name) (sym there) hidden
+
+pub covers-hidden : (at : At) (w : Walk) (from name : List ℕ) → HasKind (at (below from name)) kind.Folder → is_hidden name ≡ true → CoversName at w from name
+covers-hidden at w from name is hidden kept seen path (here p) =
+    inl (told-hidden (at (below from name)) name (below from name) w.files.keys w.left.items is hidden seen)
+covers-hidden at w from name is hidden kept seen path (inside f n p names others there listed k s later) =
+    absurd (seen (hidden-folder (at (below from name)) name names others there hidden))
 
 -- ---- below the root
 
@@ -125,46 +186,43 @@ below-some from [] kept is = true≢false kept
 below-some [] (c ∷ cs) kept is = absurd (cc)
 below-some (b ∷ bs) (c ∷ cs) kept is = absurd (cc)
 
-reached-below : (at : At) (from path : List ℕ) → from ≢ [] → Reaches at from path → path ≢ []
-reached-below at from path some (here p bytes there) = some
-reached-below at from path some (inside f name p names there listed kept seen later) =
-    reached-below at (below f name) p (below-some f name kept) later
+leads-below : (at : At) (from path : List ℕ) → from ≢ [] → Leads at from path → path ≢ []
+leads-below at from path some (here p) = some
+leads-below at from path some (inside f name p names others there listed kept seen later) =
+    leads-below at (below f name) p (below-some f name kept) later
 
-folder-no_file : (n : Option Node) (bytes : List ℕ) → n ≡ Some (file bytes) → IsFolder n → ⊥
-folder-no_file n bytes there is = subst IsFolder there is
+no_file : (n : Option Node) → IsFolder n → IsKnownFile n → ⊥
+no_file None folds is = is
+no_file (Some (folder names others)) folds is = is
+no_file (Some (file bytes)) folds is = folds
+no_file (Some link) folds is = is
+no_file (Some special) folds is = is
+no_file (Some (unread u)) folds is = is
 
 -- a file that is reached from a folder is below it
-pub file-below : (at : At) (path : List ℕ) → IsFolder (at []) → Reaches at [] path → path ≢ []
-file-below at path is (here p bytes there) = absurd (folder-no_file (at []) bytes there is)
-file-below at path is (inside f name p names there listed kept seen later) =
-    reached-below at (below f name) p (below-some f name kept) later
-
--- a folder below the root will be gone into
-pub grows-waits : (at : At) (old new : Walk) (path : List ℕ) → new.files.keys ≡ old.files.keys → new.waiting.items ≡ old.waiting.items ++ path ∷ []
-    → new.left.items ≡ old.left.items → IsBelow at path → Grows at old new
-grows-waits at old new path files waiting left below = record {
-  covered = λ p h. elim h [
-    | inl found ↦ inl (same-contains old.files.keys new.files.keys p files found)
-    | inr rest ↦ elim rest [
-      | inl named ↦ inr (inl (named.0, same-contains old.left.items new.left.items named.0 left named.1, named.2, named.3, named.4))
-      | inr waits ↦ inr (inr (waits.0, same-contains (old.waiting.items ++ path ∷ []) new.waiting.items waits.0 waiting
-          (Contains-append_left old.waiting.items (path ∷ []) waits.0 waits.1), waits.2))
-    ]
-  ];
-  files = λ h. subst (λ ks. All (λ p. IsFile (at p)) ks) (sym files) h;
-  reasons = λ h. subst (λ ls. All (HasReason at) ls) (sym left) h;
-  onward = λ h. subst (λ ws. All (IsBelow at) ws) (sym waiting) (All-push (IsBelow at) old.waiting.items path h below);
-}
+pub file-below : (at : At) (path : List ℕ) → IsFolder (at []) → Leads at [] path → IsKnownFile (at path) → path ≢ []
+file-below at path folds (here p) is = absurd (no_file (at []) folds is)
+file-below at path folds (inside f name p names others there listed kept seen later) is =
+    leads-below at (below f name) p (below-some f name kept) later
 
 -- ---- into a folder
 
--- by a name that isn't in the folder nothing is reached
-pub covers-names : (at : At) (w : Walk) (from : List ℕ) (names : List (List ℕ)) → HasNames (at from) names
+told-others : (n : Option Node) (path : List ℕ) (names : List (List ℕ)) (more : Bool) (files : List (List ℕ)) (left : List LeftOut) → HasNames n names more
+    → (more ≡ true → Contains left (record { path = path; reason = reason.NamesNotUtf8 })) → IsTold n path files left
+told-others None path names more files left has named = has
+told-others (Some (folder ns others)) path names more files left has named = λ is. named (has.1 ∙ is)
+told-others (Some (file bytes)) path names more files left has named = absurd has
+told-others (Some link) path names more files left has named = absurd has
+told-others (Some special) path names more files left has named = absurd has
+told-others (Some (unread u)) path names more files left has named = absurd has
+
+-- a name that isn't in the folder leads nowhere
+pub covers-names : (at : At) (w : Walk) (from : List ℕ) (names : List (List ℕ)) (more : Bool) → HasNames (at from) names more
+    → (more ≡ true → Contains w.left.items (record { path = from; reason = reason.NamesNotUtf8 }))
     → ((name : List ℕ) → Contains names name → CoversName at w from name) → CoversFrom at w from
-covers-names at w from names told each path (here p bytes there) =
-    absurd (subst (λ n. HasNames n names) there told)
-covers-names at w from names told each path (inside f name p ns there listed kept seen later) =
-    let same : names ≡ ns = subst (λ n. HasNames n names) there told in
+covers-names at w from names more told named each path (here p) = inl (told-others (at from) from names more w.files.keys w.left.items told named)
+covers-names at w from names more told named each path (inside f name p ns others there listed kept seen later) =
+    let same : names ≡ ns = (subst (λ n. HasNames n names more) there told).0 in
     each name (subst (λ (xs : List (List ℕ)). Contains xs name) (sym same) listed) kept seen path later
 
 pub covers-grown : (at : At) (a b : Walk) (from : List ℕ) → Grows at a b → CoversFrom at a from → CoversFrom at b from
@@ -202,26 +260,26 @@ stays-left at old new l files waiting left asked k h = record {
       (All-push (λ (l : LeftOut). Asks at l.path) old.left.items l h.left asked);
 }
 
-known-folder : (n : Option Node) (told : List (List ℕ)) → IsSome n → HasNames n told → n ≡ Some (folder told)
-known-folder None told some has = absurd (cc)
-known-folder (Some (folder names)) told some has = ap (λ (ns : List (List ℕ)). Some (folder ns)) (sym has)
-known-folder (Some (file bytes)) told some has = absurd has
-known-folder (Some link) told some has = absurd has
-known-folder (Some special) told some has = absurd has
-known-folder (Some (unread u)) told some has = absurd has
+known-folder : (n : Option Node) (told : List (List ℕ)) (more : Bool) → IsSome n → HasNames n told more → n ≡ Some (folder told more)
+known-folder None told more some has = absurd (cc)
+known-folder (Some (folder names others)) told more some has = sym (ap₂ (λ (ns : List (List ℕ)) (b : Bool). Some (folder ns b)) has.0 has.1)
+known-folder (Some (file bytes)) told more some has = absurd has
+known-folder (Some link) told more some has = absurd has
+known-folder (Some special) told more some has = absurd has
+known-folder (Some (unread u)) told more some has = absurd has
 
-known-file : (n : Option Node) → IsSome n → HasKind n kind.File → (bytes : List ℕ) × (n ≡ Some (file bytes))
+known-file : (n : Option Node) → IsSome n → HasKind n kind.File → IsKnownFile n
 known-file None some has = absurd (cc)
-known-file (Some (folder names)) some has = absurd (cc)
-known-file (Some (file bytes)) some has = (bytes, refl)
+known-file (Some (folder names others)) some has = absurd (cc)
+known-file (Some (file bytes)) some has = tt
 known-file (Some link) some has = absurd (cc)
 known-file (Some special) some has = absurd (cc)
-known-file (Some (unread u)) some has = absurd has
+known-file (Some (unread u)) some has = has
 
 -- a file isn't hidden
 seen-file : (n : Option Node) (name : List ℕ) → HasKind n kind.File → IsHiddenFolder n name → ⊥
 seen-file None name has h = h
-seen-file (Some (folder names)) name has h = absurd (cc)
+seen-file (Some (folder names others)) name has h = absurd (cc)
 seen-file (Some (file bytes)) name has h = h
 seen-file (Some link) name has h = h
 seen-file (Some special) name has h = h
@@ -230,61 +288,69 @@ seen-file (Some (unread u)) name has h = h
 -- nor is a name that begins with no dot
 pub seen-name : (n : Option Node) (name : List ℕ) → is_hidden name ≡ false → IsHiddenFolder n name → ⊥
 seen-name None name shown h = h
-seen-name (Some (folder names)) name shown h = absurd (true≢false (sym h ∙ shown))
+seen-name (Some (folder names others)) name shown h = absurd (true≢false (sym h ∙ shown))
 seen-name (Some (file bytes)) name shown h = h
 seen-name (Some link) name shown h = h
 seen-name (Some special) name shown h = h
 seen-name (Some (unread u)) name shown h = h
 
--- what is reached from where a walk comes to is reached from the root
-comes-reaches : (at : At) (from path : List ℕ) → Comes at from → Reaches at from path → Reaches at [] path
-comes-reaches at from path start r = r
-comes-reaches at from path (onward f name names c there listed kept seen) r =
-    comes-reaches at f path c (inside f name path names there listed kept seen r)
+-- what a path leads to that a walk comes to, the root leads to
+comes-leads : (at : At) (from path : List ℕ) → Comes at from → Leads at from path → Leads at [] path
+comes-leads at from path start r = r
+comes-leads at from path (onward f name names others c there listed kept seen) r =
+    comes-leads at f path c (inside f name path names others there listed kept seen r)
 
 -- by a name that a known folder tells
-pub listed-by : (at : At) (from : List ℕ) (told : List (List ℕ)) (name : List ℕ) → IsKnown at → Comes at from → HasNames (at from) told
+pub listed-by : (at : At) (from : List ℕ) (told : List (List ℕ)) (more : Bool) (name : List ℕ) → IsKnown at → Comes at from → HasNames (at from) told more
     → Contains told name → IsListed at from name
-listed-by at from told name k c has listed = (told, c, known-folder (at from) told (k from c) has, listed)
+listed-by at from told more name k c has listed = (told, more, c, known-folder (at from) told more (k from c) has, listed)
 
 pub comes-by : (at : At) (from name : List ℕ) → IsListed at from name → passes_over from name ≡ false → (IsHiddenFolder (at (below from name)) name → ⊥)
     → Comes at (below from name)
-comes-by at from name l kept seen = onward from name l.0 l.1 l.2 l.3 kept seen
+comes-by at from name l kept seen = onward from name l.0 l.1 l.2 l.3 l.4 kept seen
 
 -- to a regular file
 pub reached-file : (at : At) (from name : List ℕ) → HasKind (at (below from name)) kind.File → passes_over from name ≡ false
     → IsKnown at → IsListed at from name → Reaches at [] (below from name)
 reached-file at from name is kept k l =
     let c : Comes at (below from name) = comes-by at from name l kept (seen-file (at (below from name)) name is) in
-    let f = known-file (at (below from name)) (k (below from name) c) is in
-    comes-reaches at (below from name) (below from name) c (here (below from name) f.0 f.1)
+    (comes-leads at (below from name) (below from name) c (here (below from name)), known-file (at (below from name)) (k (below from name) c) is)
 
 -- where a walk comes to, it asked what stands there
 pub comes-asks : (at : At) (path : List ℕ) → Comes at path → Asks at path
 comes-asks at path start = root
-comes-asks at path (onward from name names c there listed kept seen) = by_name from name (names, c, there, listed) kept
+comes-asks at path (onward from name names others c there listed kept seen) = by_name from name (names, others, c, there, listed) kept
 
-comes-along : (at : At) (from path : List ℕ) → Comes at from → Reaches at from path → Comes at path
-comes-along at from path c (here p bytes there) = c
-comes-along at from path c (inside f name p names there listed kept seen later) =
-    comes-along at (below f name) p (onward f name names c there listed kept seen) later
+comes-along : (at : At) (from path : List ℕ) → Comes at from → Leads at from path → Comes at path
+comes-along at from path c (here p) = c
+comes-along at from path c (inside f name p names others there listed kept seen later) =
+    comes-along at (below f name) p (onward f name names others c there listed kept seen) later
 
 pub reaches-asks : (at : At) (path : List ℕ) → Reaches at [] path → Asks at path
-reaches-asks at path r = comes-asks at path (comes-along at [] path start r)
+reaches-asks at path r = comes-asks at path (comes-along at [] path start r.0)
 
 -- whose names are told is a folder
-pub told-folder : (n : Option Node) (told : List (List ℕ)) → HasNames n told → IsFolder n
-told-folder None told has = has
-told-folder (Some (folder names)) told has = tt
-told-folder (Some (file bytes)) told has = has
-told-folder (Some link) told has = has
-told-folder (Some special) told has = has
-told-folder (Some (unread u)) told has = has
+pub told-folder : (n : Option Node) (told : List (List ℕ)) (more : Bool) → HasNames n told more → IsFolder n
+told-folder None told more has = has
+told-folder (Some (folder names others)) told more has = tt
+told-folder (Some (file bytes)) told more has = has
+told-folder (Some link) told more has = has
+told-folder (Some special) told more has = has
+told-folder (Some (unread u)) told more has = has
+
+-- with names that aren't UTF-8 besides, it has others
+pub told-more : (n : Option Node) (told : List (List ℕ)) (more : Bool) → HasNames n told more → more ≡ true → HasOthers n
+told-more None told more has is = has
+told-more (Some (folder names others)) told more has is = sym has.1 ∙ is
+told-more (Some (file bytes)) told more has is = has
+told-more (Some link) told more has is = has
+told-more (Some special) told more has is = has
+told-more (Some (unread u)) told more has is = has
 
 -- a folder that tells no names, a regular file that tells no bytes, and what is unread, for one reason
 pub unread-folder : (n : Option Node) (u : Unread) → IsFolder n → HasNoNames n u → IsUnread n u
 unread-folder None u is has = has
-unread-folder (Some (folder names)) u is has = has
+unread-folder (Some (folder names others)) u is has = has
 unread-folder (Some (file bytes)) u is has = absurd is
 unread-folder (Some link) u is has = absurd is
 unread-folder (Some special) u is has = absurd is
@@ -292,28 +358,19 @@ unread-folder (Some (unread there)) u is has = has
 
 pub unread-file : (n : Option Node) (u : Unread) → IsFile n → HasNoBytes n u → IsUnread n u
 unread-file None u is has = has
-unread-file (Some (folder names)) u is has = absurd is
+unread-file (Some (folder names others)) u is has = absurd is
 unread-file (Some (file bytes)) u is has = has
 unread-file (Some link) u is has = absurd is
 unread-file (Some special) u is has = absurd is
 unread-file (Some (unread there)) u is has = has
 
--- what is told to be a folder is one, where it is known
-pub kind-folder : (n : Option Node) → HasKind n kind.Folder → IsFolder n
-kind-folder None has = has
-kind-folder (Some (folder names)) has = tt
-kind-folder (Some (file bytes)) has = absurd (cc)
-kind-folder (Some link) has = absurd (cc)
-kind-folder (Some special) has = absurd (cc)
-kind-folder (Some (unread u)) has = has
-
 -- ---- the whole walk
 
 -- a walk that has found nothing yet, and then went through the names in the root
-pub begun : (at : At) (names : List (List ℕ)) (none w : Walk) (from : List ℕ) → none.files.keys ≡ [] → none.waiting.items ≡ [] → none.left.items ≡ []
-    → from ≡ [] → HasNames (at []) names → Grows at none w → CoversFrom at w from → (Comes at from → Stays at none w) → IsBegun at w
-begun at names none w from files waiting left is told grows covers only = record {
-  root = told-folder (at []) names told;
+pub begun : (at : At) (names : List (List ℕ)) (more : Bool) (none w : Walk) (from : List ℕ) → none.files.keys ≡ [] → none.waiting.items ≡ [] → none.left.items ≡ []
+    → from ≡ [] → HasNames (at []) names more → Grows at none w → CoversFrom at w from → (Comes at from → Stays at none w) → IsBegun at w
+begun at names more none w from files waiting left is told grows covers only = record {
+  root = told-folder (at []) names more told;
   covers = subst (CoversFrom at w) is covers;
   onward = grows.onward (All-same (IsBelow at) none.waiting.items [] waiting (All-nil (IsBelow at)));
   only = λ k. only (subst (Comes at) (sym is) start) k (record {
@@ -344,14 +401,15 @@ within-taken at old new from files left waiting h =
     )
 
 pub taken-covered : (at : At) (old new : Walk) (from path : List ℕ) → new.files.keys ≡ old.files.keys → new.left.items ≡ old.left.items
-    → old.waiting.items ≡ new.waiting.items ++ from ∷ [] → IsCovered at old path → IsCovered at new path ⊎ Reaches at from path
+    → old.waiting.items ≡ new.waiting.items ++ from ∷ [] → IsCovered at old path → IsCovered at new path ⊎ Leads at from path
 taken-covered at old new from path files left waiting h = elim h [
-  | inl found ↦ inl (inl (same-contains old.files.keys new.files.keys path files found))
+  | inl told ↦ inl (inl (told-kept (at path) path old.files.keys new.files.keys old.left.items new.left.items
+      (λ x k. same-contains old.files.keys new.files.keys x files k) (λ l k. same-contains old.left.items new.left.items l left k) told))
   | inr rest ↦ elim rest [
     | inl named ↦ inl (inr (inl (named.0, same-contains old.left.items new.left.items named.0 left named.1, named.2, named.3, named.4)))
     | inr waits ↦ elim (Contains-push_cases new.waiting.items from waits.0 (subst (λ (xs : List (List ℕ)). Contains xs waits.0) waiting waits.1)) [
       | inl other ↦ inl (inr (inr (waits.0, other, waits.2)))
-      | inr this ↦ inr (subst (λ (f : List ℕ). Reaches at f path) (sym this) waits.2)
+      | inr this ↦ inr (subst (λ (f : List ℕ). Leads at f path) (sym this) waits.2)
     ]
   ]
 ]

@@ -1,6 +1,6 @@
 -- An input that grows by a file.
 use Rattle.std.proofs.Common.{◌≡◌, ◌≢◌, ◌∙◌, ◌⊎◌, ◌<◌, ◌≤◌, ◌+◌, ◌++◌, ℕ, suc, Bool, true, false, List, [], ◌∷◌, length, refl, ap, ap₂, sym, subst, inl, inr, arith, drop, take, get_or, length-append, length-drop, lit<}
-use Rattle.std.specs.Prelude.{All, Contains, IfOk, IsUtf8, Result, Ok, Err, if◌then◌else◌, nat_lt, min, not, cond, ◌^◌, ◌-◌}
+use Rattle.std.specs.Prelude.{All, Contains, IfOk, IsUtf8, Option, Some, None, Result, Ok, Err, if◌then◌else◌, nat_lt, min, not, cond, ◌^◌, ◌-◌}
 use Rattle.std.specs.declared.cmp.Ordering.{Ordering}
 use Rattle.std.specs.declared.cmp.Ordering.TheVariants.{Less}
 use Rattle.std.specs.Cmp.Lexicographic.{slice_cmp}
@@ -21,9 +21,9 @@ use Rattle.json.proofs.Printed.Utf8.{IsUtf8-are_ascii}
 use Rattle.request.specs.Input.{Spells, input_limit}
 use Rattle.workspace.specs.FileKinds.{is_build_file, is_module}
 use Rattle.workspace.specs.Workspaces.{IsWorkspace, Pair, is_file, paths_of}
-use Rattle.packing.specs.Folders.{At, IsFound, Reaches, below, here, inside}
+use Rattle.packing.specs.Folders.{At, IsFolder, IsFound, IsKnownFile, Leads, Node, Reaches, file, folder, here, link, special, unread}
 use Rattle.packing.specs.Inputs.{begun_text, comma, input_text, pair_text}
-use Rattle.packing.specs.Packs.{AreAscending, HasCause, Holds, IsOf, Packs, counts_of, how_many, is_bazel_file, is_used}
+use Rattle.packing.specs.Packs.{AreAscending, HasCause, Holds, IsNamed, IsOf, IsTold, Packs, counts_of, how_many, is_bazel_file, is_used}
 use Rattle.packing.specs.Walks.{IsWalked}
 use Rattle.packing.specs.Writing.{ArePacked, AreTooMuch, Exceeds, Leaves, Names, Puts, Takes, Written, counted_too, one_more}
 use Rattle.packing.specs.declared.leaving.LeftOut.{LeftOut}
@@ -71,13 +71,13 @@ pub takes-put : (at : At) (path text : List ℕ) (old : Writing) (r : Result Wri
     → IfOk r (λ _. IsUtf8 (pair_text (path, text))) → IfOk r (λ w. length w.input.items < input_limit) → IfOk r (λ w. w.left ≡ old.left)
     → IfOk r (λ w. w.counts ≡ counted_too path old.counts)
     → is_file (path, text) ≡ true → IsOf (at path) (path, text) → is_bazel_file path ≡ false → IfOk r (Takes at path old)
-takes-put at path text old (Err e) input utf8 limit left counted file of served = tt
-takes-put at path text old (Ok w) input utf8 limit left counted file of served = record {
+takes-put at path text old (Err e) input utf8 limit left counted legal of served = tt
+takes-put at path text old (Ok w) input utf8 limit left counted legal of served = record {
   taken = λ pairs begun. inl (record {
     text = text;
     begun = input ∙ ap (λ i. i ++ (comma i ++ pair_text (path, text))) begun ∙ sym (begun-push pairs (path, text));
     limit = limit;
-    file = file;
+    file = legal;
     of = of;
     served = served;
     left = ap (λ l. l.items) left;
@@ -127,8 +127,8 @@ packed-push : (at : At) (keys : List (List ℕ)) (i : ℕ) (d : List ℕ) (ps : 
     → All (Contains (take i keys)) (paths_of ps) → ArePacked at ps → is_file (get_or keys i d, text) ≡ true
     → IsOf (at (get_or keys i d)) (get_or keys i d, text) → is_bazel_file (get_or keys i d) ≡ false
     → ArePacked at (ps ++ (get_or keys i d, text) ∷ [])
-packed-push at keys i d ps text ascending lt within packed file of served = record {
-  files = list_all-push ps (get_or keys i d, text) packed.files file;
+packed-push at keys i d ps text ascending lt within packed legal of served = record {
+  files = list_all-push ps (get_or keys i d, text) packed.files legal;
   ascending = subst AreAscending (sym (map-append (λ (p : Pair). p.0) ps ((get_or keys i d, text) ∷ [])))
       (ascending-push (paths_of ps) (get_or keys i d) packed.ascending
       (All-weaker (Contains (take i keys)) (λ x. order x (get_or keys i d) ≡ Less) (λ x h. before_is_below keys i d x ascending lt h) (paths_of ps) within));
@@ -309,10 +309,6 @@ written-workspace at done before w h = record {
   distinct = ascending-distinct (paths_of h.pairs) h.packed.ascending;
 }
 
-reaches_itself : (at : At) (from path : List ℕ) → Reaches at from path → Reaches at path path
-reaches_itself at from path (here p bytes there) = here p bytes there
-reaches_itself at from path (inside f name p names there listed kept seen later) = reaches_itself at (below f name) p later
-
 closed_text : (at : At) (done : List (List ℕ)) (before : List LeftOut) (w : Writing) (h : Written at done before w) (input : List ℕ)
     → input ≡ w.input.items ++ 93 ∷ [] → input ≡ input_text h.pairs
 closed_text at done before w h input is = is ∙ ap (λ (bs : List ℕ). bs ++ 93 ∷ []) h.begun ∙ sym (begun-closed h.pairs)
@@ -325,6 +321,27 @@ whole_input at done before w h input is =
     let limit : length input ≤ input_limit = omega (arith, h.limit, ap length is, length-append w.input.items (93 ∷ [])) in
     subst (λ (bs : List ℕ). Spells bs h.pairs) (sym text)
     (text_spells h.pairs (written-workspace at done before w h) (subst IsUtf8 text utf8) (subst (λ (bs : List ℕ). length bs ≤ input_limit) text limit))
+
+-- what a walk told is told of the input too: a file that it found is packed or named
+told-packed : (at : At) (path : List ℕ) (files paths : List (List ℕ)) (left rest : List LeftOut) (n : Option Node) → at path ≡ n → Leads at [] path
+    → IsFolder (at []) → (Contains files path → Contains paths path ⊎ ((l : LeftOut) × Contains rest l × Names l path))
+    → ((l : LeftOut) → Contains left l → Contains rest l) → IsTold n path files left → IsTold n path paths rest ⊎ IsNamed at rest path
+told-packed at path files paths left rest None there r folds packed kept told = inl told
+told-packed at path files paths left rest (Some (folder names others)) there r folds packed kept told =
+    inl (λ is. kept (record { path = path; reason = kinds.NamesNotUtf8 }) (told is))
+told-packed at path files paths left rest (Some (file bytes)) there r folds packed kept told = elim (packed told) [
+  | inl in_it ↦ inl in_it
+  | inr out ↦ inr (
+    out.0,
+    out.1,
+    subst (λ (q : List ℕ). q ≢ []) (sym out.2.0) (file-below at path folds r (subst IsKnownFile (sym there) tt)),
+    out.2.1,
+    subst (λ (from : List ℕ). Leads at from path) (sym out.2.0) (here path),
+  )
+]
+told-packed at path files paths left rest (Some link) there r folds packed kept told = inl told
+told-packed at path files paths left rest (Some special) there r folds packed kept told = absurd told
+told-packed at path files paths left rest (Some (unread u)) there r folds packed kept told = absurd told
 
 pub packs-closed : (at : At) (walk : Walk) (w : Writing) (r : Result Packed PackStop) → IsWalked at walk
     → Written at walk.files.keys walk.left.items w
@@ -339,24 +356,13 @@ packs-closed at walk w (Ok p) walked h input left counted = record {
   of = h.packed.of;
   served = h.packed.served;
   whole = λ path r. elim (walked.whole path r) [
-    | inl found ↦ elim (h.whole path found) [
-      | inl there ↦ inl there
-      | inr out ↦ inr (
-        out.0,
-        subst (λ (ls : List LeftOut). Contains ls out.0) (sym same) out.1,
-        subst (λ (q : List ℕ). q ≢ []) (sym out.2.0) (file-below at path walked.root r),
-        out.2.1,
-        subst (λ (from : List ℕ). Reaches at from path) (sym out.2.0) (reaches_itself at [] path r),
-      )
-    ]
-    | inr out ↦ inr (
-      out.0,
-      subst (λ (ls : List LeftOut). Contains ls out.0) (sym same)
-          (h.kept out.0 out.1),
-      out.2,
-      out.3,
-      out.4,
-    )
+    | inl told ↦ told-packed at path walk.files.keys (paths_of h.pairs) walk.left.items p.left.items (at path) refl r walked.root
+        (λ found. elim (h.whole path found) [
+          | inl there ↦ inl there
+          | inr out ↦ inr (out.0, subst (λ (ls : List LeftOut). Contains ls out.0) (sym same) out.1, out.2)
+        ])
+        kept told
+    | inr out ↦ inr (out.0, kept out.0 out.1, out.2, out.3, out.4)
   ];
   only = λ k. All-weaker (Contains walk.files.keys) (Reaches at [])
       (λ path there. (All-contains (IsFound at) walk.files.keys path walked.found there).1 k) (paths_of h.pairs) h.within;
@@ -366,3 +372,6 @@ packs-closed at walk w (Ok p) walked h input left counted = record {
   where
     same : p.left.items ≡ w.left.items
     same = ap (λ l. l.items) left
+
+    kept : (l : LeftOut) → Contains walk.left.items l → Contains p.left.items l
+    kept l k = subst (λ (ls : List LeftOut). Contains ls l) (sym same) (h.kept l k)

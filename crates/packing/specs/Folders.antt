@@ -11,10 +11,10 @@ use Rattle.packing.specs.declared.folders.Kind.{Kind}
 use Rattle.packing.specs.declared.folders.Kind.TheVariants as kind
 use Rattle.packing.specs.declared.folders.Unread.{Unread}
 
--- a folder with the names in it, a regular file with its bytes, a link, what is none of these, or
--- what the system tells nothing of, and why
+-- a folder with the names in it that are UTF-8, and whether there are others; a regular file with
+-- its bytes; a link; what is none of these; or what the system tells nothing of, and why
 pub data Node : Type 0 where
-  folder : List (List ℕ) → Node
+  folder : List (List ℕ) → Bool → Node
   file : List ℕ → Node
   link : Node
   special : Node
@@ -43,34 +43,47 @@ is_hidden name = starts_with nat_eq name (codes ".")
 -- what stands there is known to be a folder, and its name begins with a dot
 abbrev pub IsHiddenFolder : Option Node → List ℕ → Type 0
 IsHiddenFolder None name = ⊥
-IsHiddenFolder (Some (folder names)) name = is_hidden name ≡ true
+IsHiddenFolder (Some (folder names others)) name = is_hidden name ≡ true
 IsHiddenFolder (Some (file bytes)) name = ⊥
 IsHiddenFolder (Some link) name = ⊥
 IsHiddenFolder (Some special) name = ⊥
 IsHiddenFolder (Some (unread u)) name = ⊥
 
--- from a folder a walk reaches the regular file at a path: by names that stand in the folders on
--- the way, none of them passed over
-pub data Reaches (at : At) : List ℕ → List ℕ → Type 0 where
-  here : (path bytes : List ℕ) → at path ≡ Some (file bytes) → Reaches at path path
-  inside : (from name path : List ℕ) (names : List (List ℕ))
-      → at from ≡ Some (folder names) → Contains names name
+-- from a folder a walk leads to a path: by names that stand in the folders on the way, none of them
+-- passed over
+pub data Leads (at : At) : List ℕ → List ℕ → Type 0 where
+  here : (path : List ℕ) → Leads at path path
+  inside : (from name path : List ℕ) (names : List (List ℕ)) (others : Bool)
+      → at from ≡ Some (folder names others) → Contains names name
       → passes_over from name ≡ false → (IsHiddenFolder (at (below from name)) name → ⊥)
-      → Reaches at (below from name) path → Reaches at from path
+      → Leads at (below from name) path → Leads at from path
+
+-- what stands there is known to be a regular file
+abbrev pub IsKnownFile : Option Node → Type 0
+IsKnownFile None = ⊥
+IsKnownFile (Some (folder names others)) = ⊥
+IsKnownFile (Some (file bytes)) = ⊤
+IsKnownFile (Some link) = ⊥
+IsKnownFile (Some special) = ⊥
+IsKnownFile (Some (unread u)) = ⊥
+
+-- from a folder a walk reaches the regular file at a path
+abbrev pub Reaches : At → List ℕ → List ℕ → Type 0
+Reaches at from path = Leads at from path × IsKnownFile (at path)
 
 -- a walk comes to a path: that of the folder itself, and of each name in a folder that it comes to,
 -- but for names and folders that are passed over
 pub data Comes (at : At) : List ℕ → Type 0 where
   start : Comes at []
-  onward : (from name : List ℕ) (names : List (List ℕ)) → Comes at from
-      → at from ≡ Some (folder names) → Contains names name
+  onward : (from name : List ℕ) (names : List (List ℕ)) (others : Bool) → Comes at from
+      → at from ≡ Some (folder names others) → Contains names name
       → passes_over from name ≡ false → (IsHiddenFolder (at (below from name)) name → ⊥)
       → Comes at (below from name)
 
 -- a name stands in a folder that a walk comes to
 abbrev pub IsListed : At → List ℕ → List ℕ → Type 0
-IsListed at from name = (names : List (List ℕ)) × Comes at from
-    × (at from ≡ Some (folder names)) × Contains names name
+IsListed at from name = (names : List (List ℕ)) × (others : Bool) × Comes at from
+    × (at from ≡ Some (folder names others)) × Contains names name
 
 -- a walk asks what stands at a path: that of the folder itself, and of each name in a folder that
 -- it comes to, but not of those that are passed over
@@ -83,19 +96,19 @@ pub data Asks (at : At) : List ℕ → Type 0 where
 abbrev pub IsKnown : At → Type 0
 IsKnown at = (path : List ℕ) → Comes at path → IsSome (at path)
 
--- what a folder tells is true of what is known: the names in it
-abbrev pub HasNames : Option Node → List (List ℕ) → Type 0
-HasNames None told = ⊤
-HasNames (Some (folder names)) told = told ≡ names
-HasNames (Some (file bytes)) told = ⊥
-HasNames (Some link) told = ⊥
-HasNames (Some special) told = ⊥
-HasNames (Some (unread u)) told = ⊥
+-- what a folder tells is true of what is known: the names in it, and whether there are others
+abbrev pub HasNames : Option Node → List (List ℕ) → Bool → Type 0
+HasNames None told more = ⊤
+HasNames (Some (folder names others)) told more = (told ≡ names) × (more ≡ others)
+HasNames (Some (file bytes)) told more = ⊥
+HasNames (Some link) told more = ⊥
+HasNames (Some special) told more = ⊥
+HasNames (Some (unread u)) told more = ⊥
 
 -- what a folder tells is true of what is known: the kind of what stands at a path
 abbrev pub HasKind : Option Node → Kind → Type 0
 HasKind None k = ⊤
-HasKind (Some (folder names)) k = k ≡ kind.Folder
+HasKind (Some (folder names others)) k = k ≡ kind.Folder
 HasKind (Some (file bytes)) k = k ≡ kind.File
 HasKind (Some link) k = k ≡ kind.Link
 HasKind (Some special) k = k ≡ kind.Special
@@ -104,7 +117,7 @@ HasKind (Some (unread u)) k = ⊥
 -- what a folder tells is true of what is known: the bytes of a regular file
 abbrev pub HasBytes : Option Node → List ℕ → Type 0
 HasBytes None told = ⊤
-HasBytes (Some (folder names)) told = ⊥
+HasBytes (Some (folder names others)) told = ⊥
 HasBytes (Some (file bytes)) told = told ≡ bytes
 HasBytes (Some link) told = ⊥
 HasBytes (Some special) told = ⊥
@@ -113,7 +126,7 @@ HasBytes (Some (unread u)) told = ⊥
 -- why nothing is told of a path is true of what is known
 abbrev pub IsUnread : Option Node → Unread → Type 0
 IsUnread None u = ⊤
-IsUnread (Some (folder names)) u = ⊥
+IsUnread (Some (folder names others)) u = ⊥
 IsUnread (Some (file bytes)) u = ⊥
 IsUnread (Some link) u = ⊥
 IsUnread (Some special) u = ⊥
@@ -122,7 +135,7 @@ IsUnread (Some (unread there)) u = there ≡ u
 -- why no names are told: a folder that is known tells them
 abbrev pub HasNoNames : Option Node → Unread → Type 0
 HasNoNames None u = ⊤
-HasNoNames (Some (folder names)) u = ⊥
+HasNoNames (Some (folder names others)) u = ⊥
 HasNoNames (Some (file bytes)) u = ⊤
 HasNoNames (Some link) u = ⊤
 HasNoNames (Some special) u = ⊤
@@ -131,7 +144,7 @@ HasNoNames (Some (unread there)) u = there ≡ u
 -- why no bytes are told: a regular file that is known tells them
 abbrev pub HasNoBytes : Option Node → Unread → Type 0
 HasNoBytes None u = ⊤
-HasNoBytes (Some (folder names)) u = ⊤
+HasNoBytes (Some (folder names others)) u = ⊤
 HasNoBytes (Some (file bytes)) u = ⊥
 HasNoBytes (Some link) u = ⊤
 HasNoBytes (Some special) u = ⊤
@@ -140,7 +153,7 @@ HasNoBytes (Some (unread there)) u = there ≡ u
 -- a regular file of more bytes than the limit, where it is known
 abbrev pub IsLonger : Option Node → ℕ → Type 0
 IsLonger None limit = ⊤
-IsLonger (Some (folder names)) limit = ⊥
+IsLonger (Some (folder names others)) limit = ⊥
 IsLonger (Some (file bytes)) limit = limit < length bytes
 IsLonger (Some link) limit = ⊥
 IsLonger (Some special) limit = ⊥
@@ -149,16 +162,25 @@ IsLonger (Some (unread u)) limit = ⊥
 -- a folder, where it is known
 abbrev pub IsFolder : Option Node → Type 0
 IsFolder None = ⊤
-IsFolder (Some (folder names)) = ⊤
+IsFolder (Some (folder names others)) = ⊤
 IsFolder (Some (file bytes)) = ⊥
 IsFolder (Some link) = ⊥
 IsFolder (Some special) = ⊥
 IsFolder (Some (unread u)) = ⊥
 
+-- a folder with names that aren't UTF-8, where it is known
+abbrev pub HasOthers : Option Node → Type 0
+HasOthers None = ⊤
+HasOthers (Some (folder names others)) = others ≡ true
+HasOthers (Some (file bytes)) = ⊥
+HasOthers (Some link) = ⊥
+HasOthers (Some special) = ⊥
+HasOthers (Some (unread u)) = ⊥
+
 -- a regular file, where it is known
 abbrev pub IsFile : Option Node → Type 0
 IsFile None = ⊤
-IsFile (Some (folder names)) = ⊥
+IsFile (Some (folder names others)) = ⊥
 IsFile (Some (file bytes)) = ⊤
 IsFile (Some link) = ⊥
 IsFile (Some special) = ⊥

@@ -12,8 +12,8 @@ use Rattle.request.specs.Input.{Spells}
 use Rattle.workspace.specs.FileKinds.{is_build_file, is_module}
 use Rattle.workspace.specs.Paths.{is_path, last_segment}
 use Rattle.workspace.specs.Workspaces.{Pair, paths_of, text_limit}
-use Rattle.packing.specs.Folders.{Asks, At, IsFile, IsFolder, IsKnown, IsLonger, IsUnread, Node}
-use Rattle.packing.specs.Folders.{Reaches, file, folder, link, special, unread}
+use Rattle.packing.specs.Folders.{Asks, At, HasOthers, IsFile, IsKnown, IsLonger, IsUnread, Leads}
+use Rattle.packing.specs.Folders.{Node, Reaches, file, folder, link, special, unread}
 use Rattle.packing.specs.Inputs.{input_text}
 use Rattle.packing.specs.declared.folders.Unread.TheVariants as why
 use Rattle.packing.specs.declared.leaving.LeftOut.{LeftOut}
@@ -40,7 +40,7 @@ used_text path bytes = if is_used path then bytes else []
 -- of a file that isn't used has the empty text
 abbrev pub IsOf : Option Node → Pair → Type 0
 IsOf None pair = is_used pair.0 ≡ false → pair.1 ≡ []
-IsOf (Some (folder names)) pair = ⊥
+IsOf (Some (folder names others)) pair = ⊥
 IsOf (Some (file bytes)) pair = pair.1 ≡ used_text pair.0 bytes
 IsOf (Some link) pair = ⊥
 IsOf (Some special) pair = ⊥
@@ -49,7 +49,7 @@ IsOf (Some (unread u)) pair = ⊥
 -- the bytes aren't UTF-8, where they are known
 abbrev pub IsNoText : Option Node → Type 0
 IsNoText None = ⊤
-IsNoText (Some (folder names)) = ⊥
+IsNoText (Some (folder names others)) = ⊥
 IsNoText (Some (file bytes)) = IsUtf8 bytes → ⊥
 IsNoText (Some link) = ⊥
 IsNoText (Some special) = ⊥
@@ -58,21 +58,21 @@ IsNoText (Some (unread u)) = ⊥
 -- neither folder, file nor link, where it is known
 abbrev pub IsSpecial : Option Node → Type 0
 IsSpecial None = ⊤
-IsSpecial (Some (folder names)) = ⊥
+IsSpecial (Some (folder names others)) = ⊥
 IsSpecial (Some (file bytes)) = ⊥
 IsSpecial (Some link) = ⊥
 IsSpecial (Some special) = ⊤
 IsSpecial (Some (unread u)) = ⊥
 
 -- the reason holds of the path. The first four are told of a regular file, and of these the last
--- two only where its text is used. Which names aren't UTF-8, no definition tells
+-- two only where its text is used
 abbrev pub Holds : At → List ℕ → Reason → Type 0
 Holds at path reason.IllegalPath = IsFile (at path) × (is_path path ≡ false)
 Holds at path reason.BazelFile = IsFile (at path) × (is_bazel_file path ≡ true)
 Holds at path reason.NotUtf8 = IsNoText (at path) × (is_used path ≡ true)
 Holds at path reason.TooLong = IsLonger (at path) text_limit × (is_used path ≡ true)
 Holds at path reason.Special = IsSpecial (at path)
-Holds at path reason.NamesNotUtf8 = IsFolder (at path)
+Holds at path reason.NamesNotUtf8 = HasOthers (at path)
 Holds at path reason.Gone = IsUnread (at path) why.Gone
 Holds at path reason.Denied = IsUnread (at path) why.Denied
 Holds at path reason.NameTooLong = IsUnread (at path) why.NameTooLong
@@ -86,11 +86,23 @@ HasReason at l = Holds at l.path l.reason
 abbrev pub HasCause : At → LeftOut → Type 0
 HasCause at l = HasReason at l × (IsKnown at → Asks at l.path)
 
--- the file at a path, or a folder on the way to it, is named as left out; the root is no such
--- folder. That a folder has names that aren't UTF-8 leaves out no file that is reached by others
+-- what stands at a path, or a folder on the way to it, is named as left out; the root is no such
+-- folder. That a folder has names that aren't UTF-8 leaves out nothing that others lead to
 abbrev pub IsNamed : At → List LeftOut → List ℕ → Type 0
 IsNamed at left path = (l : LeftOut) × Contains left l × (l.path ≢ [])
-    × (l.reason ≢ reason.NamesNotUtf8) × Reaches at l.path path
+    × (l.reason ≢ reason.NamesNotUtf8) × Leads at l.path path
+
+-- what stands at a path isn't lost, among the files that are found and what is left out: a regular
+-- file is one of those, and a folder with names that aren't UTF-8 is named so. Links are passed
+-- over; of what isn't known nothing is said
+abbrev pub IsTold : Option Node → List ℕ → List (List ℕ) → List LeftOut → Type 0
+IsTold None path files left = ⊤
+IsTold (Some (folder names others)) path files left =
+    others ≡ true → Contains left (record { path = path; reason = reason.NamesNotUtf8 })
+IsTold (Some (file bytes)) path files left = Contains files path
+IsTold (Some link) path files left = ⊤
+IsTold (Some special) path files left = ⊥
+IsTold (Some (unread u)) path files left = ⊥
 
 -- the paths ascend by their bytes
 abbrev pub AreAscending : List (List ℕ) → Type 0
@@ -109,9 +121,9 @@ counts_of paths = record {
 }
 
 -- what is written is the text of a workspace, and spells it: its pairs ascend by their paths, and
--- each is of a file of the folder, none of them a `BUILD.bazel` or `MODULE.bazel`. Each file that a
--- walk reaches is one of them, or it or a folder on the way to it is named as left out, and each
--- that is named has its cause. Where all is known that a walk comes to, no other file is one of
+-- each is of a file of the folder, none of them a `BUILD.bazel` or `MODULE.bazel`. Nothing that
+-- a walk leads to is lost: a file is one of them, or it or a folder on the way to it is named as
+-- left out, and so is what is no file, folder or link. Each that is named has its cause. Where all is known that a walk comes to, no other file is one of
 -- them. The files are counted by their kinds
 pub record Packs (at : At) (p : Packed) : Type 0 where
   pub workspace : List Pair
@@ -120,8 +132,8 @@ pub record Packs (at : At) (p : Packed) : Type 0 where
   pub ascending : AreAscending (paths_of workspace)
   pub of : All (λ q. IsOf (at q.0) q) workspace
   pub served : All (λ q. is_bazel_file q.0 ≡ false) workspace
-  pub whole : (path : List ℕ) → Reaches at [] path
-      → Contains (paths_of workspace) path ⊎ IsNamed at p.left.items path
+  pub whole : (path : List ℕ) → Leads at [] path
+      → IsTold (at path) path (paths_of workspace) p.left.items ⊎ IsNamed at p.left.items path
   pub only : IsKnown at → All (Reaches at []) (paths_of workspace)
   pub causes : All (HasCause at) p.left.items
   pub counted : p.counts ≡ counts_of (paths_of workspace)

@@ -16,7 +16,7 @@ use Rattle.packing.specs.declared.whole.PackStop.TheVariants as stop
 -- a regular file of so many bytes that are UTF-8, where it is known
 abbrev pub HasSize : Option Node → ℕ → Type 0
 HasSize None n = ⊤
-HasSize (Some (folder names)) n = ⊥
+HasSize (Some (folder names others)) n = ⊥
 HasSize (Some (file bytes)) n = (n ≡ length bytes) × IsUtf8 bytes
 HasSize (Some link) n = ⊥
 HasSize (Some special) n = ⊥

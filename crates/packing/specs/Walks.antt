@@ -2,24 +2,25 @@
 -- own.)
 use Rattle.std.specs.Prelude.{◌≡◌, ◌≢◌, ◌⊎◌, ℕ, false, List, [], All, Contains}
 use Rattle.packing.specs.Folders.{Asks, At, Comes, IsFile, IsFolder, IsFound, IsHiddenFolder}
-use Rattle.packing.specs.Folders.{IsKnown, Reaches, below, passes_over}
-use Rattle.packing.specs.Packs.{HasCause, HasReason, IsNamed}
+use Rattle.packing.specs.Folders.{IsKnown, Leads, Reaches, below, passes_over}
+use Rattle.packing.specs.Packs.{HasCause, HasReason, IsNamed, IsTold}
 use Rattle.packing.specs.declared.walk.Walk.{Walk}
 
--- a folder waits from which the path is reached
+-- a folder waits that leads to the path
 abbrev pub Awaits : At → List (List ℕ) → List ℕ → Type 0
-Awaits at waiting path = (from : List ℕ) × Contains waiting from × Reaches at from path
+Awaits at waiting path = (from : List ℕ) × Contains waiting from × Leads at from path
 
--- the file at the path was found, or is named as left out, or will be reached
+-- what stands at the path isn't lost: it was found or named, or is left out with a folder on the way
+-- to it, or a folder that waits leads to it
 abbrev pub IsCovered : At → Walk → List ℕ → Type 0
-IsCovered at w path = Contains w.files.keys path
+IsCovered at w path = IsTold (at path) path w.files.keys w.left.items
     ⊎ (IsNamed at w.left.items path ⊎ Awaits at w.waiting.items path)
 
--- each file that is reached from a folder is found, named as left out, or will be reached
+-- nothing is lost that a folder leads to
 abbrev pub CoversFrom : At → Walk → List ℕ → Type 0
-CoversFrom at w from = (path : List ℕ) → Reaches at from path → IsCovered at w path
+CoversFrom at w from = (path : List ℕ) → Leads at from path → IsCovered at w path
 
--- so is each file that is reached by a name in a folder, if what it stands for isn't passed over
+-- nor what a name in a folder leads to, if what it stands for isn't passed over
 abbrev pub CoversName : At → Walk → List ℕ → List ℕ → Type 0
 CoversName at w from name =
     passes_over from name ≡ false → (IsHiddenFolder (at (below from name)) name → ⊥)
@@ -48,8 +49,7 @@ pub record IsWithin (at : At) (w : Walk) : Type 0 where
 abbrev pub Stays : At → Walk → Walk → Type 0
 Stays at old new = IsKnown at → IsWithin at old → IsWithin at new
 
--- a walk that went through the names in the root: each file that it reaches is found, named as left
--- out, or will be reached, and the root isn't waiting
+-- a walk that went through the names in the root: nothing is lost, and the root isn't waiting
 pub record IsBegun (at : At) (w : Walk) : Type 0 where
   pub root : IsFolder (at [])
   pub covers : CoversFrom at w []
@@ -58,11 +58,11 @@ pub record IsBegun (at : At) (w : Walk) : Type 0 where
   pub files : All (λ p. IsFile (at p)) w.files.keys
   pub reasons : All (HasReason at) w.left.items
 
--- a whole walk: through a folder, and each file that it reaches was found or is named as left out,
--- what it found are files that it reaches, and it left nothing out without a cause
+-- a whole walk: through a folder, and nothing is lost that it leads to; what it found are files that
+-- it reaches, and it left nothing out without a cause
 pub record IsWalked (at : At) (w : Walk) : Type 0 where
   pub root : IsFolder (at [])
-  pub whole : (path : List ℕ) → Reaches at [] path
-      → Contains w.files.keys path ⊎ IsNamed at w.left.items path
+  pub whole : (path : List ℕ) → Leads at [] path
+      → IsTold (at path) path w.files.keys w.left.items ⊎ IsNamed at w.left.items path
   pub found : All (IsFound at) w.files.keys
   pub causes : All (HasCause at) w.left.items

@@ -60,7 +60,8 @@ pub trait Folder {
     ///
     /// Where the folder can't be read, and `NoMemory` where memory was refused.
     fn names(&self, alloc: Global, path: &str) -> Result<Names, Unread>
-        ensures names { IfOk result (λ n. HasNames (at self.now path.now) n.names.items) }
+        ensures names { IfOk result (λ n.
+            HasNames (at self.now path.now) n.names.items n.others) }
         ensures unread { IfErr result (λ e. e ≢ Unread.NoMemory
             → HasNoNames (at self.now path.now) e) };
 

@@ -2,7 +2,7 @@
 //!
 //! Folders that wait stand in a list, so that nothing recurses by their depth.
 
-ghost use Rattle.std.specs.Prelude.{◌≡◌, ◌≢◌, ◌∷◌, ℕ, List, [], Contains, IfOk, OnOk};
+ghost use Rattle.std.specs.Prelude.{◌≡◌, ◌≢◌, ℕ, List, [], Contains, IfOk, OnOk};
 ghost use Rattle.packing.specs.Folders.{Asks, At, Comes, HasNames, IsFile, IsListed, Reaches};
 ghost use Rattle.packing.specs.Folders.{IsUnread, is_hidden, passes_over};
 ghost use Rattle.packing.specs.Packs.{Holds};
@@ -81,6 +81,8 @@ impl Walk {
             → Grows at self.old self.new) }
         ensures covers { OnOk result (path ≢ [] → reason ≢ Reason.NamesNotUtf8 → (at : At)
             → CoversFrom at self.new path) }
+        ensures named { OnOk result (Contains self.new.left.items
+            (record { «path» = path; reason = reason })) }
         ensures only { OnOk result ((at : At) → Asks at path → Stays at self.old self.new) }
     {
         self.left.push(LeftOut { path, reason })?;
@@ -170,7 +172,7 @@ impl Walk {
         from: Text,
         listing: Names,
     ) -> Result<(), AllocError>
-        requires { HasNames (F.at folder.now from) listing.names.items }
+        requires { HasNames (F.at folder.now from) listing.names.items listing.others }
         ensures grows { OnOk result (Grows (F.at folder.now) self.old self.new) }
         ensures covers { OnOk result (CoversFrom (F.at folder.now) self.new from) }
         ensures only { OnOk result (Comes (F.at folder.now) from
@@ -202,7 +204,7 @@ impl Walk {
 
     /// Goes through the names in the root.
     fn begin<F: Folder>(folder: &F, alloc: Global, root: Names) -> Result<Walk, AllocError>
-        requires { HasNames (F.at folder.now []) root.names.items }
+        requires { HasNames (F.at folder.now []) root.names.items root.others }
         ensures { IfOk result (IsBegun (F.at folder.now)) }
     {
         let mut walk = Walk::new(alloc);
@@ -218,7 +220,7 @@ impl Walk {
 ///
 /// `AllocError` where memory was refused, or where there were 2^64 - 1 folders.
 pub fn walk_through<F: Folder>(folder: &F, alloc: Global, root: Names) -> Result<Walk, AllocError>
-    requires { HasNames (F.at folder.now []) root.names.items }
+    requires { HasNames (F.at folder.now []) root.names.items root.others }
     ensures { IfOk result (IsWalked (F.at folder.now)) }
 {
     let mut walk = Walk::begin(folder, alloc, root)?;

@@ -5,7 +5,7 @@ use Rattle.packing.specs.Folders.{Asks, At, Comes, HasKind, IsFolder, IsListed, 
 use Rattle.packing.specs.declared.folders.Kind.{Kind}
 use Rattle.packing.specs.declared.folders.Kind.TheVariants as kind
 use Rattle.packing.specs.Walks.{CoversFrom, IsBelow, Stays}
-use Rattle.packing.proofs.WalkLemmas.{below-some, comes-by, covers-found, kind-folder, reached-file, seen-name}
+use Rattle.packing.proofs.WalkLemmas.{below-some, comes-by, covers-found, covers-hidden, covers-link, kind-folder, reached-file, seen-name}
 use Rattle.packing.proofs.walk.Walk.take.Goals as goal
 
 pub returns-in-Ok-File-clause-covers : goal.returns-in-Ok-File-clause-covers
@@ -76,3 +76,18 @@ returns-else-is_hidden-clause-grows g c =
       subst (λ (p : List ℕ). IsFolder (at p)) c.as_str.ensures (kind-folder (at c.as_str.result.now) told),
     ) in
     IfOk-weaker c.wait.result _ _ (λ r h. h at below) c.wait.ensures.grows
+
+pub returns-in-Ok-Link-clause-covers : goal.returns-in-Ok-Link-clause-covers
+returns-in-Ok-Link-clause-covers g c kept seen =
+    let at = g.F.Folder.at c.args.folder.now in
+    let told : HasKind (at c.as_str.result.now) kind.Link = subst (λ (k : Kind). HasKind (at c.as_str.result.now) k) c.in-Ok-Link.field-0-is c.in-Ok-Link.ensures.kind in
+    covers-link at c.args.self.now (below c.args.from.now c.args.name.now)
+    (subst (λ (p : List ℕ). HasKind (at p) kind.Link) (c.as_str.ensures ∙ c.in_ok-path.ensures) told)
+
+pub returns-then-is_hidden-clause-covers : goal.returns-then-is_hidden-clause-covers
+returns-then-is_hidden-clause-covers g c =
+    let at = g.F.Folder.at c.args.folder.now in
+    let told : HasKind (at c.as_str.result.now) kind.Folder = subst (λ (k : Kind). HasKind (at c.as_str.result.now) k) c.in-Ok-Folder.field-0-is c.in-Ok-Folder.ensures.kind in
+    covers-hidden at c.args.self.now c.args.from.now c.args.name.now
+    (subst (λ (p : List ℕ). HasKind (at p) kind.Folder) (c.as_str.ensures ∙ c.in_ok-path.ensures) told)
+    (sym c.is_hidden.ensures ∙ c.if-is_hidden.true)
