@@ -15,7 +15,7 @@ fn run(rt: &HostRuntime, words: PackWords<'_>) -> u8 {
     let folder = HostFolder::new(rt, words.root);
     let mut sink = Counted::new(io::writer(rt));
     let packed = pack(&folder, alloc, words.strict, &mut sink);
-    let _ = tell(rt, alloc, words.root, &packed);
+    let _ = tell(rt, words.root, &packed);
     status(&packed)
 }
 

@@ -4,7 +4,6 @@ ghost use Rattle.std.specs.Prelude.{◌≡◌};
 ghost use Rattle.pack_host.specs.Endings.{status_of};
 
 use packing::{FileSize, LeftOut, PackStop, Packed, Unread};
-use std::alloc::{AllocError, Global};
 use std::io;
 
 /// The exit status: 0 where the input was written, 1 where something would be left out that may
@@ -32,16 +31,9 @@ fn root_text(unread: Unread) -> &'static str {
     }
 }
 
-/// What is left out, by its path.
-fn in_order(alloc: Global, left: &[LeftOut]) -> Result<Vec<&LeftOut>, AllocError> {
-    let mut lines: Vec<&LeftOut> = left.iter().collect(alloc)?;
-    lines.sort_by(|a, b| a.path.cmp(&b.path))?;
-    Ok(lines)
-}
-
 /// Names what is left out, a line each.
-fn tell_left<R: Eprint>(rt: &R, alloc: Global, left: &[LeftOut]) -> io::Result<()> {
-    for line in in_order(alloc, left)? {
+fn tell_left<R: Eprint>(rt: &R, left: &[LeftOut]) -> io::Result<()> {
+    for line in left {
         eprintln!(rt; "bzlan_pack: left out: {line}")?;
     }
     Ok(())
@@ -76,19 +68,14 @@ fn tell_sizes<R: Eprint>(rt: &R, sizes: &[FileSize]) -> io::Result<()> {
 /// # Errors
 ///
 /// Where standard error doesn't take a line.
-pub fn tell<R: Eprint>(
-    rt: &R,
-    alloc: Global,
-    root: &str,
-    packed: &Result<Packed, PackStop>,
-) -> io::Result<()> {
+pub fn tell<R: Eprint>(rt: &R, root: &str, packed: &Result<Packed, PackStop>) -> io::Result<()> {
     match packed {
         Ok(packed) => {
-            tell_left(rt, alloc, &packed.left)?;
+            tell_left(rt, &packed.left)?;
             tell_counts(rt, packed)
         }
         Err(PackStop::LeftOut(left)) => {
-            tell_left(rt, alloc, left)?;
+            tell_left(rt, left)?;
             eprintln!(rt; "bzlan_pack: nothing is written, since --strict lets nothing be left out")
         }
         Err(PackStop::TooLong(sizes)) => tell_sizes(rt, sizes),

@@ -2,17 +2,18 @@
 use Rattle.std.proofs.Common.{◌≡◌, ◌≢◌, ◌∙◌, ◌⊎◌, ◌<◌, ◌≤◌, ◌+◌, ◌++◌, ℕ, suc, Bool, true, false, List, [], ◌∷◌, length, refl, ap, ap₂, sym, subst, inl, inr, arith, drop, take, get_or, length-append, length-drop, lit<}
 use Rattle.std.specs.Prelude.{All, Contains, IfOk, IsUtf8, Option, Some, None, Result, Ok, Err, if◌then◌else◌, nat_lt, min, not, cond, ◌^◌, ◌-◌}
 use Rattle.std.specs.declared.cmp.Ordering.{Ordering}
-use Rattle.std.specs.declared.cmp.Ordering.TheVariants.{Less}
+use Rattle.std.specs.declared.cmp.Ordering.TheVariants.{Less, Equal, Greater}
 use Rattle.std.specs.Cmp.Lexicographic.{slice_cmp}
 use Rattle.std.specs.List.{AllByRecursion, IsDistinct, count_by, list_all}
-use Rattle.std.specs.List.Sorted.{IsStrictlySortedBy}
-use Rattle.std.specs.Ordering.{is_eq, nat_cmp}
+use Rattle.std.specs.List.Sorted.{IsPermutation, IsSorted, IsStrictlySortedBy}
+use Rattle.std.specs.Ordering.{is_eq, is_lt, nat_cmp, ordering_then}
 use Rattle.std.specs.Str.{bytes_eq}
 use Rattle.std.specs.Cmp.Derive.{both_true}
 use Rattle.std.proofs.lemmas.List.{get_or-take, get_or_default, length-take-le, map-append, take_all, take_more}
 use Rattle.std.proofs.Math.Seq.{drop-cons}
 use Rattle.std.proofs.lemmas.List.Elements.{All-contains, All-head, All-nil, All-push, All-tail, All-weaker, Contains-append_left, Contains-get_or, Contains-push, Contains-push_cases}
 use Rattle.std.proofs.lemmas.List.Folds.{list_all-append}
+use Rattle.std.proofs.lemmas.List.Sorted.{All-permutation, Contains-permutation}
 use Rattle.std.proofs.lemmas.List.Sums.{sum_by-append}
 use Rattle.std.proofs.lemmas.Map.Keys.{Less-from_sorted}
 use Rattle.std.proofs.lemmas.Map.Text.{is_eq-slice_cmp}
@@ -23,7 +24,7 @@ use Rattle.workspace.specs.FileKinds.{is_build_file, is_module}
 use Rattle.workspace.specs.Workspaces.{IsWorkspace, Pair, is_file, paths_of}
 use Rattle.packing.specs.Folders.{At, IsFolder, IsFound, IsKnownFile, Leads, Node, Reaches, file, folder, here, link, special, unread}
 use Rattle.packing.specs.Inputs.{begun_text, comma, input_text, pair_text}
-use Rattle.packing.specs.Packs.{AreAscending, HasCause, Holds, IsNamed, IsOf, IsTold, Packs, counts_of, how_many, is_bazel_file, is_used}
+use Rattle.packing.specs.Packs.{AreAscending, AreInOrder, HasCause, Holds, IsNamed, IsOf, IsTold, Packs, counts_of, how_many, is_bazel_file, is_used}
 use Rattle.packing.specs.Walks.{IsWalked}
 use Rattle.packing.specs.Writing.{ArePacked, AreTooMuch, Exceeds, Leaves, Names, Puts, Takes, Written, counted_too, one_more}
 use Rattle.packing.specs.declared.leaving.LeftOut.{LeftOut}
@@ -322,6 +323,17 @@ whole_input at done before w h input is =
     subst (λ (bs : List ℕ). Spells bs h.pairs) (sym text)
     (text_spells h.pairs (written-workspace at done before w h) (subst IsUtf8 text utf8) (subst (λ (bs : List ℕ). length bs ≤ input_limit) text limit))
 
+first_decides : (o rest : Ordering) → is_lt (ordering_then o rest) ≡ false → is_lt o ≡ false
+first_decides Less rest h = h
+first_decides Equal rest h = refl
+first_decides Greater rest h = refl
+
+-- what is ordered by paths, and then by reasons, is ordered by paths
+pub in_order : (reasons : Reason → Reason → Ordering) (left : List LeftOut)
+    → IsSorted (λ a b. ordering_then (slice_cmp nat_cmp a.path b.path) (reasons a.reason b.reason)) left → AreInOrder left
+in_order reasons left sorted = λ k d low high. first_decides (slice_cmp nat_cmp (get_or left (k + 1) d).path (get_or left k d).path)
+    (reasons (get_or left (k + 1) d).reason (get_or left k d).reason) (sorted k d low high)
+
 -- what a walk told is told of the input too: a file that it found is packed or named
 told-packed : (at : At) (path : List ℕ) (files paths : List (List ℕ)) (left rest : List LeftOut) (n : Option Node) → at path ≡ n → Leads at [] path
     → IsFolder (at []) → (Contains files path → Contains paths path ⊎ ((l : LeftOut) × Contains rest l × Names l path))
@@ -345,10 +357,10 @@ told-packed at path files paths left rest (Some (unread u)) there r folds packed
 
 pub packs-closed : (at : At) (walk : Walk) (w : Writing) (r : Result Packed PackStop) → IsWalked at walk
     → Written at walk.files.keys walk.left.items w
-    → IfOk r (λ p. p.input.items ≡ w.input.items ++ 93 ∷ []) → IfOk r (λ p. p.left ≡ w.left) → IfOk r (λ p. p.counts ≡ w.counts)
-    → IfOk r (Packs at)
-packs-closed at walk w (Err e) walked h input left counted = tt
-packs-closed at walk w (Ok p) walked h input left counted = record {
+    → IfOk r (λ p. p.input.items ≡ w.input.items ++ 93 ∷ []) → IfOk r (λ p. IsPermutation w.left.items p.left.items)
+    → IfOk r (λ p. AreInOrder p.left.items) → IfOk r (λ p. p.counts ≡ w.counts) → IfOk r (Packs at)
+packs-closed at walk w (Err e) walked h input left ordered counted = tt
+packs-closed at walk w (Ok p) walked h input left ordered counted = record {
   workspace = h.pairs;
   told = closed_text at walk.files.keys walk.left.items w h p.input.items input;
   spelt = whole_input at walk.files.keys walk.left.items w h p.input.items input;
@@ -359,19 +371,17 @@ packs-closed at walk w (Ok p) walked h input left counted = record {
     | inl told ↦ told-packed at path walk.files.keys (paths_of h.pairs) walk.left.items p.left.items (at path) refl r walked.root
         (λ found. elim (h.whole path found) [
           | inl there ↦ inl there
-          | inr out ↦ inr (out.0, subst (λ (ls : List LeftOut). Contains ls out.0) (sym same) out.1, out.2)
+          | inr out ↦ inr (out.0, Contains-permutation w.left.items p.left.items out.0 left out.1, out.2)
         ])
         kept told
     | inr out ↦ inr (out.0, kept out.0 out.1, out.2, out.3, out.4)
   ];
   only = λ k. All-weaker (Contains walk.files.keys) (Reaches at [])
       (λ path there. (All-contains (IsFound at) walk.files.keys path walked.found there).1 k) (paths_of h.pairs) h.within;
-  causes = subst (All (HasCause at)) (sym same) h.causes;
+  causes = All-permutation (HasCause at) w.left.items p.left.items left h.causes;
+  ordered = ordered;
   counted = counted ∙ h.counted;
 }
   where
-    same : p.left.items ≡ w.left.items
-    same = ap (λ l. l.items) left
-
     kept : (l : LeftOut) → Contains walk.left.items l → Contains p.left.items l
-    kept l k = subst (λ (ls : List LeftOut). Contains ls l) (sym same) (h.kept l k)
+    kept l k = Contains-permutation w.left.items p.left.items l left (h.kept l k)

@@ -5,7 +5,7 @@ use Rattle.std.specs.Prelude.{if◌then◌else◌, List, [], codes, Option, Some
 use Rattle.std.specs.Prelude.{IsUtf8, ⊤}
 use Rattle.std.specs.Cmp.Lexicographic.{slice_cmp}
 use Rattle.std.specs.List.{count_by}
-use Rattle.std.specs.List.Sorted.{IsStrictlySortedBy}
+use Rattle.std.specs.List.Sorted.{IsSorted, IsStrictlySortedBy}
 use Rattle.std.specs.Ordering.{nat_cmp}
 use Rattle.std.specs.Str.{bytes_eq}
 use Rattle.request.specs.Input.{Spells}
@@ -108,6 +108,10 @@ IsTold (Some (unread u)) path files left = ⊥
 abbrev pub AreAscending : List (List ℕ) → Type 0
 AreAscending paths = IsStrictlySortedBy (slice_cmp nat_cmp) paths
 
+-- what is left out stands by the bytes of the paths
+abbrev pub AreInOrder : List LeftOut → Type 0
+AreInOrder left = IsSorted (λ a b. slice_cmp nat_cmp a.path b.path) left
+
 -- how many of some paths are such; the count stays at the greatest u64
 abbrev pub how_many : (List ℕ → Bool) → List (List ℕ) → ℕ
 how_many f paths = min (count_by f paths) (2 ^ 64 - 1)
@@ -123,7 +127,7 @@ counts_of paths = record {
 -- what is written is the text of a workspace, and spells it: its pairs ascend by their paths, and
 -- each is of a file of the folder, none of them a `BUILD.bazel` or `MODULE.bazel`. Nothing that
 -- a walk leads to is lost: a file is one of them, or it or a folder on the way to it is named as
--- left out, and so is what is no file, folder or link. Each that is named has its cause. Where all is known that a walk comes to, no other file is one of
+-- left out, and so is what is no file, folder or link. Each that is named has its cause, and they stand in order. Where all is known that a walk comes to, no other file is one of
 -- them. The files are counted by their kinds
 pub record Packs (at : At) (p : Packed) : Type 0 where
   pub workspace : List Pair
@@ -136,4 +140,5 @@ pub record Packs (at : At) (p : Packed) : Type 0 where
       → IsTold (at path) path (paths_of workspace) p.left.items ⊎ IsNamed at p.left.items path
   pub only : IsKnown at → All (Reaches at []) (paths_of workspace)
   pub causes : All (HasCause at) p.left.items
+  pub ordered : AreInOrder p.left.items
   pub counted : p.counts ≡ counts_of (paths_of workspace)

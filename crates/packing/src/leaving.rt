@@ -4,7 +4,7 @@ use plain::Text;
 use std::fmt;
 
 /// Why something is left out. It prints what is the matter, and what to do.
-#[derive(Clone, Copy, Debug, PartialEq, Eq)]
+#[derive(Clone, Copy, Debug, PartialEq, Eq, PartialOrd, Ord)]
 pub enum Reason {
     /// Its path isn't a legal one.
     IllegalPath,
@@ -54,8 +54,8 @@ impl fmt::Display for Reason {
     }
 }
 
-/// What is left out.
-#[derive(Drop)]
+/// What is left out. It is ordered by its path.
+#[derive(Drop, PartialEq, Eq, PartialOrd, Ord)]
 pub struct LeftOut {
     /// Its path.
     pub path: Text,

@@ -1,11 +1,12 @@
 //! A whole folder packed: from its walk to the input that is written.
 
-ghost use Rattle.std.specs.Prelude.{◌≡◌, ◌≢◌, ◌++◌, ◌∷◌, [], Bool, true, All, Err, IfErr, IfOk};
-ghost use Rattle.std.specs.Prelude.{OnOk};
+ghost use Rattle.std.specs.Prelude.{◌≡◌, ◌≢◌, ◌++◌, ◌∷◌, [], Bool, true, false, All, Err};
+ghost use Rattle.std.specs.Prelude.{IfErr, IfOk, OnOk};
 ghost use Rattle.std.specs.Io.KnownBytes.{Appends};
 ghost use Rattle.devices.specs.Devices.{Failed};
 ghost use Rattle.packing.specs.Folders.{IsFound};
-ghost use Rattle.packing.specs.Packs.{Packs};
+ghost use Rattle.std.specs.List.Sorted.{IsPermutation};
+ghost use Rattle.packing.specs.Packs.{AreInOrder, Packs};
 ghost use Rattle.packing.specs.Refusals.{AreSizes, BeginsInput, IsSize, Refuses};
 
 use crate::folders::{Folder, Unread};
@@ -35,7 +36,7 @@ pub struct FileSize {
 pub struct Packed {
     /// The bytes that spell the workspace.
     pub input: Vec<u8>,
-    /// What is left out.
+    /// What is left out, by the bytes of the paths.
     pub left: Vec<LeftOut>,
     /// How many files of each kind it has.
     pub counts: Counts,
@@ -116,13 +117,15 @@ fn greatest<F: Folder>(
     Ok(sizes)
 }
 
-/// The input with its last bracket.
+/// The input with its last bracket, and what is left out in order.
 fn closed(mut writing: Writing) -> Result<Packed, PackStop>
     ensures input { IfOk result (λ p. p.input.items ≡ writing.input.items ++ 93 ∷ []) }
-    ensures left { IfOk result (λ p. p.left ≡ writing.left) }
+    ensures left { IfOk result (λ p. IsPermutation writing.left.items p.left.items) }
+    ensures ordered { IfOk result (λ p. AreInOrder p.left.items) }
     ensures counted { IfOk result (λ p. p.counts ≡ writing.counts) }
     ensures memory { IfErr result (λ e. e ≡ PackStop.NoMemory) }
 {
+    writing.left.sort_unstable();
     match writing.input.push(b']') {
         Ok(()) => Ok(Packed {
             input: writing.input,
@@ -189,6 +192,7 @@ pub fn pack<F: Folder, K: Sink>(
     ensures nothing { IfErr result (λ e. e ≢ PackStop.Write → sink.new ≡ sink.old) }
     ensures write_only { result ≡ Err PackStop.Write
         → Failed (K.failures sink.old) (K.failures sink.new) }
+    ensures unflushed { result ≡ Err PackStop.Write → K.flushed sink.new ≡ false }
     ensures beginning { result ≡ Err PackStop.Write
         → BeginsInput (F.at folder.now) strict (K.contents sink.old) (K.contents sink.new) }
 {
