@@ -11,7 +11,8 @@ use Rattle.std.proofs.lemmas.List.Elements.{All-push, All-same, All-take}
 use Rattle.std.proofs.lemmas.List.Sorted.{All-permutation, IsNonDecreasingBy-from_all_adjacent}
 use Rattle.std.proofs.lemmas.Bool.{cases_lt}
 use Rattle.workspace.specs.Paths.{is_path}
-use Rattle.packing.specs.Folders.{At, HasBytes, IsFound, Node, file, folder, link, special, unread}
+use Rattle.workspace.specs.Workspaces.{text_limit}
+use Rattle.packing.specs.Folders.{At, HasBytes, IsFound, Node, file, folder, link, shut_file, shut_folder, special, unread}
 use Rattle.packing.specs.Packs.{is_used}
 use Rattle.packing.specs.Refusals.{AreSizes, HasSize, IsSize}
 use Rattle.packing.specs.declared.whole.FileSize.{FileSize}
@@ -40,17 +41,20 @@ sized (Some (folder names others)) bytes utf8 told = told
 sized (Some (file there)) bytes utf8 told = (ap length told, subst IsUtf8 told utf8)
 sized (Some link) bytes utf8 told = told
 sized (Some special) bytes utf8 told = told
+sized (Some (shut_folder w)) bytes utf8 told = told
+sized (Some (shut_file w)) bytes utf8 told = told
 sized (Some (unread u)) bytes utf8 told = told
 
 pub sized-more : (at : At) (sizes more : List FileSize) (s : FileSize) (path bytes : List ℕ) → more ≡ sizes ++ s ∷ [] → IsFound at path
-    → is_path path ≡ true → is_used path ≡ true → IsUtf8 bytes → HasBytes (at path) bytes → s.bytes ≡ length bytes → path ≡ s.path
+    → is_path path ≡ true → is_used path ≡ true → IsUtf8 bytes → HasBytes (at path) bytes → s.bytes ≡ length bytes → length bytes ≤ text_limit → path ≡ s.path
     → All (IsSize at) sizes → All (IsSize at) more
-sized-more at sizes more s path bytes is found legal used utf8 told count same each =
+sized-more at sizes more s path bytes is found legal used utf8 told count within same each =
     let size : IsSize at s = record {
       found = subst (IsFound at) same found;
       legal = subst (λ p. is_path p ≡ true) same legal;
       used = subst (λ p. is_used p ≡ true) same used;
       bytes = subst (λ p. HasSize (at p) s.bytes) same (subst (HasSize (at path)) (sym count) (sized (at path) bytes utf8 told));
+      within = omega (arith, count, within);
     } in
     All-same (IsSize at) more (sizes ++ s ∷ []) is (All-push (IsSize at) sizes s each size)
 

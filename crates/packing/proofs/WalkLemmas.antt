@@ -11,8 +11,8 @@ use Rattle.std.proofs.lemmas.List.Elements.{All-nil, All-pop, All-push, All-same
 use Rattle.std.proofs.lemmas.Map.Text.{is_eq-slice_cmp}
 use Rattle.std.proofs.lemmas.Slice.Eq.{bytes_eq-Decides}
 use Rattle.std.proofs.lemmas.Map.Views.{All-insert_key}
-use Rattle.packing.specs.Folders.{Asks, At, Comes, HasKind, HasNames, HasNoBytes, HasNoNames, HasOthers, IsFile, IsFolder, IsHiddenFolder, IsKnown, IsKnownFile, IsListed, IsUnread, Leads, Node, Reaches, below, by_name, file, folder, here, inside, is_hidden, passes_over, link, onward, root, special, start, unread}
-use Rattle.packing.specs.Packs.{HasReason, IsTold}
+use Rattle.packing.specs.Folders.{At, Comes, HasKind, HasNames, HasNoBytes, HasNoKind, HasNoNames, HasOthers, IsFile, IsFolder, IsHiddenFolder, IsKnown, IsKnownFile, IsListed, Leads, Node, Reaches, below, file, folder, here, inside, is_hidden, link, onward, passes_over, shut_file, shut_folder, special, start, unread}
+use Rattle.packing.specs.Packs.{HasReason, IsTold, IsUnread, is_used}
 use Rattle.packing.specs.Walks.{CoversFrom, CoversName, Grows, IsBegun, IsBelow, IsCovered, IsWithin, Stays}
 use Rattle.packing.specs.declared.folders.Kind.{Kind}
 use Rattle.packing.specs.declared.folders.Kind.TheVariants as kind
@@ -33,6 +33,8 @@ told-kept (Some (folder names others)) path files more left rest found kept told
 told-kept (Some (file bytes)) path files more left rest found kept told = found path told
 told-kept (Some link) path files more left rest found kept told = told
 told-kept (Some special) path files more left rest found kept told = told
+told-kept (Some (shut_folder w)) path files more left rest found kept told = told
+told-kept (Some (shut_file w)) path files more left rest found kept told = found path told
 told-kept (Some (unread u)) path files more left rest found kept told = told
 
 covered-kept : (at : At) (old new : Walk) (path : List ℕ) → ((x : List ℕ) → Contains old.files.keys x → Contains new.files.keys x)
@@ -127,6 +129,8 @@ kind-folder (Some (folder names others)) has = tt
 kind-folder (Some (file bytes)) has = absurd (cc)
 kind-folder (Some link) has = absurd (cc)
 kind-folder (Some special) has = absurd (cc)
+kind-folder (Some (shut_folder w)) has = tt
+kind-folder (Some (shut_file w)) has = absurd (cc)
 kind-folder (Some (unread u)) has = has
 
 -- what isn't a folder leads to itself alone
@@ -144,6 +148,8 @@ told-file (Some (folder names others)) path files left is found = absurd (cc)
 told-file (Some (file bytes)) path files left is found = found
 told-file (Some link) path files left is found = absurd (cc)
 told-file (Some special) path files left is found = absurd (cc)
+told-file (Some (shut_folder w)) path files left is found = absurd (cc)
+told-file (Some (shut_file w)) path files left is found = found
 told-file (Some (unread u)) path files left is found = is
 
 told-link : (n : Option Node) (path : List ℕ) (files : List (List ℕ)) (left : List LeftOut) → HasKind n kind.Link → IsTold n path files left
@@ -152,6 +158,8 @@ told-link (Some (folder names others)) path files left is = absurd (cc)
 told-link (Some (file bytes)) path files left is = absurd (cc)
 told-link (Some link) path files left is = tt
 told-link (Some special) path files left is = absurd (cc)
+told-link (Some (shut_folder w)) path files left is = absurd (cc)
+told-link (Some (shut_file w)) path files left is = absurd (cc)
 told-link (Some (unread u)) path files left is = is
 
 pub covers-found : (at : At) (w : Walk) (path : List ℕ) → HasKind (at path) kind.File → Contains w.files.keys path → CoversFrom at w path
@@ -168,6 +176,8 @@ told-hidden (Some (folder names others)) name path files left is hidden seen = a
 told-hidden (Some (file bytes)) name path files left is hidden seen = absurd (cc)
 told-hidden (Some link) name path files left is hidden seen = absurd (cc)
 told-hidden (Some special) name path files left is hidden seen = absurd (cc)
+told-hidden (Some (shut_folder w)) name path files left is hidden seen = absurd (seen hidden)
+told-hidden (Some (shut_file w)) name path files left is hidden seen = absurd (cc)
 told-hidden (Some (unread u)) name path files left is hidden seen = is
 
 hidden-folder : (n : Option Node) (name : List ℕ) (names : List (List ℕ)) (others : Bool) → n ≡ Some (folder names others) → is_hidden name ≡ true → IsHiddenFolder n name
@@ -197,6 +207,8 @@ no_file (Some (folder names others)) folds is = is
 no_file (Some (file bytes)) folds is = folds
 no_file (Some link) folds is = is
 no_file (Some special) folds is = is
+no_file (Some (shut_folder w)) folds is = is
+no_file (Some (shut_file w)) folds is = folds
 no_file (Some (unread u)) folds is = is
 
 -- a file that is reached from a folder is below it
@@ -214,6 +226,8 @@ told-others (Some (folder ns others)) path names more files left has named = λ 
 told-others (Some (file bytes)) path names more files left has named = absurd has
 told-others (Some link) path names more files left has named = absurd has
 told-others (Some special) path names more files left has named = absurd has
+told-others (Some (shut_folder w)) path names more files left has named = absurd has
+told-others (Some (shut_file w)) path names more files left has named = absurd has
 told-others (Some (unread u)) path names more files left has named = absurd has
 
 -- a name that isn't in the folder leads nowhere
@@ -247,17 +261,17 @@ stays-found at old new path files waiting left reached k h = record {
   files = All-same (Reaches at []) new.files.keys (insert_key order old.files.keys path) files
       (All-insert_key order path (Reaches at []) old.files.keys h.files reached);
   waiting = All-same (Comes at) new.waiting.items old.waiting.items waiting h.waiting;
-  left = All-same (λ (l : LeftOut). Asks at l.path) new.left.items old.left.items left h.left;
+  left = All-same (λ (l : LeftOut). Comes at l.path) new.left.items old.left.items left h.left;
 }
 
 -- something more is left out
 pub stays-left : (at : At) (old new : Walk) (l : LeftOut) → new.files.keys ≡ old.files.keys → new.waiting.items ≡ old.waiting.items
-    → new.left.items ≡ old.left.items ++ l ∷ [] → Asks at l.path → Stays at old new
+    → new.left.items ≡ old.left.items ++ l ∷ [] → Comes at l.path → Stays at old new
 stays-left at old new l files waiting left asked k h = record {
   files = All-same (Reaches at []) new.files.keys old.files.keys files h.files;
   waiting = All-same (Comes at) new.waiting.items old.waiting.items waiting h.waiting;
-  left = All-same (λ (l : LeftOut). Asks at l.path) new.left.items (old.left.items ++ l ∷ []) left
-      (All-push (λ (l : LeftOut). Asks at l.path) old.left.items l h.left asked);
+  left = All-same (λ (l : LeftOut). Comes at l.path) new.left.items (old.left.items ++ l ∷ []) left
+      (All-push (λ (l : LeftOut). Comes at l.path) old.left.items l h.left asked);
 }
 
 known-folder : (n : Option Node) (told : List (List ℕ)) (more : Bool) → IsSome n → HasNames n told more → n ≡ Some (folder told more)
@@ -266,6 +280,8 @@ known-folder (Some (folder names others)) told more some has = sym (ap₂ (λ (n
 known-folder (Some (file bytes)) told more some has = absurd has
 known-folder (Some link) told more some has = absurd has
 known-folder (Some special) told more some has = absurd has
+known-folder (Some (shut_folder w)) told more some has = absurd has
+known-folder (Some (shut_file w)) told more some has = absurd has
 known-folder (Some (unread u)) told more some has = absurd has
 
 known-file : (n : Option Node) → IsSome n → HasKind n kind.File → IsKnownFile n
@@ -274,6 +290,8 @@ known-file (Some (folder names others)) some has = absurd (cc)
 known-file (Some (file bytes)) some has = tt
 known-file (Some link) some has = absurd (cc)
 known-file (Some special) some has = absurd (cc)
+known-file (Some (shut_folder w)) some has = absurd (cc)
+known-file (Some (shut_file w)) some has = tt
 known-file (Some (unread u)) some has = has
 
 -- a file isn't hidden
@@ -283,6 +301,8 @@ seen-file (Some (folder names others)) name has h = absurd (cc)
 seen-file (Some (file bytes)) name has h = h
 seen-file (Some link) name has h = h
 seen-file (Some special) name has h = h
+seen-file (Some (shut_folder w)) name has h = absurd (cc)
+seen-file (Some (shut_file w)) name has h = h
 seen-file (Some (unread u)) name has h = h
 
 -- nor is a name that begins with no dot
@@ -292,6 +312,8 @@ seen-name (Some (folder names others)) name shown h = absurd (true≢false (sym 
 seen-name (Some (file bytes)) name shown h = h
 seen-name (Some link) name shown h = h
 seen-name (Some special) name shown h = h
+seen-name (Some (shut_folder w)) name shown h = absurd (true≢false (sym h ∙ shown))
+seen-name (Some (shut_file w)) name shown h = h
 seen-name (Some (unread u)) name shown h = h
 
 -- what a path leads to that a walk comes to, the root leads to
@@ -316,18 +338,13 @@ reached-file at from name is kept k l =
     let c : Comes at (below from name) = comes-by at from name l kept (seen-file (at (below from name)) name is) in
     (comes-leads at (below from name) (below from name) c (here (below from name)), known-file (at (below from name)) (k (below from name) c) is)
 
--- where a walk comes to, it asked what stands there
-pub comes-asks : (at : At) (path : List ℕ) → Comes at path → Asks at path
-comes-asks at path start = root
-comes-asks at path (onward from name names others c there listed kept seen) = by_name from name (names, others, c, there, listed) kept
-
 comes-along : (at : At) (from path : List ℕ) → Comes at from → Leads at from path → Comes at path
 comes-along at from path c (here p) = c
 comes-along at from path c (inside f name p names others there listed kept seen later) =
     comes-along at (below f name) p (onward f name names others c there listed kept seen) later
 
-pub reaches-asks : (at : At) (path : List ℕ) → Reaches at [] path → Asks at path
-reaches-asks at path r = comes-asks at path (comes-along at [] path start r.0)
+pub reaches-comes : (at : At) (path : List ℕ) → Reaches at [] path → Comes at path
+reaches-comes at path r = comes-along at [] path start r.0
 
 -- whose names are told is a folder
 pub told-folder : (n : Option Node) (told : List (List ℕ)) (more : Bool) → HasNames n told more → IsFolder n
@@ -336,6 +353,8 @@ told-folder (Some (folder names others)) told more has = tt
 told-folder (Some (file bytes)) told more has = has
 told-folder (Some link) told more has = has
 told-folder (Some special) told more has = has
+told-folder (Some (shut_folder w)) told more has = absurd has
+told-folder (Some (shut_file w)) told more has = has
 told-folder (Some (unread u)) told more has = has
 
 -- with names that aren't UTF-8 besides, it has others
@@ -345,24 +364,61 @@ told-more (Some (folder names others)) told more has is = sym has.1 ∙ is
 told-more (Some (file bytes)) told more has is = has
 told-more (Some link) told more has is = has
 told-more (Some special) told more has is = has
+told-more (Some (shut_folder w)) told more has is = has
+told-more (Some (shut_file w)) told more has is = has
 told-more (Some (unread u)) told more has is = has
 
--- a folder that tells no names, a regular file that tells no bytes, and what is unread, for one reason
-pub unread-folder : (n : Option Node) (u : Unread) → IsFolder n → HasNoNames n u → IsUnread n u
-unread-folder None u is has = has
-unread-folder (Some (folder names others)) u is has = has
-unread-folder (Some (file bytes)) u is has = absurd is
-unread-folder (Some link) u is has = absurd is
-unread-folder (Some special) u is has = absurd is
-unread-folder (Some (unread there)) u is has = has
+-- what tells no kind, a folder that tells no names, and a file whose text is used that tells no bytes are unread for that reason
+pub unread-kind : (n : Option Node) (path : List ℕ) (u : Unread) → HasNoKind n u → IsUnread n path u
+unread-kind None path u has = has
+unread-kind (Some (folder names others)) path u has = has
+unread-kind (Some (file bytes)) path u has = has
+unread-kind (Some link) path u has = has
+unread-kind (Some special) path u has = has
+unread-kind (Some (shut_folder w)) path u has = absurd has
+unread-kind (Some (shut_file w)) path u has = absurd has
+unread-kind (Some (unread w)) path u has = has
 
-pub unread-file : (n : Option Node) (u : Unread) → IsFile n → HasNoBytes n u → IsUnread n u
-unread-file None u is has = has
-unread-file (Some (folder names others)) u is has = absurd is
-unread-file (Some (file bytes)) u is has = has
-unread-file (Some link) u is has = absurd is
-unread-file (Some special) u is has = absurd is
-unread-file (Some (unread there)) u is has = has
+pub unread-folder : (n : Option Node) (path : List ℕ) (u : Unread) → IsFolder n → HasNoNames n u → IsUnread n path u
+unread-folder None path u is has = has
+unread-folder (Some (folder names others)) path u is has = has
+unread-folder (Some (file bytes)) path u is has = absurd is
+unread-folder (Some link) path u is has = absurd is
+unread-folder (Some special) path u is has = absurd is
+unread-folder (Some (shut_folder w)) path u is has = has
+unread-folder (Some (shut_file w)) path u is has = absurd is
+unread-folder (Some (unread w)) path u is has = has
+
+pub unread-file : (n : Option Node) (path : List ℕ) (u : Unread) → IsFile n → is_used path ≡ true → HasNoBytes n u → IsUnread n path u
+unread-file None path u is used has = has
+unread-file (Some (folder names others)) path u is used has = absurd is
+unread-file (Some (file bytes)) path u is used has = has
+unread-file (Some link) path u is used has = absurd is
+unread-file (Some special) path u is used has = absurd is
+unread-file (Some (shut_folder w)) path u is used has = absurd is
+unread-file (Some (shut_file w)) path u is used has = (has, used)
+unread-file (Some (unread w)) path u is used has = has
+
+-- what tells no kind, and what is special, is no folder that is passed over
+pub seen-unread : (n : Option Node) (name : List ℕ) (u : Unread) → HasNoKind n u → IsHiddenFolder n name → ⊥
+seen-unread None name u has h = h
+seen-unread (Some (folder names others)) name u has h = has
+seen-unread (Some (file bytes)) name u has h = h
+seen-unread (Some link) name u has h = h
+seen-unread (Some special) name u has h = h
+seen-unread (Some (shut_folder w)) name u has h = has
+seen-unread (Some (shut_file w)) name u has h = h
+seen-unread (Some (unread w)) name u has h = h
+
+pub seen-special : (n : Option Node) (name : List ℕ) → HasKind n kind.Special → IsHiddenFolder n name → ⊥
+seen-special None name has h = h
+seen-special (Some (folder names others)) name has h = absurd (cc)
+seen-special (Some (file bytes)) name has h = h
+seen-special (Some link) name has h = h
+seen-special (Some special) name has h = h
+seen-special (Some (shut_folder w)) name has h = absurd (cc)
+seen-special (Some (shut_file w)) name has h = h
+seen-special (Some (unread w)) name has h = h
 
 -- ---- the whole walk
 
@@ -376,7 +432,7 @@ begun at names more none w from files waiting left is told grows covers only = r
   only = λ k. only (subst (Comes at) (sym is) start) k (record {
     files = All-same (Reaches at []) none.files.keys [] files (All-nil (Reaches at []));
     waiting = All-same (Comes at) none.waiting.items [] waiting (All-nil (Comes at));
-    left = All-same (λ (l : LeftOut). Asks at l.path) none.left.items [] left (All-nil (λ (l : LeftOut). Asks at l.path));
+    left = All-same (λ (l : LeftOut). Comes at l.path) none.left.items [] left (All-nil (λ (l : LeftOut). Comes at l.path));
   });
   files = grows.files (All-same (λ p. IsFile (at p)) none.files.keys [] files (All-nil (λ p. IsFile (at p))));
   reasons = grows.reasons (All-same (HasReason at) none.left.items [] left (All-nil (HasReason at)));
@@ -395,7 +451,7 @@ within-taken at old new from files left waiting h =
       record {
         files = All-same (Reaches at []) new.files.keys old.files.keys files h.files;
         waiting = both.0;
-        left = All-same (λ (l : LeftOut). Asks at l.path) new.left.items old.left.items left h.left;
+        left = All-same (λ (l : LeftOut). Comes at l.path) new.left.items old.left.items left h.left;
       },
       both.1,
     )

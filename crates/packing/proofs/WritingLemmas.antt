@@ -22,7 +22,7 @@ use Rattle.json.proofs.Printed.Utf8.{IsUtf8-are_ascii}
 use Rattle.request.specs.Input.{Spells, input_limit}
 use Rattle.workspace.specs.FileKinds.{is_build_file, is_module}
 use Rattle.workspace.specs.Workspaces.{IsWorkspace, Pair, is_file, paths_of}
-use Rattle.packing.specs.Folders.{At, IsFolder, IsFound, IsKnownFile, Leads, Node, Reaches, file, folder, here, link, special, unread}
+use Rattle.packing.specs.Folders.{At, IsFolder, IsFound, IsKnownFile, Leads, Node, Reaches, file, folder, here, link, shut_file, shut_folder, special, unread}
 use Rattle.packing.specs.Inputs.{begun_text, comma, input_text, pair_text}
 use Rattle.packing.specs.Packs.{AreAscending, AreInOrder, HasCause, Holds, IsNamed, IsOf, IsTold, Packs, counts_of, how_many, is_bazel_file, is_used}
 use Rattle.packing.specs.Walks.{IsWalked}
@@ -35,7 +35,7 @@ use Rattle.packing.specs.declared.whole.Packed.{Packed}
 use Rattle.packing.specs.declared.walk.Walk.{Walk}
 use Rattle.packing.specs.declared.writing.Writing.{Writing}
 use Rattle.packing.specs.declared.writing.WriteStop.{WriteStop}
-use Rattle.packing.proofs.WalkLemmas.{file-below, reaches-asks}
+use Rattle.packing.proofs.WalkLemmas.{file-below, reaches-comes}
 use Rattle.packing.proofs.InputTexts.{begun-closed, begun-nil, begun-push, text_spells}
 
 abbrev order : List ℕ → List ℕ → Ordering
@@ -104,7 +104,7 @@ takes-left at path reason old (Ok w) input left counted holds itself found = rec
     named = record { path = path; reason = reason };
     names = (refl, itself);
     left = left;
-    cause = (holds, λ k. reaches-asks at path (found.1 k));
+    cause = (holds, λ k. reaches-comes at path (found.1 k));
     counted = counted;
   });
   utf8 = λ h. subst (λ v. IsUtf8 v.items) (sym input) h;
@@ -351,6 +351,17 @@ told-packed at path files paths left rest (Some (file bytes)) there r folds pack
     subst (λ (from : List ℕ). Leads at from path) (sym out.2.0) (here path),
   )
 ]
+told-packed at path files paths left rest (Some (shut_file w)) there r folds packed kept told = elim (packed told) [
+  | inl in_it ↦ inl in_it
+  | inr out ↦ inr (
+    out.0,
+    out.1,
+    subst (λ (q : List ℕ). q ≢ []) (sym out.2.0) (file-below at path folds r (subst IsKnownFile (sym there) tt)),
+    out.2.1,
+    subst (λ (from : List ℕ). Leads at from path) (sym out.2.0) (here path),
+  )
+]
+told-packed at path files paths left rest (Some (shut_folder w)) there r folds packed kept told = absurd told
 told-packed at path files paths left rest (Some link) there r folds packed kept told = inl told
 told-packed at path files paths left rest (Some special) there r folds packed kept told = absurd told
 told-packed at path files paths left rest (Some (unread u)) there r folds packed kept told = absurd told
@@ -361,6 +372,7 @@ pub packs-closed : (at : At) (walk : Walk) (w : Writing) (r : Result Packed Pack
     → IfOk r (λ p. AreInOrder p.left.items) → IfOk r (λ p. p.counts ≡ w.counts) → IfOk r (Packs at)
 packs-closed at walk w (Err e) walked h input left ordered counted = tt
 packs-closed at walk w (Ok p) walked h input left ordered counted = record {
+  root = walked.root;
   workspace = h.pairs;
   told = closed_text at walk.files.keys walk.left.items w h p.input.items input;
   spelt = whole_input at walk.files.keys walk.left.items w h p.input.items input;

@@ -1,9 +1,9 @@
 -- What stands in a folder, and what a walk through it reaches (docs/REPORT.md, "From a folder to an
 -- input"; this project's own choice).
 --
--- A folder is seen as a function: what stands at each path below it. `None` says that it isn't
--- known, as of the folders of a system, or that nothing stands there. The folder itself is at the
--- empty path.
+-- A folder is seen as a function: what stands at each path below it. `None` says nothing of a path:
+-- what stands there isn't known, as in the folders of a system, or nothing does. The folder itself is
+-- at the empty path.
 use Rattle.std.specs.Prelude.{◌≡◌, ◌<◌, ℕ, Bool, true, false, nat_eq, List, [], ◌∷◌, ◌++◌, length}
 use Rattle.std.specs.Prelude.{codes, Option, Some, None, Contains, IsSome, ⊤}
 use Rattle.std.specs.List.{starts_with}
@@ -12,12 +12,15 @@ use Rattle.packing.specs.declared.folders.Kind.TheVariants as kind
 use Rattle.packing.specs.declared.folders.Unread.{Unread}
 
 -- a folder with the names in it that are UTF-8, and whether there are others; a regular file with
--- its bytes; a link; what is none of these; or what the system tells nothing of, and why
+-- its bytes; a link; what is none of these. A folder that is shut tells no names, a file that is shut
+-- no bytes, and of what is unread not even the kind is told: each with the reason
 pub data Node : Type 0 where
   folder : List (List ℕ) → Bool → Node
   file : List ℕ → Node
   link : Node
   special : Node
+  shut_folder : Unread → Node
+  shut_file : Unread → Node
   unread : Unread → Node
 
 -- what is known of a folder: what stands at each path below it
@@ -47,6 +50,8 @@ IsHiddenFolder (Some (folder names others)) name = is_hidden name ≡ true
 IsHiddenFolder (Some (file bytes)) name = ⊥
 IsHiddenFolder (Some link) name = ⊥
 IsHiddenFolder (Some special) name = ⊥
+IsHiddenFolder (Some (shut_folder u)) name = is_hidden name ≡ true
+IsHiddenFolder (Some (shut_file u)) name = ⊥
 IsHiddenFolder (Some (unread u)) name = ⊥
 
 -- from a folder a walk leads to a path: by names that stand in the folders on the way, none of them
@@ -65,6 +70,8 @@ IsKnownFile (Some (folder names others)) = ⊥
 IsKnownFile (Some (file bytes)) = ⊤
 IsKnownFile (Some link) = ⊥
 IsKnownFile (Some special) = ⊥
+IsKnownFile (Some (shut_folder u)) = ⊥
+IsKnownFile (Some (shut_file u)) = ⊤
 IsKnownFile (Some (unread u)) = ⊥
 
 -- from a folder a walk reaches the regular file at a path
@@ -85,13 +92,6 @@ abbrev pub IsListed : At → List ℕ → List ℕ → Type 0
 IsListed at from name = (names : List (List ℕ)) × (others : Bool) × Comes at from
     × (at from ≡ Some (folder names others)) × Contains names name
 
--- a walk asks what stands at a path: that of the folder itself, and of each name in a folder that
--- it comes to, but not of those that are passed over
-pub data Asks (at : At) : List ℕ → Type 0 where
-  root : Asks at []
-  by_name : (from name : List ℕ) → IsListed at from name → passes_over from name ≡ false
-      → Asks at (below from name)
-
 -- what stands at each path that a walk comes to is known
 abbrev pub IsKnown : At → Type 0
 IsKnown at = (path : List ℕ) → Comes at path → IsSome (at path)
@@ -103,6 +103,8 @@ HasNames (Some (folder names others)) told more = (told ≡ names) × (more ≡ 
 HasNames (Some (file bytes)) told more = ⊥
 HasNames (Some link) told more = ⊥
 HasNames (Some special) told more = ⊥
+HasNames (Some (shut_folder u)) told more = ⊥
+HasNames (Some (shut_file u)) told more = ⊥
 HasNames (Some (unread u)) told more = ⊥
 
 -- what a folder tells is true of what is known: the kind of what stands at a path
@@ -112,6 +114,8 @@ HasKind (Some (folder names others)) k = k ≡ kind.Folder
 HasKind (Some (file bytes)) k = k ≡ kind.File
 HasKind (Some link) k = k ≡ kind.Link
 HasKind (Some special) k = k ≡ kind.Special
+HasKind (Some (shut_folder u)) k = k ≡ kind.Folder
+HasKind (Some (shut_file u)) k = k ≡ kind.File
 HasKind (Some (unread u)) k = ⊥
 
 -- what a folder tells is true of what is known: the bytes of a regular file
@@ -121,34 +125,42 @@ HasBytes (Some (folder names others)) told = ⊥
 HasBytes (Some (file bytes)) told = told ≡ bytes
 HasBytes (Some link) told = ⊥
 HasBytes (Some special) told = ⊥
+HasBytes (Some (shut_folder u)) told = ⊥
+HasBytes (Some (shut_file u)) told = ⊥
 HasBytes (Some (unread u)) told = ⊥
 
--- why nothing is told of a path is true of what is known
-abbrev pub IsUnread : Option Node → Unread → Type 0
-IsUnread None u = ⊤
-IsUnread (Some (folder names others)) u = ⊥
-IsUnread (Some (file bytes)) u = ⊥
-IsUnread (Some link) u = ⊥
-IsUnread (Some special) u = ⊥
-IsUnread (Some (unread there)) u = there ≡ u
+-- why the kind isn't told is true of what is known
+abbrev pub HasNoKind : Option Node → Unread → Type 0
+HasNoKind None u = ⊤
+HasNoKind (Some (folder names others)) u = ⊥
+HasNoKind (Some (file bytes)) u = ⊥
+HasNoKind (Some link) u = ⊥
+HasNoKind (Some special) u = ⊥
+HasNoKind (Some (shut_folder why)) u = ⊥
+HasNoKind (Some (shut_file why)) u = ⊥
+HasNoKind (Some (unread why)) u = why ≡ u
 
--- why no names are told: a folder that is known tells them
+-- why no names are told: a folder tells them, unless it is shut
 abbrev pub HasNoNames : Option Node → Unread → Type 0
 HasNoNames None u = ⊤
 HasNoNames (Some (folder names others)) u = ⊥
 HasNoNames (Some (file bytes)) u = ⊤
 HasNoNames (Some link) u = ⊤
 HasNoNames (Some special) u = ⊤
-HasNoNames (Some (unread there)) u = there ≡ u
+HasNoNames (Some (shut_folder why)) u = why ≡ u
+HasNoNames (Some (shut_file why)) u = ⊤
+HasNoNames (Some (unread why)) u = why ≡ u
 
--- why no bytes are told: a regular file that is known tells them
+-- why no bytes are told: a regular file tells them, unless it is shut
 abbrev pub HasNoBytes : Option Node → Unread → Type 0
 HasNoBytes None u = ⊤
 HasNoBytes (Some (folder names others)) u = ⊤
 HasNoBytes (Some (file bytes)) u = ⊥
 HasNoBytes (Some link) u = ⊤
 HasNoBytes (Some special) u = ⊤
-HasNoBytes (Some (unread there)) u = there ≡ u
+HasNoBytes (Some (shut_folder why)) u = ⊤
+HasNoBytes (Some (shut_file why)) u = why ≡ u
+HasNoBytes (Some (unread why)) u = why ≡ u
 
 -- a regular file of more bytes than the limit, where it is known
 abbrev pub IsLonger : Option Node → ℕ → Type 0
@@ -157,6 +169,8 @@ IsLonger (Some (folder names others)) limit = ⊥
 IsLonger (Some (file bytes)) limit = limit < length bytes
 IsLonger (Some link) limit = ⊥
 IsLonger (Some special) limit = ⊥
+IsLonger (Some (shut_folder u)) limit = ⊥
+IsLonger (Some (shut_file u)) limit = ⊥
 IsLonger (Some (unread u)) limit = ⊥
 
 -- a folder, where it is known
@@ -166,6 +180,8 @@ IsFolder (Some (folder names others)) = ⊤
 IsFolder (Some (file bytes)) = ⊥
 IsFolder (Some link) = ⊥
 IsFolder (Some special) = ⊥
+IsFolder (Some (shut_folder u)) = ⊤
+IsFolder (Some (shut_file u)) = ⊥
 IsFolder (Some (unread u)) = ⊥
 
 -- a folder with names that aren't UTF-8, where it is known
@@ -175,6 +191,8 @@ HasOthers (Some (folder names others)) = others ≡ true
 HasOthers (Some (file bytes)) = ⊥
 HasOthers (Some link) = ⊥
 HasOthers (Some special) = ⊥
+HasOthers (Some (shut_folder u)) = ⊥
+HasOthers (Some (shut_file u)) = ⊥
 HasOthers (Some (unread u)) = ⊥
 
 -- a regular file, where it is known
@@ -184,6 +202,8 @@ IsFile (Some (folder names others)) = ⊥
 IsFile (Some (file bytes)) = ⊤
 IsFile (Some link) = ⊥
 IsFile (Some special) = ⊥
+IsFile (Some (shut_folder u)) = ⊥
+IsFile (Some (shut_file u)) = ⊤
 IsFile (Some (unread u)) = ⊥
 
 -- the path of a file that a walk found: a regular file stands there, where it is known, and where

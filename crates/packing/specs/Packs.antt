@@ -12,10 +12,12 @@ use Rattle.request.specs.Input.{Spells}
 use Rattle.workspace.specs.FileKinds.{is_build_file, is_module}
 use Rattle.workspace.specs.Paths.{is_path, last_segment}
 use Rattle.workspace.specs.Workspaces.{Pair, paths_of, text_limit}
-use Rattle.packing.specs.Folders.{Asks, At, HasOthers, IsFile, IsKnown, IsLonger, IsUnread, Leads}
-use Rattle.packing.specs.Folders.{Node, Reaches, file, folder, link, special, unread}
+use Rattle.packing.specs.Folders.{At, Comes, HasOthers, IsFile, IsFolder, IsKnown, IsLonger}
+use Rattle.packing.specs.Folders.{Leads, Node, Reaches, file, folder, link, shut_file, shut_folder}
+use Rattle.packing.specs.Folders.{special, unread}
 use Rattle.packing.specs.Inputs.{input_text}
-use Rattle.packing.specs.declared.folders.Unread.TheVariants as why
+use Rattle.packing.specs.declared.folders.Unread.{Unread}
+use Rattle.packing.specs.declared.folders.Unread.TheVariants as reasons
 use Rattle.packing.specs.declared.leaving.LeftOut.{LeftOut}
 use Rattle.packing.specs.declared.leaving.Reason.{Reason}
 use Rattle.packing.specs.declared.leaving.Reason.TheVariants as reason
@@ -44,6 +46,8 @@ IsOf (Some (folder names others)) pair = ⊥
 IsOf (Some (file bytes)) pair = pair.1 ≡ used_text pair.0 bytes
 IsOf (Some link) pair = ⊥
 IsOf (Some special) pair = ⊥
+IsOf (Some (shut_folder u)) pair = ⊥
+IsOf (Some (shut_file u)) pair = (is_used pair.0 ≡ false) × (pair.1 ≡ [])
 IsOf (Some (unread u)) pair = ⊥
 
 -- the bytes aren't UTF-8, where they are known
@@ -53,6 +57,8 @@ IsNoText (Some (folder names others)) = ⊥
 IsNoText (Some (file bytes)) = IsUtf8 bytes → ⊥
 IsNoText (Some link) = ⊥
 IsNoText (Some special) = ⊥
+IsNoText (Some (shut_folder u)) = ⊥
+IsNoText (Some (shut_file u)) = ⊥
 IsNoText (Some (unread u)) = ⊥
 
 -- neither folder, file nor link, where it is known
@@ -62,7 +68,20 @@ IsSpecial (Some (folder names others)) = ⊥
 IsSpecial (Some (file bytes)) = ⊥
 IsSpecial (Some link) = ⊥
 IsSpecial (Some special) = ⊤
+IsSpecial (Some (shut_folder u)) = ⊥
+IsSpecial (Some (shut_file u)) = ⊥
 IsSpecial (Some (unread u)) = ⊥
+
+-- why something couldn't be read is true of what is known; of a file only where its text is used
+abbrev pub IsUnread : Option Node → List ℕ → Unread → Type 0
+IsUnread None path u = ⊤
+IsUnread (Some (folder names others)) path u = ⊥
+IsUnread (Some (file bytes)) path u = ⊥
+IsUnread (Some link) path u = ⊥
+IsUnread (Some special) path u = ⊥
+IsUnread (Some (shut_folder why)) path u = why ≡ u
+IsUnread (Some (shut_file why)) path u = (why ≡ u) × (is_used path ≡ true)
+IsUnread (Some (unread why)) path u = why ≡ u
 
 -- the reason holds of the path. The first four are told of a regular file, and of these the last
 -- two only where its text is used
@@ -73,18 +92,19 @@ Holds at path reason.NotUtf8 = IsNoText (at path) × (is_used path ≡ true)
 Holds at path reason.TooLong = IsLonger (at path) text_limit × (is_used path ≡ true)
 Holds at path reason.Special = IsSpecial (at path)
 Holds at path reason.NamesNotUtf8 = HasOthers (at path)
-Holds at path reason.Gone = IsUnread (at path) why.Gone
-Holds at path reason.Denied = IsUnread (at path) why.Denied
-Holds at path reason.NameTooLong = IsUnread (at path) why.NameTooLong
-Holds at path reason.Failed = IsUnread (at path) why.Failed ⊎ IsUnread (at path) why.TooLong
+Holds at path reason.Gone = IsUnread (at path) path reasons.Gone
+Holds at path reason.Denied = IsUnread (at path) path reasons.Denied
+Holds at path reason.NameTooLong = IsUnread (at path) path reasons.NameTooLong
+Holds at path reason.Failed =
+    IsUnread (at path) path reasons.Failed ⊎ IsUnread (at path) path reasons.TooLong
 
 -- what is named as left out has the reason that is told for it
 abbrev pub HasReason : At → LeftOut → Type 0
 HasReason at l = Holds at l.path l.reason
 
--- and where all is known that a walk comes to, the walk asked what stands there
+-- and where all is known that a walk comes to, it comes there
 abbrev pub HasCause : At → LeftOut → Type 0
-HasCause at l = HasReason at l × (IsKnown at → Asks at l.path)
+HasCause at l = HasReason at l × (IsKnown at → Comes at l.path)
 
 -- what stands at a path, or a folder on the way to it, is named as left out; the root is no such
 -- folder. That a folder has names that aren't UTF-8 leaves out nothing that others lead to
@@ -102,6 +122,8 @@ IsTold (Some (folder names others)) path files left =
 IsTold (Some (file bytes)) path files left = Contains files path
 IsTold (Some link) path files left = ⊤
 IsTold (Some special) path files left = ⊥
+IsTold (Some (shut_folder u)) path files left = ⊥
+IsTold (Some (shut_file u)) path files left = Contains files path
 IsTold (Some (unread u)) path files left = ⊥
 
 -- the paths ascend by their bytes
@@ -125,11 +147,13 @@ counts_of paths = record {
 }
 
 -- what is written is the text of a workspace, and spells it: its pairs ascend by their paths, and
--- each is of a file of the folder, none of them a `BUILD.bazel` or `MODULE.bazel`. Nothing that
--- a walk leads to is lost: a file is one of them, or it or a folder on the way to it is named as
--- left out, and so is what is no file, folder or link. Each that is named has its cause, and they stand in order. Where all is known that a walk comes to, no other file is one of
--- them. The files are counted by their kinds
+-- each is of a file of the folder, none of them a `BUILD.bazel` or `MODULE.bazel`. Nothing known that
+-- a walk leads to is lost, from the root on, which is a folder: a file is one of them or named as
+-- left out, and so is what is neither file, folder nor link, and what can't be read; a folder with
+-- names that aren't UTF-8 is named so. What is named has its cause and stands by its path. Where all
+-- is known that a walk comes to, no other file is one of them. The files are counted by their kinds
 pub record Packs (at : At) (p : Packed) : Type 0 where
+  pub root : IsFolder (at [])
   pub workspace : List Pair
   pub told : p.input.items ≡ input_text workspace
   pub spelt : Spells p.input.items workspace

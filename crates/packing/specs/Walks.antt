@@ -1,7 +1,7 @@
 -- A walk through a folder on its way. (docs/REPORT.md, "From a folder to an input"; this project's
 -- own.)
 use Rattle.std.specs.Prelude.{◌≡◌, ◌≢◌, ◌⊎◌, ℕ, false, List, [], All, Contains}
-use Rattle.packing.specs.Folders.{Asks, At, Comes, IsFile, IsFolder, IsFound, IsHiddenFolder}
+use Rattle.packing.specs.Folders.{At, Comes, IsFile, IsFolder, IsFound, IsHiddenFolder}
 use Rattle.packing.specs.Folders.{IsKnown, Leads, Reaches, below, passes_over}
 use Rattle.packing.specs.Packs.{HasCause, HasReason, IsNamed, IsTold}
 use Rattle.packing.specs.declared.walk.Walk.{Walk}
@@ -10,8 +10,8 @@ use Rattle.packing.specs.declared.walk.Walk.{Walk}
 abbrev pub Awaits : At → List (List ℕ) → List ℕ → Type 0
 Awaits at waiting path = (from : List ℕ) × Contains waiting from × Leads at from path
 
--- what stands at the path isn't lost: it was found or named, or is left out with a folder on the way
--- to it, or a folder that waits leads to it
+-- what stands at the path isn't lost: it was found or named, or nothing is said of it; or it is left
+-- out with a folder on the way to it; or a folder that waits leads to it
 abbrev pub IsCovered : At → Walk → List ℕ → Type 0
 IsCovered at w path = IsTold (at path) path w.files.keys w.left.items
     ⊎ (IsNamed at w.left.items path ⊎ Awaits at w.waiting.items path)
@@ -38,12 +38,12 @@ pub record Grows (at : At) (old new : Walk) : Type 0 where
   pub reasons : All (HasReason at) old.left.items → All (HasReason at) new.left.items
   pub onward : All (IsBelow at) old.waiting.items → All (IsBelow at) new.waiting.items
 
--- each file that was found is reached, a walk comes to each folder that waits, and it asked what
--- stands where something is left out
+-- each file that was found is reached, and a walk comes to each folder that waits and to what is
+-- left out
 pub record IsWithin (at : At) (w : Walk) : Type 0 where
   pub files : All (Reaches at []) w.files.keys
   pub waiting : All (Comes at) w.waiting.items
-  pub left : All (λ l. Asks at l.path) w.left.items
+  pub left : All (λ l. Comes at l.path) w.left.items
 
 -- a step of a walk goes nowhere else, where all that it comes to is known
 abbrev pub Stays : At → Walk → Walk → Type 0
@@ -58,8 +58,8 @@ pub record IsBegun (at : At) (w : Walk) : Type 0 where
   pub files : All (λ p. IsFile (at p)) w.files.keys
   pub reasons : All (HasReason at) w.left.items
 
--- a whole walk: through a folder, and nothing is lost that it leads to; what it found are files that
--- it reaches, and it left nothing out without a cause
+-- a whole walk: through a folder, and nothing is lost that it leads to; what it found are files
+-- that it reaches, and it left nothing out without a cause
 pub record IsWalked (at : At) (w : Walk) : Type 0 where
   pub root : IsFolder (at [])
   pub whole : (path : List ℕ) → Leads at [] path

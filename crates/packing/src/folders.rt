@@ -1,8 +1,8 @@
 //! Folders that are walked.
 
 ghost use Rattle.std.specs.Prelude.{◌≡◌, ◌≢◌, ◌≤◌, IfErr, IfOk, Err, vec_len};
-ghost use Rattle.packing.specs.Folders.{At, HasBytes, HasKind, HasNames, HasNoBytes, HasNoNames};
-ghost use Rattle.packing.specs.Folders.{IsLonger, IsUnread, below};
+ghost use Rattle.packing.specs.Folders.{At, HasBytes, HasKind, HasNames, HasNoBytes, HasNoKind};
+ghost use Rattle.packing.specs.Folders.{HasNoNames, IsLonger, below};
 
 use plain::Text;
 use std::alloc::{AllocError, Global};
@@ -73,7 +73,7 @@ pub trait Folder {
     fn kind(&self, alloc: Global, path: &str) -> Result<Kind, Unread>
         ensures kind { IfOk result (λ k. HasKind (at self.now path.now) k) }
         ensures unread { IfErr result (λ e. e ≢ Unread.NoMemory
-            → IsUnread (at self.now path.now) e) };
+            → HasNoKind (at self.now path.now) e) };
 
     /// The bytes of the regular file at a path, of which there are at most `limit`.
     ///

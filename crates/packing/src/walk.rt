@@ -3,9 +3,9 @@
 //! Folders that wait stand in a list, so that nothing recurses by their depth.
 
 ghost use Rattle.std.specs.Prelude.{◌≡◌, ◌≢◌, ℕ, List, [], Contains, IfOk, OnOk};
-ghost use Rattle.packing.specs.Folders.{Asks, At, Comes, HasNames, IsFile, IsListed, Reaches};
-ghost use Rattle.packing.specs.Folders.{IsUnread, is_hidden, passes_over};
-ghost use Rattle.packing.specs.Packs.{Holds};
+ghost use Rattle.packing.specs.Folders.{At, Comes, HasNames, IsFile, IsListed, Reaches};
+ghost use Rattle.packing.specs.Folders.{is_hidden, passes_over};
+ghost use Rattle.packing.specs.Packs.{Holds, IsUnread};
 ghost use Rattle.packing.specs.Walks.{CoversFrom, CoversName, Grows, IsBegun, IsBelow, IsWalked};
 ghost use Rattle.packing.specs.Walks.{Stays};
 
@@ -26,8 +26,8 @@ pub struct Walk {
     pub left: Vec<LeftOut>,
 }
 
-/// Whether a name in a folder is passed over: `bazel-*` in the root, which are Bazel's links to what
-/// it makes, and the empty name, which no system has.
+/// Whether a name in a folder is passed over: `bazel-*` in the root, as Bazel's links to what it
+/// makes are called, and the empty name, which no system has.
 fn passes_over(folder: &str, name: &str) -> bool
     ensures { result ≡ passes_over folder.now name.now }
 {
@@ -47,8 +47,8 @@ fn is_hidden(name: &str) -> bool
 ///
 /// `AllocError` where it couldn't be read because memory was refused.
 pub fn unread_reason(unread: Unread) -> Result<Reason, AllocError>
-    ensures holds { IfOk result (λ r. (at : At) (path : List ℕ) → IsUnread (at path) unread
-        → Holds at path r) }
+    ensures holds { IfOk result (λ r. (at : At) (path : List ℕ)
+        → IsUnread (at path) path unread → Holds at path r) }
     ensures itself { IfOk result (λ r. r ≢ Reason.NamesNotUtf8) }
     ensures memory { OnOk result (unread ≢ Unread.NoMemory) }
 {
@@ -83,7 +83,7 @@ impl Walk {
             → CoversFrom at self.new path) }
         ensures named { OnOk result (Contains self.new.left.items
             (record { «path» = path; reason = reason })) }
-        ensures only { OnOk result ((at : At) → Asks at path → Stays at self.old self.new) }
+        ensures only { OnOk result ((at : At) → Comes at path → Stays at self.old self.new) }
     {
         self.left.push(LeftOut { path, reason })?;
         Ok(())

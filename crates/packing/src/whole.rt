@@ -48,7 +48,7 @@ pub enum PackStop {
     /// The folder itself couldn't be read.
     Root(Unread),
     /// The input would have too many bytes. These are the greatest of the files whose texts are
-    /// used.
+    /// used and could be packed.
     TooLong(Vec<FileSize>),
     /// This is left out, and nothing may be.
     LeftOut(Vec<LeftOut>),
@@ -72,8 +72,10 @@ fn push_size<F: Folder>(
     if !is_path(path.as_str()) || !is_used(path.as_str()) {
         return Ok(());
     }
-    let Ok(bytes) = folder.bytes(alloc, path.as_str(), TEXT_LIMIT) else {
-        return Ok(());
+    let bytes = match folder.bytes(alloc, path.as_str(), TEXT_LIMIT) {
+        Ok(bytes) => bytes,
+        Err(Unread::NoMemory) => return Err(AllocError),
+        Err(_) => return Ok(()),
     };
     let Ok(_) = str::from_utf8(&bytes) else {
         return Ok(());

@@ -15,4 +15,4 @@ returns g c each =
     c.in_ok-push.ensures.items c.requires (ap is_path (sym c.as_str.ensures) ∙ sym c.is_path.ensures ∙ c.if-not-is_path.false)
     (ap is_used (sym c.as_str-else-not-is_path.ensures) ∙ sym c.is_used.ensures ∙ c.if-not-is_used.false) utf8
     (subst (λ (p : List ℕ). HasBytes (at p) c.in-Ok.bytes.items) c.as_str-2.ensures c.in-Ok.ensures.bytes)
-    (grind (arith, common_steps)) (sym c.in_ok-share.ensures) each
+    (grind (arith, common_steps)) (grind (arith, common_steps)) (sym c.in_ok-share.ensures) each

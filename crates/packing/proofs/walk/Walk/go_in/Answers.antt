@@ -2,7 +2,7 @@ use Rattle.std.proofs.Common.{◌∙◌, List, subst, sym, true≢false, ℕ}
 use Rattle.std.specs.Prelude.{Contains}
 use Rattle.packing.specs.Folders.{HasOthers, IsListed}
 use Rattle.packing.specs.Walks.{CoversName}
-use Rattle.packing.proofs.WalkLemmas.{comes-asks, covers-names, grows-then, listed-by, told-more}
+use Rattle.packing.proofs.WalkLemmas.{covers-names, grows-then, listed-by, told-more}
 use Rattle.packing.proofs.walk.Walk.go_in.Goals as goal
 
 pub returns-in_ok-leave-clause-grows : goal.returns-in_ok-leave-clause-grows
@@ -23,7 +23,7 @@ returns-in_ok-leave-clause-covers g c =
 pub returns-in_ok-leave-clause-only : goal.returns-in_ok-leave-clause-only
 returns-in_ok-leave-clause-only g c comes k within =
     let at = g.F.Folder.at c.args.folder.now in
-    c.in_ok-leave.ensures.only at (comes-asks at c.args.from comes) k (c.in_ok-take_each.ensures.only (λ name listed. subst (λ (p : List ℕ). IsListed at p name) (sym c.as_str.ensures)
+    c.in_ok-leave.ensures.only at comes k (c.in_ok-take_each.ensures.only (λ name listed. subst (λ (p : List ℕ). IsListed at p name) (sym c.as_str.ensures)
     (listed-by at c.args.from c.args.listing.names.items c.args.listing.others name k comes c.requires (subst (λ (ns : List (List ℕ)). Contains ns name) c.deref.ensures.value listed))) k within)
 
 pub returns-else-listing-clause-covers : goal.returns-else-listing-clause-covers

@@ -1,11 +1,11 @@
 use Rattle.std.proofs.Common.{◌≡◌, ◌≢◌, ◌∙◌, [], false, subst, sym}
 use Rattle.std.proofs.lemmas.Result.{IfOk-weaker}
 use Rattle.std.specs.Prelude.{Contains, List, ℕ}
-use Rattle.packing.specs.Folders.{Asks, At, Comes, HasKind, IsFolder, IsListed, IsUnread, Reaches, below, by_name, is_hidden, passes_over}
+use Rattle.packing.specs.Folders.{At, Comes, HasKind, HasNoKind, IsFolder, IsListed, Reaches, below, is_hidden, passes_over}
 use Rattle.packing.specs.declared.folders.Kind.{Kind}
 use Rattle.packing.specs.declared.folders.Kind.TheVariants as kind
 use Rattle.packing.specs.Walks.{CoversFrom, IsBelow, Stays}
-use Rattle.packing.proofs.WalkLemmas.{below-some, comes-by, covers-found, covers-hidden, covers-link, kind-folder, reached-file, seen-name}
+use Rattle.packing.proofs.WalkLemmas.{below-some, comes-by, covers-found, covers-hidden, covers-link, kind-folder, reached-file, seen-name, seen-special, seen-unread, unread-kind}
 use Rattle.packing.proofs.walk.Walk.take.Goals as goal
 
 pub returns-in-Ok-File-clause-covers : goal.returns-in-Ok-File-clause-covers
@@ -20,9 +20,9 @@ returns-in-Ok-File-clause-covers g c =
 pub returns-in_ok-reason-in-Err-clause-grows : goal.returns-in_ok-reason-in-Err-clause-grows
 returns-in_ok-reason-in-Err-clause-grows g c =
     let at = g.F.Folder.at c.args.folder.now in
-    let told : IsUnread (at c.in_ok-path.path) c.in-Err.unread = subst (λ (p : List ℕ). IsUnread (at p) c.in-Err.unread) c.as_str.ensures
+    let told : HasNoKind (at c.in_ok-path.path) c.in-Err.unread = subst (λ (p : List ℕ). HasNoKind (at p) c.in-Err.unread) c.as_str.ensures
     (c.in-Err.ensures.unread c.in_ok-reason-in-Err.ensures.memory) in
-    IfOk-weaker c.leave-in-Err.result _ _ (λ r h. h at (c.in_ok-reason-in-Err.ensures.holds at c.in_ok-path.path told)) c.leave-in-Err.ensures.grows
+    IfOk-weaker c.leave-in-Err.result _ _ (λ r h. h at (c.in_ok-reason-in-Err.ensures.holds at c.in_ok-path.path (unread-kind (at c.in_ok-path.path) c.in_ok-path.path c.in-Err.unread told))) c.leave-in-Err.ensures.grows
 
 pub returns-in-Ok-File-clause-only : goal.returns-in-Ok-File-clause-only
 returns-in-Ok-File-clause-only g c =
@@ -38,16 +38,22 @@ pub returns-in-Ok-Special-clause-only : goal.returns-in-Ok-Special-clause-only
 returns-in-Ok-Special-clause-only g c =
     let at = g.F.Folder.at c.args.folder.now in
     let kept : passes_over c.args.from.now c.args.name.now ≡ false = sym c.passes_over.ensures ∙ c.if-passes_over.false in
-    IfOk-weaker c.leave.result (λ _. (a : At) → Asks a c.in_ok-path.path → Stays a c.args.self.now c.leave.new.self)
-    (λ _. IsListed at c.args.from.now c.args.name.now → Stays at c.args.self.now c.leave.new.self) (λ r h listed. h at (subst (Asks at) (sym c.in_ok-path.ensures) (by_name c.args.from.now c.args.name.now listed kept)))
+    let told : HasKind (at c.as_str.result.now) kind.Special = subst (λ (k : Kind). HasKind (at c.as_str.result.now) k) c.in-Ok-Special.field-0-is c.in-Ok-Special.ensures.kind in
+    let there : HasKind (at (below c.args.from.now c.args.name.now)) kind.Special = subst (λ (p : List ℕ). HasKind (at p) kind.Special) (c.as_str.ensures ∙ c.in_ok-path.ensures) told in
+    IfOk-weaker c.leave.result (λ _. (a : At) → Comes a c.in_ok-path.path → Stays a c.args.self.now c.leave.new.self)
+    (λ _. IsListed at c.args.from.now c.args.name.now → Stays at c.args.self.now c.leave.new.self) (λ r h listed. h at (subst (Comes at) (sym c.in_ok-path.ensures)
+    (comes-by at c.args.from.now c.args.name.now listed kept (seen-special (at (below c.args.from.now c.args.name.now)) c.args.name.now there))))
     c.leave.ensures.only
 
 pub returns-in_ok-reason-in-Err-clause-only : goal.returns-in_ok-reason-in-Err-clause-only
 returns-in_ok-reason-in-Err-clause-only g c =
     let at = g.F.Folder.at c.args.folder.now in
     let kept : passes_over c.args.from.now c.args.name.now ≡ false = sym c.passes_over.ensures ∙ c.if-passes_over.false in
-    IfOk-weaker c.leave-in-Err.result (λ _. (a : At) → Asks a c.in_ok-path.path → Stays a c.args.self.now c.leave-in-Err.new.self)
-    (λ _. IsListed at c.args.from.now c.args.name.now → Stays at c.args.self.now c.leave-in-Err.new.self) (λ r h listed. h at (subst (Asks at) (sym c.in_ok-path.ensures) (by_name c.args.from.now c.args.name.now listed kept)))
+    let told : HasNoKind (at (below c.args.from.now c.args.name.now)) c.in-Err.unread = subst (λ (p : List ℕ). HasNoKind (at p) c.in-Err.unread) (c.as_str.ensures ∙ c.in_ok-path.ensures)
+    (c.in-Err.ensures.unread c.in_ok-reason-in-Err.ensures.memory) in
+    IfOk-weaker c.leave-in-Err.result (λ _. (a : At) → Comes a c.in_ok-path.path → Stays a c.args.self.now c.leave-in-Err.new.self)
+    (λ _. IsListed at c.args.from.now c.args.name.now → Stays at c.args.self.now c.leave-in-Err.new.self) (λ r h listed. h at (subst (Comes at) (sym c.in_ok-path.ensures)
+    (comes-by at c.args.from.now c.args.name.now listed kept (seen-unread (at (below c.args.from.now c.args.name.now)) c.args.name.now c.in-Err.unread told))))
     c.leave-in-Err.ensures.only
 
 pub returns-in_ok-reason-in-Err-clause-covers : goal.returns-in_ok-reason-in-Err-clause-covers

@@ -2,7 +2,7 @@ use Rattle.std.proofs.Common.{subst, List, ℕ}
 use Rattle.std.proofs.lemmas.Result.{IfOk-weaker}
 use Rattle.packing.specs.Folders.{HasNoNames}
 use Rattle.packing.specs.Packs.{Holds}
-use Rattle.packing.proofs.WalkLemmas.{comes-asks, unread-folder}
+use Rattle.packing.proofs.WalkLemmas.{unread-folder}
 use Rattle.packing.proofs.walk.Walk.visit.Goals as goal
 
 pub returns-in_ok-reason-in-Err-clause-grows : goal.returns-in_ok-reason-in-Err-clause-grows
@@ -10,7 +10,7 @@ returns-in_ok-reason-in-Err-clause-grows g c =
     let at = g.F.Folder.at c.args.folder.now in
     let told : HasNoNames (at c.args.from) c.in-Err.unread = subst (λ (p : List ℕ). HasNoNames (at p) c.in-Err.unread) c.as_str.ensures
     (c.in-Err.ensures.unread c.in_ok-reason-in-Err.ensures.memory) in
-    let holds : Holds at c.args.from c.in_ok-reason-in-Err.reason = c.in_ok-reason-in-Err.ensures.holds at c.args.from (unread-folder (at c.args.from) c.in-Err.unread c.requires.1 told) in
+    let holds : Holds at c.args.from c.in_ok-reason-in-Err.reason = c.in_ok-reason-in-Err.ensures.holds at c.args.from (unread-folder (at c.args.from) c.args.from c.in-Err.unread c.requires.1 told) in
     IfOk-weaker c.leave.result _ _ (λ r h. h at holds) c.leave.ensures.grows
 
 pub returns-in_ok-reason-in-Err-clause-covers : goal.returns-in_ok-reason-in-Err-clause-covers
@@ -20,4 +20,4 @@ returns-in_ok-reason-in-Err-clause-covers g c =
 pub returns-in_ok-reason-in-Err-clause-only : goal.returns-in_ok-reason-in-Err-clause-only
 returns-in_ok-reason-in-Err-clause-only g c =
     let at = g.F.Folder.at c.args.folder.now in
-    IfOk-weaker c.leave.result _ _ (λ r h comes. h at (comes-asks at c.args.from comes)) c.leave.ensures.only
+    IfOk-weaker c.leave.result _ _ (λ r h comes. h at comes) c.leave.ensures.only
