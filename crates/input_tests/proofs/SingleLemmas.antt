@@ -16,7 +16,8 @@ use Rattle.packing.specs.declared.whole.PackStop.{PackStop}
 use Rattle.packing.specs.declared.whole.PackStop.TheVariants as stop
 use Rattle.packing.specs.declared.whole.Packed.{Packed}
 use Rattle.packing.proofs.WritingLemmas.{ascending-distinct}
-use Rattle.input_tests.specs.Singles.{single}
+use Rattle.request.specs.Input.{Spells}
+use Rattle.input_tests.specs.Singles.{single, workspace_of}
 
 same : (xs : List ℕ) → bytes_eq xs xs ≡ true
 same xs = (bytes_eq-Decides xs xs).1 refl
@@ -101,9 +102,9 @@ one_pair name bytes (p ∷ q ∷ ps) some is of = absurd (cc)
 some_name : (name : List ℕ) → passes_over [] name ≡ false → name ≢ []
 some_name name kept is = true≢false (subst (λ (n : List ℕ). passes_over [] n ≡ false) is kept)
 
-input_of_single : (name bytes : List ℕ) (p : Packed) → Packs (single name bytes) p → p.left.items ≡ [] → passes_over [] name ≡ false
-    → p.input.items ≡ input_text ((name, used_text name bytes) ∷ [])
-input_of_single name bytes p h left kept =
+its_workspace : (name bytes : List ℕ) (p : Packed) (h : Packs (single name bytes) p) → p.left.items ≡ [] → passes_over [] name ≡ false
+    → h.workspace ≡ workspace_of name bytes
+its_workspace name bytes p h left kept =
     let some : name ≢ [] = some_name name kept in
     let all : All (λ y. y ≡ name) (paths_of h.workspace) =
     All-weaker (Reaches (single name bytes) []) (λ y. y ≡ name) (λ y r. only_file name bytes y r.1) (paths_of h.workspace) (h.only (known name bytes some)) in
@@ -111,12 +112,17 @@ input_of_single name bytes p h left kept =
       | inl told ↦ subst (λ (n : Option Node). IsTold n name (paths_of h.workspace) p.left.items) (is_file name bytes some) told
       | inr out ↦ absurd (none_in out.0 (subst (λ (ls : List LeftOut). Contains ls out.0) left out.1))
     ] in
-    h.told ∙ ap input_text (one_pair name bytes h.workspace some (one_path (paths_of h.workspace) name h.ascending all there) h.of)
+    one_pair name bytes h.workspace some (one_path (paths_of h.workspace) name h.ascending all there) h.of
 
 pub packs-single : (name bytes : List ℕ) (r : Result Packed PackStop) → IfOk r (Packs (single name bytes)) → IfOk r (λ p. true ≡ true → p.left.items ≡ [])
-    → IfOk r (λ p. passes_over [] name ≡ false → p.input.items ≡ input_text ((name, used_text name bytes) ∷ []))
-packs-single name bytes (Ok p) packs strict = λ kept. input_of_single name bytes p packs (strict refl) kept
+    → IfOk r (λ p. passes_over [] name ≡ false → p.input.items ≡ input_text (workspace_of name bytes))
+packs-single name bytes (Ok p) packs strict = λ kept. packs.told ∙ ap input_text (its_workspace name bytes p packs (strict refl) kept)
 packs-single name bytes (Err e) packs strict = tt
+
+pub spells-single : (name bytes : List ℕ) (r : Result Packed PackStop) → IfOk r (Packs (single name bytes)) → IfOk r (λ p. true ≡ true → p.left.items ≡ [])
+    → IfOk r (λ p. passes_over [] name ≡ false → Spells p.input.items (workspace_of name bytes))
+spells-single name bytes (Ok p) packs strict = λ kept. subst (Spells p.input.items) (its_workspace name bytes p packs (strict refl) kept) packs.spelt
+spells-single name bytes (Err e) packs strict = tt
 
 -- its root is read
 pub root-read : (name bytes : List ℕ) (r : Result Packed PackStop) (u : Unread) → IfErr r (Refuses (single name bytes) true) → r ≡ Err (stop.Root u) → ⊥

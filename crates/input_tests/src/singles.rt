@@ -4,8 +4,8 @@ ghost use Rattle.std.specs.Prelude.{◌≡◌, ◌≢◌, ◌≤◌, ◌<◌, []
 ghost use Rattle.std.specs.Prelude.{vec_len};
 ghost use Rattle.packing.specs.Folders.{passes_over};
 ghost use Rattle.packing.specs.Inputs.{input_text};
-ghost use Rattle.packing.specs.Packs.{used_text};
-ghost use Rattle.input_tests.specs.Singles.{single};
+ghost use Rattle.request.specs.Input.{Spells};
+ghost use Rattle.input_tests.specs.Singles.{single, workspace_of};
 
 use devices::Sink;
 use packing::{Folder, Kind, Names, PackStop, Packed, Unread, pack};
@@ -87,9 +87,10 @@ pub fn pack_single<K: Sink>(
     alloc: Global,
     sink: &mut K,
 ) -> Result<Packed, PackStop>
-    ensures input { IfOk result (λ p. passes_over [] folder.now.name.now ≡ false
-        → p.input.items ≡ input_text
-        ((folder.now.name.now, used_text folder.now.name.now folder.now.bytes.now) ∷ [])) }
+    ensures input { IfOk result (λ p. passes_over [] folder.now.name.now ≡ false → p.input.items
+        ≡ input_text (workspace_of folder.now.name.now folder.now.bytes.now)) }
+    ensures spells { IfOk result (λ p. passes_over [] folder.now.name.now ≡ false
+        → Spells p.input.items (workspace_of folder.now.name.now folder.now.bytes.now)) }
     ensures read { (unread : Unread) → result ≡ Err (PackStop.Root unread) → ⊥ }
 {
     pack(folder, alloc, true, sink)

@@ -7,17 +7,18 @@ use Rattle.std.specs.BTreeSet.{insert_key}
 use Rattle.std.specs.Cmp.Lexicographic.{slice_cmp}
 use Rattle.std.specs.Ordering.{is_eq, match_ordering, nat_cmp}
 use Rattle.std.proofs.lemmas.List.{take_more}
-use Rattle.std.proofs.lemmas.List.Elements.{All-nil, All-pop, All-push, All-same, Contains-append_cases, Contains-append_left, Contains-append_right, Contains-push, Contains-push_cases}
+use Rattle.std.proofs.lemmas.List.Elements.{All-nil, All-pop, All-push, All-same, Contains-append_cases, Contains-append_left, Contains-append_right, Contains-push_cases}
 use Rattle.std.proofs.lemmas.Map.Text.{is_eq-slice_cmp}
 use Rattle.std.proofs.lemmas.Slice.Eq.{bytes_eq-Decides}
 use Rattle.std.proofs.lemmas.Map.Views.{All-insert_key}
 use Rattle.packing.specs.Folders.{At, Comes, HasKind, HasNames, HasNoBytes, HasNoKind, HasNoNames, HasOthers, IsFile, IsFolder, IsHiddenFolder, IsKnown, IsKnownFile, IsListed, Leads, Node, Reaches, below, file, folder, here, inside, is_hidden, link, onward, passes_over, shut_file, shut_folder, special, start, unread}
 use Rattle.packing.specs.Packs.{HasReason, IsTold, IsUnread, is_used}
-use Rattle.packing.specs.Walks.{CoversFrom, CoversName, Grows, IsBegun, IsBelow, IsCovered, IsWithin, Stays}
+use Rattle.packing.specs.Walks.{CoversFrom, CoversName, Grows, IsBegun, IsCovered, IsWithin, Stays}
 use Rattle.packing.specs.declared.folders.Kind.{Kind}
 use Rattle.packing.specs.declared.folders.Kind.TheVariants as kind
 use Rattle.packing.specs.declared.folders.Unread.{Unread}
 use Rattle.packing.specs.declared.leaving.LeftOut.{LeftOut}
+use Rattle.packing.specs.declared.leaving.Reason.{Reason}
 use Rattle.packing.specs.declared.leaving.Reason.TheVariants as reason
 use Rattle.packing.specs.declared.walk.Walk.{Walk}
 
@@ -43,7 +44,7 @@ covered-kept : (at : At) (old new : Walk) (path : List ℕ) → ((x : List ℕ) 
 covered-kept at old new path found kept waits h = elim h [
   | inl told ↦ inl (told-kept (at path) path old.files.keys new.files.keys old.left.items new.left.items found kept told)
   | inr rest ↦ elim rest [
-    | inl named ↦ inr (inl (named.0, kept named.0 named.1, named.2, named.3, named.4))
+    | inl named ↦ inr (inl (named.0, kept named.0 named.1, named.2))
     | inr waiting ↦ inr (inr (waiting.0, waits waiting.0 waiting.1, waiting.2))
   ]
 ]
@@ -57,23 +58,24 @@ grows-left at old new l files waiting left reason = record {
       (λ x k. same-contains old.waiting.items new.waiting.items x waiting k) h;
   files = λ h. subst (λ ks. All (λ p. IsFile (at p)) ks) (sym files) h;
   reasons = λ h. subst (λ ls. All (HasReason at) ls) (sym left) (All-push (HasReason at) old.left.items l h reason);
-  onward = λ h. subst (λ ws. All (IsBelow at) ws) (sym waiting) h;
+  folders = λ h. subst (λ ws. All (λ p. IsFolder (at p)) ws) (sym waiting) h;
 }
 
-pub covers-left : (at : At) (new : Walk) (left : List LeftOut) (l : LeftOut) → new.left.items ≡ left ++ l ∷ [] → l.path ≢ []
-    → l.reason ≢ reason.NamesNotUtf8 → CoversFrom at new l.path
-covers-left at new left l is below itself path h =
-    inr (inl (l, same-contains (left ++ l ∷ []) new.left.items l is (Contains-push left l), below, itself, h))
+-- what is named leads nowhere
+pub covers-named : (at : At) (w : Walk) (path : List ℕ) (r : Reason) → Contains w.left.items (record { path = path; reason = r }) → r ≢ reason.NamesNotUtf8
+    → ((names : List (List ℕ)) (others : Bool) → at path ≡ Some (folder names others) → ⊥) → CoversFrom at w path
+covers-named at w path r named itself shut p (here q) = inr (inl (record { path = path; reason = r }, named, (refl, itself)))
+covers-named at w path r named itself shut p (inside f name q names others there listed kept seen later) = absurd (shut names others there)
 
 pub grows-same : (at : At) (w : Walk) → Grows at w w
-grows-same at w = record { covered = λ path h. h; files = λ h. h; reasons = λ h. h; onward = λ h. h }
+grows-same at w = record { covered = λ path h. h; files = λ h. h; reasons = λ h. h; folders = λ h. h }
 
 pub grows-then : (at : At) (a b c : Walk) → Grows at a b → Grows at b c → Grows at a c
 grows-then at a b c g h = record {
   covered = λ path k. h.covered path (g.covered path k);
   files = λ k. h.files (g.files k);
   reasons = λ k. h.reasons (g.reasons k);
-  onward = λ k. h.onward (g.onward k);
+  folders = λ k. h.folders (g.folders k);
 }
 
 -- ---- paths in order
@@ -119,7 +121,7 @@ grows-found at old new path files waiting left is = record {
       (λ l k. same-contains old.left.items new.left.items l left k) (λ x k. same-contains old.waiting.items new.waiting.items x waiting k) h;
   files = λ h. subst (λ ks. All (λ p. IsFile (at p)) ks) (sym files) (All-insert_key order path (λ p. IsFile (at p)) old.files.keys h is);
   reasons = λ h. subst (λ ls. All (HasReason at) ls) (sym left) h;
-  onward = λ h. subst (λ ws. All (IsBelow at) ws) (sym waiting) h;
+  folders = λ h. subst (λ ws. All (λ p. IsFolder (at p)) ws) (sym waiting) h;
 }
 
 -- what is told to be a folder is one, where it is known
@@ -188,34 +190,6 @@ covers-hidden at w from name is hidden kept seen path (here p) =
     inl (told-hidden (at (below from name)) name (below from name) w.files.keys w.left.items is hidden seen)
 covers-hidden at w from name is hidden kept seen path (inside f n p names others there listed k s later) =
     absurd (seen (hidden-folder (at (below from name)) name names others there hidden))
-
--- ---- below the root
-
-pub below-some : (from name : List ℕ) → passes_over from name ≡ false → below from name ≢ []
-below-some from [] kept is = true≢false kept
-below-some [] (c ∷ cs) kept is = absurd (cc)
-below-some (b ∷ bs) (c ∷ cs) kept is = absurd (cc)
-
-leads-below : (at : At) (from path : List ℕ) → from ≢ [] → Leads at from path → path ≢ []
-leads-below at from path some (here p) = some
-leads-below at from path some (inside f name p names others there listed kept seen later) =
-    leads-below at (below f name) p (below-some f name kept) later
-
-no_file : (n : Option Node) → IsFolder n → IsKnownFile n → ⊥
-no_file None folds is = is
-no_file (Some (folder names others)) folds is = is
-no_file (Some (file bytes)) folds is = folds
-no_file (Some link) folds is = is
-no_file (Some special) folds is = is
-no_file (Some (shut_folder w)) folds is = is
-no_file (Some (shut_file w)) folds is = folds
-no_file (Some (unread u)) folds is = is
-
--- a file that is reached from a folder is below it
-pub file-below : (at : At) (path : List ℕ) → IsFolder (at []) → Leads at [] path → IsKnownFile (at path) → path ≢ []
-file-below at path folds (here p) is = absurd (no_file (at []) folds is)
-file-below at path folds (inside f name p names others there listed kept seen later) is =
-    leads-below at (below f name) p (below-some f name kept) later
 
 -- ---- into a folder
 
@@ -420,6 +394,16 @@ seen-special (Some (shut_folder w)) name has h = absurd (cc)
 seen-special (Some (shut_file w)) name has h = h
 seen-special (Some (unread w)) name has h = h
 
+-- what tells no kind, what is special and a folder that tells no names lead nowhere
+pub shut-kind : (n : Option Node) (u : Unread) (names : List (List ℕ)) (others : Bool) → HasNoKind n u → n ≡ Some (folder names others) → ⊥
+shut-kind n u names others has there = subst (λ m. HasNoKind m u) there has
+
+pub shut-special : (n : Option Node) (names : List (List ℕ)) (others : Bool) → HasKind n kind.Special → n ≡ Some (folder names others) → ⊥
+shut-special n names others has there = let bad : kind.Special ≡ kind.Folder = subst (λ m. HasKind m kind.Special) there has in cc
+
+pub shut-names : (n : Option Node) (u : Unread) (names : List (List ℕ)) (others : Bool) → HasNoNames n u → n ≡ Some (folder names others) → ⊥
+shut-names n u names others has there = subst (λ m. HasNoNames m u) there has
+
 -- ---- the whole walk
 
 -- a walk that has found nothing yet, and then went through the names in the root
@@ -428,7 +412,7 @@ pub begun : (at : At) (names : List (List ℕ)) (more : Bool) (none w : Walk) (f
 begun at names more none w from files waiting left is told grows covers only = record {
   root = told-folder (at []) names more told;
   covers = subst (CoversFrom at w) is covers;
-  onward = grows.onward (All-same (IsBelow at) none.waiting.items [] waiting (All-nil (IsBelow at)));
+  folders = grows.folders (All-same (λ p. IsFolder (at p)) none.waiting.items [] waiting (All-nil (λ p. IsFolder (at p))));
   only = λ k. only (subst (Comes at) (sym is) start) k (record {
     files = All-same (Reaches at []) none.files.keys [] files (All-nil (Reaches at []));
     waiting = All-same (Comes at) none.waiting.items [] waiting (All-nil (Comes at));
@@ -438,10 +422,10 @@ begun at names more none w from files waiting left is told grows covers only = r
   reasons = grows.reasons (All-same (HasReason at) none.left.items [] left (All-nil (HasReason at)));
 }
 
--- a folder that waited is taken out, and all that wait are below the root
-pub below-taken : (at : At) (old new : Walk) (from : List ℕ) → old.waiting.items ≡ new.waiting.items ++ from ∷ [] → All (IsBelow at) old.waiting.items
-    → All (IsBelow at) new.waiting.items × IsBelow at from
-below-taken at old new from waiting h = All-pop (IsBelow at) old.waiting.items new.waiting.items (Some from) waiting h
+-- a folder that waited is taken out, and folders wait
+pub folder-taken : (at : At) (old new : Walk) (from : List ℕ) → old.waiting.items ≡ new.waiting.items ++ from ∷ [] → All (λ p. IsFolder (at p)) old.waiting.items
+    → All (λ p. IsFolder (at p)) new.waiting.items × IsFolder (at from)
+folder-taken at old new from waiting h = All-pop (λ p. IsFolder (at p)) old.waiting.items new.waiting.items (Some from) waiting h
 
 -- a folder that waited is taken out
 pub within-taken : (at : At) (old new : Walk) (from : List ℕ) → new.files.keys ≡ old.files.keys → new.left.items ≡ old.left.items
@@ -462,7 +446,7 @@ taken-covered at old new from path files left waiting h = elim h [
   | inl told ↦ inl (inl (told-kept (at path) path old.files.keys new.files.keys old.left.items new.left.items
       (λ x k. same-contains old.files.keys new.files.keys x files k) (λ l k. same-contains old.left.items new.left.items l left k) told))
   | inr rest ↦ elim rest [
-    | inl named ↦ inl (inr (inl (named.0, same-contains old.left.items new.left.items named.0 left named.1, named.2, named.3, named.4)))
+    | inl named ↦ inl (inr (inl (named.0, same-contains old.left.items new.left.items named.0 left named.1, named.2)))
     | inr waits ↦ elim (Contains-push_cases new.waiting.items from waits.0 (subst (λ (xs : List (List ℕ)). Contains xs waits.0) waiting waits.1)) [
       | inl other ↦ inl (inr (inr (waits.0, other, waits.2)))
       | inr this ↦ inr (subst (λ (f : List ℕ). Leads at f path) (sym this) waits.2)

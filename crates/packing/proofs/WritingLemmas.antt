@@ -22,11 +22,11 @@ use Rattle.json.proofs.Printed.Utf8.{IsUtf8-are_ascii}
 use Rattle.request.specs.Input.{Spells, input_limit}
 use Rattle.workspace.specs.FileKinds.{is_build_file, is_module}
 use Rattle.workspace.specs.Workspaces.{IsWorkspace, Pair, is_file, paths_of}
-use Rattle.packing.specs.Folders.{At, IsFolder, IsFound, IsKnownFile, Leads, Node, Reaches, file, folder, here, link, shut_file, shut_folder, special, unread}
+use Rattle.packing.specs.Folders.{At, IsFound, Node, Reaches, file, folder, link, shut_file, shut_folder, special, unread}
 use Rattle.packing.specs.Inputs.{begun_text, comma, input_text, pair_text}
 use Rattle.packing.specs.Packs.{AreAscending, AreInOrder, HasCause, Holds, IsNamed, IsOf, IsTold, Packs, counts_of, how_many, is_bazel_file, is_used}
 use Rattle.packing.specs.Walks.{IsWalked}
-use Rattle.packing.specs.Writing.{ArePacked, AreTooMuch, Exceeds, Leaves, Names, Puts, Takes, Written, counted_too, one_more}
+use Rattle.packing.specs.Writing.{ArePacked, AreTooMuch, Exceeds, Leaves, Puts, Takes, Written, counted_too, one_more}
 use Rattle.packing.specs.declared.leaving.LeftOut.{LeftOut}
 use Rattle.packing.specs.declared.leaving.Reason.{Reason}
 use Rattle.packing.specs.declared.leaving.Reason.TheVariants as kinds
@@ -35,7 +35,7 @@ use Rattle.packing.specs.declared.whole.Packed.{Packed}
 use Rattle.packing.specs.declared.walk.Walk.{Walk}
 use Rattle.packing.specs.declared.writing.Writing.{Writing}
 use Rattle.packing.specs.declared.writing.WriteStop.{WriteStop}
-use Rattle.packing.proofs.WalkLemmas.{file-below, reaches-comes}
+use Rattle.packing.proofs.WalkLemmas.{reaches-comes}
 use Rattle.packing.proofs.InputTexts.{begun-closed, begun-nil, begun-push, text_spells}
 
 abbrev order : List ℕ → List ℕ → Ordering
@@ -158,7 +158,7 @@ counts-push : (xs : List (List ℕ)) (x : List ℕ) → counted_too x (counts_of
 counts-push xs x = rw (how_many-push is_build_file xs x, how_many-push is_module xs x, how_many-push (λ y. not (is_used y)) xs x) refl
 
 abbrev Done : List LeftOut → List Pair → List ℕ → Type 0
-Done left ps path = Contains (paths_of ps) path ⊎ ((l : LeftOut) × Contains left l × Names l path)
+Done left ps path = Contains (paths_of ps) path ⊎ IsNamed left path
 
 pub written-step : (at : At) (keys : List (List ℕ)) (i : ℕ) (d : List ℕ) (before : List LeftOut) (old new : Writing) → AreAscending keys
     → i < length keys → Written at (take i keys) before old → Takes at (get_or keys i d) old new → Written at (take (i + 1) keys) before new
@@ -335,36 +335,16 @@ in_order reasons left sorted = λ k d low high. first_decides (slice_cmp nat_cmp
     (reasons (get_or left (k + 1) d).reason (get_or left k d).reason) (sorted k d low high)
 
 -- what a walk told is told of the input too: a file that it found is packed or named
-told-packed : (at : At) (path : List ℕ) (files paths : List (List ℕ)) (left rest : List LeftOut) (n : Option Node) → at path ≡ n → Leads at [] path
-    → IsFolder (at []) → (Contains files path → Contains paths path ⊎ ((l : LeftOut) × Contains rest l × Names l path))
-    → ((l : LeftOut) → Contains left l → Contains rest l) → IsTold n path files left → IsTold n path paths rest ⊎ IsNamed at rest path
-told-packed at path files paths left rest None there r folds packed kept told = inl told
-told-packed at path files paths left rest (Some (folder names others)) there r folds packed kept told =
-    inl (λ is. kept (record { path = path; reason = kinds.NamesNotUtf8 }) (told is))
-told-packed at path files paths left rest (Some (file bytes)) there r folds packed kept told = elim (packed told) [
-  | inl in_it ↦ inl in_it
-  | inr out ↦ inr (
-    out.0,
-    out.1,
-    subst (λ (q : List ℕ). q ≢ []) (sym out.2.0) (file-below at path folds r (subst IsKnownFile (sym there) tt)),
-    out.2.1,
-    subst (λ (from : List ℕ). Leads at from path) (sym out.2.0) (here path),
-  )
-]
-told-packed at path files paths left rest (Some (shut_file w)) there r folds packed kept told = elim (packed told) [
-  | inl in_it ↦ inl in_it
-  | inr out ↦ inr (
-    out.0,
-    out.1,
-    subst (λ (q : List ℕ). q ≢ []) (sym out.2.0) (file-below at path folds r (subst IsKnownFile (sym there) tt)),
-    out.2.1,
-    subst (λ (from : List ℕ). Leads at from path) (sym out.2.0) (here path),
-  )
-]
-told-packed at path files paths left rest (Some (shut_folder w)) there r folds packed kept told = absurd told
-told-packed at path files paths left rest (Some link) there r folds packed kept told = inl told
-told-packed at path files paths left rest (Some special) there r folds packed kept told = absurd told
-told-packed at path files paths left rest (Some (unread u)) there r folds packed kept told = absurd told
+told-packed : (n : Option Node) (path : List ℕ) (files paths : List (List ℕ)) (left rest : List LeftOut) → (Contains files path → Contains paths path ⊎ IsNamed rest path)
+    → ((l : LeftOut) → Contains left l → Contains rest l) → IsTold n path files left → IsTold n path paths rest ⊎ IsNamed rest path
+told-packed None path files paths left rest packed kept told = inl told
+told-packed (Some (folder names others)) path files paths left rest packed kept told = inl (λ is. kept (record { path = path; reason = kinds.NamesNotUtf8 }) (told is))
+told-packed (Some (file bytes)) path files paths left rest packed kept told = packed told
+told-packed (Some link) path files paths left rest packed kept told = inl told
+told-packed (Some special) path files paths left rest packed kept told = absurd told
+told-packed (Some (shut_folder u)) path files paths left rest packed kept told = absurd told
+told-packed (Some (shut_file u)) path files paths left rest packed kept told = packed told
+told-packed (Some (unread u)) path files paths left rest packed kept told = absurd told
 
 pub packs-closed : (at : At) (walk : Walk) (w : Writing) (r : Result Packed PackStop) → IsWalked at walk
     → Written at walk.files.keys walk.left.items w
@@ -380,13 +360,13 @@ packs-closed at walk w (Ok p) walked h input left ordered counted = record {
   of = h.packed.of;
   served = h.packed.served;
   whole = λ path r. elim (walked.whole path r) [
-    | inl told ↦ told-packed at path walk.files.keys (paths_of h.pairs) walk.left.items p.left.items (at path) refl r walked.root
+    | inl told ↦ told-packed (at path) path walk.files.keys (paths_of h.pairs) walk.left.items p.left.items
         (λ found. elim (h.whole path found) [
           | inl there ↦ inl there
           | inr out ↦ inr (out.0, Contains-permutation w.left.items p.left.items out.0 left out.1, out.2)
         ])
         kept told
-    | inr out ↦ inr (out.0, kept out.0 out.1, out.2, out.3, out.4)
+    | inr out ↦ inr (out.0, kept out.0 out.1, out.2)
   ];
   only = λ k. All-weaker (Contains walk.files.keys) (Reaches at [])
       (λ path there. (All-contains (IsFound at) walk.files.keys path walked.found there).1 k) (paths_of h.pairs) h.within;

@@ -2,8 +2,8 @@
 -- input"; this project's own choice).
 --
 -- A folder is seen as a function: what stands at each path below it. `None` says nothing of a path:
--- what stands there isn't known, as in the folders of a system, or nothing does. The folder itself is
--- at the empty path.
+-- what stands there isn't known, as in the folders of a system, or nothing does. The folder itself
+-- is at the empty path.
 use Rattle.std.specs.Prelude.{◌≡◌, ◌<◌, ℕ, Bool, true, false, nat_eq, List, [], ◌∷◌, ◌++◌, length}
 use Rattle.std.specs.Prelude.{codes, Option, Some, None, Contains, IsSome, ⊤}
 use Rattle.std.specs.List.{starts_with}
@@ -12,8 +12,8 @@ use Rattle.packing.specs.declared.folders.Kind.TheVariants as kind
 use Rattle.packing.specs.declared.folders.Unread.{Unread}
 
 -- a folder with the names in it that are UTF-8, and whether there are others; a regular file with
--- its bytes; a link; what is none of these. A folder that is shut tells no names, a file that is shut
--- no bytes, and of what is unread not even the kind is told: each with the reason
+-- its bytes; a link; or what is none of these. A folder that is shut tells no names, a file that is
+-- shut no bytes, and of what is unread not even the kind is told: each with the reason
 pub data Node : Type 0 where
   folder : List (List ℕ) → Bool → Node
   file : List ℕ → Node

@@ -106,11 +106,13 @@ HasReason at l = Holds at l.path l.reason
 abbrev pub HasCause : At → LeftOut → Type 0
 HasCause at l = HasReason at l × (IsKnown at → Comes at l.path)
 
--- what stands at a path, or a folder on the way to it, is named as left out; the root is no such
--- folder. That a folder has names that aren't UTF-8 leaves out nothing that others lead to
-abbrev pub IsNamed : At → List LeftOut → List ℕ → Type 0
-IsNamed at left path = (l : LeftOut) × Contains left l × (l.path ≢ [])
-    × (l.reason ≢ reason.NamesNotUtf8) × Leads at l.path path
+-- it is named by its own path, and not for the names in it
+abbrev pub Names : LeftOut → List ℕ → Type 0
+Names l path = (l.path ≡ path) × (l.reason ≢ reason.NamesNotUtf8)
+
+-- what stands at a path is named as left out
+abbrev pub IsNamed : List LeftOut → List ℕ → Type 0
+IsNamed left path = (l : LeftOut) × Contains left l × Names l path
 
 -- what stands at a path isn't lost, among the files that are found and what is left out: a regular
 -- file is one of those, and a folder with names that aren't UTF-8 is named so. Links are passed
@@ -147,11 +149,12 @@ counts_of paths = record {
 }
 
 -- what is written is the text of a workspace, and spells it: its pairs ascend by their paths, and
--- each is of a file of the folder, none of them a `BUILD.bazel` or `MODULE.bazel`. Nothing known that
--- a walk leads to is lost, from the root on, which is a folder: a file is one of them or named as
--- left out, and so is what is neither file, folder nor link, and what can't be read; a folder with
--- names that aren't UTF-8 is named so. What is named has its cause and stands by its path. Where all
--- is known that a walk comes to, no other file is one of them. The files are counted by their kinds
+-- each is of a file of the folder, none of them a `BUILD.bazel` or `MODULE.bazel`. Nothing known
+-- that a walk leads to is lost, from the root on, which is a folder: a file is one of them or named
+-- as left out, and so is what is neither file, folder nor link, and what can't be read; a folder
+-- with names that aren't UTF-8 is named so. What is named has its cause and stands by its path.
+-- Where all is known that a walk comes to, no other file is one of them. The files are counted by
+-- their kinds
 pub record Packs (at : At) (p : Packed) : Type 0 where
   pub root : IsFolder (at [])
   pub workspace : List Pair
@@ -161,7 +164,7 @@ pub record Packs (at : At) (p : Packed) : Type 0 where
   pub of : All (λ q. IsOf (at q.0) q) workspace
   pub served : All (λ q. is_bazel_file q.0 ≡ false) workspace
   pub whole : (path : List ℕ) → Leads at [] path
-      → IsTold (at path) path (paths_of workspace) p.left.items ⊎ IsNamed at p.left.items path
+      → IsTold (at path) path (paths_of workspace) p.left.items ⊎ IsNamed p.left.items path
   pub only : IsKnown at → All (Reaches at []) (paths_of workspace)
   pub causes : All (HasCause at) p.left.items
   pub ordered : AreInOrder p.left.items

@@ -1,6 +1,6 @@
 -- A walk through a folder on its way. (docs/REPORT.md, "From a folder to an input"; this project's
 -- own.)
-use Rattle.std.specs.Prelude.{◌≡◌, ◌≢◌, ◌⊎◌, ℕ, false, List, [], All, Contains}
+use Rattle.std.specs.Prelude.{◌≡◌, ◌⊎◌, ℕ, false, List, [], All, Contains}
 use Rattle.packing.specs.Folders.{At, Comes, IsFile, IsFolder, IsFound, IsHiddenFolder}
 use Rattle.packing.specs.Folders.{IsKnown, Leads, Reaches, below, passes_over}
 use Rattle.packing.specs.Packs.{HasCause, HasReason, IsNamed, IsTold}
@@ -10,11 +10,11 @@ use Rattle.packing.specs.declared.walk.Walk.{Walk}
 abbrev pub Awaits : At → List (List ℕ) → List ℕ → Type 0
 Awaits at waiting path = (from : List ℕ) × Contains waiting from × Leads at from path
 
--- what stands at the path isn't lost: it was found or named, or nothing is said of it; or it is left
--- out with a folder on the way to it; or a folder that waits leads to it
+-- what stands at the path isn't lost: it was found or named, or nothing is said of it, or a folder
+-- that waits leads to it
 abbrev pub IsCovered : At → Walk → List ℕ → Type 0
 IsCovered at w path = IsTold (at path) path w.files.keys w.left.items
-    ⊎ (IsNamed at w.left.items path ⊎ Awaits at w.waiting.items path)
+    ⊎ (IsNamed w.left.items path ⊎ Awaits at w.waiting.items path)
 
 -- nothing is lost that a folder leads to
 abbrev pub CoversFrom : At → Walk → List ℕ → Type 0
@@ -26,17 +26,14 @@ CoversName at w from name =
     passes_over from name ≡ false → (IsHiddenFolder (at (below from name)) name → ⊥)
     → CoversFrom at w (below from name)
 
--- a path of a folder below the root
-abbrev pub IsBelow : At → List ℕ → Type 0
-IsBelow at path = (path ≢ []) × IsFolder (at path)
-
--- a step of a walk loses nothing, takes files alone, leaves nothing out without a reason, and
--- doesn't go back to the root
+-- a step of a walk loses nothing, takes files alone, leaves nothing out without a reason, and waits
+-- for folders alone
 pub record Grows (at : At) (old new : Walk) : Type 0 where
   pub covered : (path : List ℕ) → IsCovered at old path → IsCovered at new path
   pub files : All (λ p. IsFile (at p)) old.files.keys → All (λ p. IsFile (at p)) new.files.keys
   pub reasons : All (HasReason at) old.left.items → All (HasReason at) new.left.items
-  pub onward : All (IsBelow at) old.waiting.items → All (IsBelow at) new.waiting.items
+  pub folders : All (λ p. IsFolder (at p)) old.waiting.items
+      → All (λ p. IsFolder (at p)) new.waiting.items
 
 -- each file that was found is reached, and a walk comes to each folder that waits and to what is
 -- left out
@@ -49,11 +46,11 @@ pub record IsWithin (at : At) (w : Walk) : Type 0 where
 abbrev pub Stays : At → Walk → Walk → Type 0
 Stays at old new = IsKnown at → IsWithin at old → IsWithin at new
 
--- a walk that went through the names in the root: nothing is lost, and the root isn't waiting
+-- a walk that went through the names in the root, and has lost nothing
 pub record IsBegun (at : At) (w : Walk) : Type 0 where
   pub root : IsFolder (at [])
   pub covers : CoversFrom at w []
-  pub onward : All (IsBelow at) w.waiting.items
+  pub folders : All (λ p. IsFolder (at p)) w.waiting.items
   pub only : IsKnown at → IsWithin at w
   pub files : All (λ p. IsFile (at p)) w.files.keys
   pub reasons : All (HasReason at) w.left.items
@@ -63,6 +60,6 @@ pub record IsBegun (at : At) (w : Walk) : Type 0 where
 pub record IsWalked (at : At) (w : Walk) : Type 0 where
   pub root : IsFolder (at [])
   pub whole : (path : List ℕ) → Leads at [] path
-      → IsTold (at path) path w.files.keys w.left.items ⊎ IsNamed at w.left.items path
+      → IsTold (at path) path w.files.keys w.left.items ⊎ IsNamed w.left.items path
   pub found : All (IsFound at) w.files.keys
   pub causes : All (HasCause at) w.left.items

@@ -1,6 +1,6 @@
 -- An input that is written file by file. (docs/REPORT.md, "From a folder to an input"; this
 -- project's own.)
-use Rattle.std.specs.Prelude.{◌≡◌, ◌≢◌, ◌<◌, ◌≤◌, ◌⊎◌, ◌++◌, ◌+◌, ◌-◌, ◌^◌, ℕ, Bool, true, false}
+use Rattle.std.specs.Prelude.{◌≡◌, ◌<◌, ◌≤◌, ◌⊎◌, ◌++◌, ◌+◌, ◌-◌, ◌^◌, ℕ, Bool, true, false}
 use Rattle.std.specs.Prelude.{not, min, List, [], ◌∷◌, length, All, Contains, IsUtf8, ⊤}
 use Rattle.std.specs.List.{list_all}
 use Rattle.request.specs.Input.{input_limit}
@@ -8,10 +8,9 @@ use Rattle.workspace.specs.FileKinds.{is_build_file, is_module}
 use Rattle.workspace.specs.Workspaces.{Pair, is_file, paths_of}
 use Rattle.packing.specs.Folders.{At, IsFound}
 use Rattle.packing.specs.Inputs.{begun_text, comma, input_text, pair_text}
-use Rattle.packing.specs.Packs.{AreAscending, HasCause, IsOf, counts_of, is_bazel_file}
-use Rattle.packing.specs.Packs.{is_used}
+use Rattle.packing.specs.Packs.{AreAscending, HasCause, IsNamed, IsOf, Names, counts_of}
+use Rattle.packing.specs.Packs.{is_bazel_file, is_used}
 use Rattle.packing.specs.declared.leaving.LeftOut.{LeftOut}
-use Rattle.packing.specs.declared.leaving.Reason.TheVariants as reason
 use Rattle.packing.specs.declared.writing.Counts.{Counts}
 use Rattle.packing.specs.declared.writing.Writing.{Writing}
 use Rattle.packing.specs.declared.writing.WriteStop.{WriteStop}
@@ -40,10 +39,6 @@ pub record Puts (at : At) (path : List ℕ) (old new : Writing) (pairs : List Pa
   pub served : is_bazel_file path ≡ false
   pub left : new.left.items ≡ old.left.items
   pub counted : new.counts ≡ counted_too path old.counts
-
--- the file at this path is named, by a reason that speaks of itself
-abbrev pub Names : LeftOut → List ℕ → Type 0
-Names l path = (l.path ≡ path) × (l.reason ≢ reason.NamesNotUtf8)
 
 -- the file is named as left out
 pub record Leaves (at : At) (path : List ℕ) (old new : Writing) : Type 0 where
@@ -84,7 +79,7 @@ pub record Written (at : At) (done : List (List ℕ)) (before : List LeftOut)
   pub utf8 : IsUtf8 w.input.items
   pub within : All (Contains done) (paths_of pairs)
   pub whole : (path : List ℕ) → Contains done path
-      → Contains (paths_of pairs) path ⊎ ((l : LeftOut) × Contains w.left.items l × Names l path)
+      → Contains (paths_of pairs) path ⊎ IsNamed w.left.items path
   pub kept : (l : LeftOut) → Contains before l → Contains w.left.items l
   pub causes : All (HasCause at) w.left.items
   pub counted : w.counts ≡ counts_of (paths_of pairs)

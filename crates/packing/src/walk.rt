@@ -3,11 +3,10 @@
 //! Folders that wait stand in a list, so that nothing recurses by their depth.
 
 ghost use Rattle.std.specs.Prelude.{◌≡◌, ◌≢◌, ℕ, List, [], Contains, IfOk, OnOk};
-ghost use Rattle.packing.specs.Folders.{At, Comes, HasNames, IsFile, IsListed, Reaches};
-ghost use Rattle.packing.specs.Folders.{is_hidden, passes_over};
+ghost use Rattle.packing.specs.Folders.{At, Comes, HasNames, IsFile, IsFolder, IsListed};
+ghost use Rattle.packing.specs.Folders.{Reaches, is_hidden, passes_over};
 ghost use Rattle.packing.specs.Packs.{Holds, IsUnread};
-ghost use Rattle.packing.specs.Walks.{CoversFrom, CoversName, Grows, IsBegun, IsBelow, IsWalked};
-ghost use Rattle.packing.specs.Walks.{Stays};
+ghost use Rattle.packing.specs.Walks.{CoversFrom, CoversName, Grows, IsBegun, IsWalked, Stays};
 
 use crate::folders::{Folder, Kind, Names, Unread, below};
 use crate::leaving::{LeftOut, Reason};
@@ -79,8 +78,6 @@ impl Walk {
     fn leave(&mut self, path: Text, reason: Reason) -> Result<(), AllocError>
         ensures grows { OnOk result ((at : At) → Holds at path reason
             → Grows at self.old self.new) }
-        ensures covers { OnOk result (path ≢ [] → reason ≢ Reason.NamesNotUtf8 → (at : At)
-            → CoversFrom at self.new path) }
         ensures named { OnOk result (Contains self.new.left.items
             (record { «path» = path; reason = reason })) }
         ensures only { OnOk result ((at : At) → Comes at path → Stays at self.old self.new) }
@@ -91,7 +88,7 @@ impl Walk {
 
     /// Goes into a folder later.
     fn wait(&mut self, path: Text) -> Result<(), AllocError>
-        ensures grows { OnOk result ((at : At) → IsBelow at path → Grows at self.old self.new) }
+        ensures grows { OnOk result ((at : At) → IsFolder (at path) → Grows at self.old self.new) }
         ensures covers { OnOk result ((at : At) → CoversFrom at self.new path) }
         ensures only { OnOk result ((at : At) → Comes at path → Stays at self.old self.new) }
     {
@@ -185,9 +182,9 @@ impl Walk {
         Ok(())
     }
 
-    /// Goes into a folder below the root.
+    /// Goes into a folder.
     fn visit<F: Folder>(&mut self, folder: &F, alloc: Global, from: Text) -> Result<(), AllocError>
-        requires { IsBelow (F.at folder.now) from }
+        requires { IsFolder (F.at folder.now from) }
         ensures grows { OnOk result (Grows (F.at folder.now) self.old self.new) }
         ensures covers { OnOk result (CoversFrom (F.at folder.now) self.new from) }
         ensures only { OnOk result (Comes (F.at folder.now) from

@@ -1,12 +1,12 @@
 use Rattle.std.proofs.Common.{inl, inr, refl}
 use Rattle.packing.specs.declared.walk.Walk.{Walk}
-use Rattle.packing.proofs.WalkLemmas.{below-taken, taken-covered, within-taken}
+use Rattle.packing.proofs.WalkLemmas.{folder-taken, taken-covered, within-taken}
 use Rattle.packing.proofs.walk.walk_through.Goals as goal
 
 pub visit-requires : goal.visit-requires
 visit-requires g c =
     let rest : Walk = record { waiting = c.pop.new.self; files = c.loop.walk.files; left = c.loop.walk.left } in
-    (below-taken (g.F.Folder.at c.args.folder.now) c.loop.walk rest c.in-Some.from c.in-Some.ensures.items c.loop.invariant.onward).1
+    (folder-taken (g.F.Folder.at c.args.folder.now) c.loop.walk rest c.in-Some.from c.in-Some.ensures.items c.loop.invariant.folders).1
 
 pub loop-preserved : goal.loop-preserved
 loop-preserved g c =
@@ -17,7 +17,7 @@ loop-preserved g c =
         | inl still ↦ c.in_ok-visit.ensures.grows.covered path still
         | inr this ↦ c.in_ok-visit.ensures.covers path this
       ];
-      onward = c.in_ok-visit.ensures.grows.onward (below-taken at c.loop.walk rest c.in-Some.from c.in-Some.ensures.items c.loop.invariant.onward).0;
+      folders = c.in_ok-visit.ensures.grows.folders (folder-taken at c.loop.walk rest c.in-Some.from c.in-Some.ensures.items c.loop.invariant.folders).0;
       only = λ k.
           let taken = within-taken at c.loop.walk rest c.in-Some.from refl refl c.in-Some.ensures.items (c.loop.invariant.only k) in
           c.in_ok-visit.ensures.only taken.1 k taken.0;

@@ -1,11 +1,12 @@
-use Rattle.std.proofs.Common.{◌≡◌, ◌≢◌, ◌∙◌, [], false, subst, sym}
+use Rattle.std.proofs.Common.{◌≡◌, ◌∙◌, [], false, subst, sym}
 use Rattle.std.proofs.lemmas.Result.{IfOk-weaker}
 use Rattle.std.specs.Prelude.{Contains, List, ℕ}
 use Rattle.packing.specs.Folders.{At, Comes, HasKind, HasNoKind, IsFolder, IsListed, Reaches, below, is_hidden, passes_over}
 use Rattle.packing.specs.declared.folders.Kind.{Kind}
 use Rattle.packing.specs.declared.folders.Kind.TheVariants as kind
-use Rattle.packing.specs.Walks.{CoversFrom, IsBelow, Stays}
-use Rattle.packing.proofs.WalkLemmas.{below-some, comes-by, covers-found, covers-hidden, covers-link, kind-folder, reached-file, seen-name, seen-special, seen-unread, unread-kind}
+use Rattle.packing.specs.declared.leaving.Reason.TheVariants as reason
+use Rattle.packing.specs.Walks.{CoversFrom, CoversName, Stays}
+use Rattle.packing.proofs.WalkLemmas.{comes-by, covers-found, covers-hidden, covers-link, covers-named, kind-folder, reached-file, seen-name, seen-special, seen-unread, shut-kind, shut-special, unread-kind}
 use Rattle.packing.proofs.walk.Walk.take.Goals as goal
 
 pub returns-in-Ok-File-clause-covers : goal.returns-in-Ok-File-clause-covers
@@ -59,10 +60,20 @@ returns-in_ok-reason-in-Err-clause-only g c =
 pub returns-in_ok-reason-in-Err-clause-covers : goal.returns-in_ok-reason-in-Err-clause-covers
 returns-in_ok-reason-in-Err-clause-covers g c =
     let at = g.F.Folder.at c.args.folder.now in
-    let kept : passes_over c.args.from.now c.args.name.now ≡ false = sym c.passes_over.ensures ∙ c.if-passes_over.false in
-    let below : c.in_ok-path.path ≢ [] = subst (λ (p : List ℕ). p ≢ []) (sym c.in_ok-path.ensures) (below-some c.args.from.now c.args.name.now kept) in
-    IfOk-weaker c.leave-in-Err.result _ _ (λ r h kept seen. subst (λ (p : List ℕ). CoversFrom at c.leave-in-Err.new.self p) c.in_ok-path.ensures (h below c.in_ok-reason-in-Err.ensures.itself at))
-    c.leave-in-Err.ensures.covers
+    let told : HasNoKind (at c.in_ok-path.path) c.in-Err.unread = subst (λ (p : List ℕ). HasNoKind (at p) c.in-Err.unread) c.as_str.ensures
+    (c.in-Err.ensures.unread c.in_ok-reason-in-Err.ensures.memory) in
+    IfOk-weaker c.leave-in-Err.result _ (λ _. CoversName at c.leave-in-Err.new.self c.args.from.now c.args.name.now) (λ r h kept seen. subst (λ (p : List ℕ). CoversFrom at c.leave-in-Err.new.self p) c.in_ok-path.ensures
+    (covers-named at c.leave-in-Err.new.self c.in_ok-path.path c.in_ok-reason-in-Err.reason h c.in_ok-reason-in-Err.ensures.itself
+    (λ names others there. shut-kind (at c.in_ok-path.path) c.in-Err.unread names others told there))) c.leave-in-Err.ensures.named
+
+pub returns-in-Ok-Special-clause-covers : goal.returns-in-Ok-Special-clause-covers
+returns-in-Ok-Special-clause-covers g c =
+    let at = g.F.Folder.at c.args.folder.now in
+    let told : HasKind (at c.as_str.result.now) kind.Special = subst (λ (k : Kind). HasKind (at c.as_str.result.now) k) c.in-Ok-Special.field-0-is c.in-Ok-Special.ensures.kind in
+    let there : HasKind (at c.in_ok-path.path) kind.Special = subst (λ (p : List ℕ). HasKind (at p) kind.Special) c.as_str.ensures told in
+    IfOk-weaker c.leave.result _ (λ _. CoversName at c.leave.new.self c.args.from.now c.args.name.now) (λ r h kept seen. subst (λ (p : List ℕ). CoversFrom at c.leave.new.self p) c.in_ok-path.ensures
+    (covers-named at c.leave.new.self c.in_ok-path.path reason.Special h (λ e. cc)
+    (λ names others is. shut-special (at c.in_ok-path.path) names others there is))) c.leave.ensures.named
 
 pub returns-else-is_hidden-clause-only : goal.returns-else-is_hidden-clause-only
 returns-else-is_hidden-clause-only g c =
@@ -75,13 +86,9 @@ returns-else-is_hidden-clause-only g c =
 pub returns-else-is_hidden-clause-grows : goal.returns-else-is_hidden-clause-grows
 returns-else-is_hidden-clause-grows g c =
     let at = g.F.Folder.at c.args.folder.now in
-    let kept : passes_over c.args.from.now c.args.name.now ≡ false = sym c.passes_over.ensures ∙ c.if-passes_over.false in
     let told : HasKind (at c.as_str.result.now) kind.Folder = subst (λ (k : Kind). HasKind (at c.as_str.result.now) k) c.in-Ok-Folder.field-0-is c.in-Ok-Folder.ensures.kind in
-    let below : IsBelow at c.in_ok-path.path = (
-      subst (λ (p : List ℕ). p ≢ []) (sym c.in_ok-path.ensures) (below-some c.args.from.now c.args.name.now kept),
-      subst (λ (p : List ℕ). IsFolder (at p)) c.as_str.ensures (kind-folder (at c.as_str.result.now) told),
-    ) in
-    IfOk-weaker c.wait.result _ _ (λ r h. h at below) c.wait.ensures.grows
+    let folds : IsFolder (at c.in_ok-path.path) = subst (λ (p : List ℕ). IsFolder (at p)) c.as_str.ensures (kind-folder (at c.as_str.result.now) told) in
+    IfOk-weaker c.wait.result _ _ (λ r h. h at folds) c.wait.ensures.grows
 
 pub returns-in-Ok-Link-clause-covers : goal.returns-in-Ok-Link-clause-covers
 returns-in-Ok-Link-clause-covers g c kept seen =
