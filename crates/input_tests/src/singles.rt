@@ -81,7 +81,7 @@ impl<'a> Folder for Single<'a> {
 }
 
 /// Packs such a folder with nothing left out. What `pack` says of every folder comes here to the
-/// very bytes of the input: that file's pair, and no other. And the folder is read.
+/// very bytes of the input: that file's pair, and no other. And `Root` is never the refusal.
 pub fn pack_single<K: Sink>(
     folder: &Single<'_>,
     alloc: Global,

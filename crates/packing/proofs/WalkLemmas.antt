@@ -11,7 +11,7 @@ use Rattle.std.proofs.lemmas.List.Elements.{All-nil, All-pop, All-push, All-same
 use Rattle.std.proofs.lemmas.Map.Text.{is_eq-slice_cmp}
 use Rattle.std.proofs.lemmas.Slice.Eq.{bytes_eq-Decides}
 use Rattle.std.proofs.lemmas.Map.Views.{All-insert_key}
-use Rattle.packing.specs.Folders.{At, Comes, HasKind, HasNames, HasNoBytes, HasNoKind, HasNoNames, HasOthers, IsFile, IsFolder, IsHiddenFolder, IsKnown, IsKnownFile, IsListed, Leads, Node, Reaches, below, file, folder, here, inside, is_hidden, link, onward, passes_over, shut_file, shut_folder, special, start, unread}
+use Rattle.packing.specs.Folders.{At, Comes, HasKind, HasNames, HasNoBytes, HasNoKind, HasNoNames, HasOthers, IsFile, IsFolder, IsHiddenFolder, IsKnown, IsKnownFile, IsListed, Leads, Node, Reaches, TellsNames, below, file, folder, here, inside, is_hidden, link, onward, passes_over, shut_file, shut_folder, special, start, unread}
 use Rattle.packing.specs.Packs.{HasReason, IsTold, IsUnread, is_used}
 use Rattle.packing.specs.Walks.{CoversFrom, CoversName, Grows, IsBegun, IsCovered, IsWithin, Stays}
 use Rattle.packing.specs.declared.folders.Kind.{Kind}
@@ -320,16 +320,16 @@ comes-along at from path c (inside f name p names others there listed kept seen 
 pub reaches-comes : (at : At) (path : List ℕ) → Reaches at [] path → Comes at path
 reaches-comes at path r = comes-along at [] path start r.0
 
--- whose names are told is a folder
-pub told-folder : (n : Option Node) (told : List (List ℕ)) (more : Bool) → HasNames n told more → IsFolder n
-told-folder None told more has = has
-told-folder (Some (folder names others)) told more has = tt
-told-folder (Some (file bytes)) told more has = has
-told-folder (Some link) told more has = has
-told-folder (Some special) told more has = has
-told-folder (Some (shut_folder w)) told more has = absurd has
-told-folder (Some (shut_file w)) told more has = has
-told-folder (Some (unread u)) told more has = has
+-- whose names are told is a folder that tells them
+pub told-names : (n : Option Node) (told : List (List ℕ)) (more : Bool) → HasNames n told more → TellsNames n
+told-names None told more has = has
+told-names (Some (folder names others)) told more has = tt
+told-names (Some (file bytes)) told more has = has
+told-names (Some link) told more has = has
+told-names (Some special) told more has = has
+told-names (Some (shut_folder w)) told more has = has
+told-names (Some (shut_file w)) told more has = has
+told-names (Some (unread u)) told more has = has
 
 -- with names that aren't UTF-8 besides, it has others
 pub told-more : (n : Option Node) (told : List (List ℕ)) (more : Bool) → HasNames n told more → more ≡ true → HasOthers n
@@ -410,7 +410,7 @@ shut-names n u names others has there = subst (λ m. HasNoNames m u) there has
 pub begun : (at : At) (names : List (List ℕ)) (more : Bool) (none w : Walk) (from : List ℕ) → none.files.keys ≡ [] → none.waiting.items ≡ [] → none.left.items ≡ []
     → from ≡ [] → HasNames (at []) names more → Grows at none w → CoversFrom at w from → (Comes at from → Stays at none w) → IsBegun at w
 begun at names more none w from files waiting left is told grows covers only = record {
-  root = told-folder (at []) names more told;
+  root = told-names (at []) names more told;
   covers = subst (CoversFrom at w) is covers;
   folders = grows.folders (All-same (λ p. IsFolder (at p)) none.waiting.items [] waiting (All-nil (λ p. IsFolder (at p))));
   only = λ k. only (subst (Comes at) (sym is) start) k (record {

@@ -54,8 +54,8 @@ IsHiddenFolder (Some (shut_folder u)) name = is_hidden name ≡ true
 IsHiddenFolder (Some (shut_file u)) name = ⊥
 IsHiddenFolder (Some (unread u)) name = ⊥
 
--- from a folder a walk leads to a path: by names that stand in the folders on the way, none of them
--- passed over
+-- from a folder a walk leads to a path: by names that stand in the folders on the way, but for
+-- names and folders that are passed over
 pub data Leads (at : At) : List ℕ → List ℕ → Type 0 where
   here : (path : List ℕ) → Leads at path path
   inside : (from name path : List ℕ) (names : List (List ℕ)) (others : Bool)
@@ -183,6 +183,17 @@ IsFolder (Some special) = ⊥
 IsFolder (Some (shut_folder u)) = ⊤
 IsFolder (Some (shut_file u)) = ⊥
 IsFolder (Some (unread u)) = ⊥
+
+-- a folder that tells its names, where it is known
+abbrev pub TellsNames : Option Node → Type 0
+TellsNames None = ⊤
+TellsNames (Some (folder names others)) = ⊤
+TellsNames (Some (file bytes)) = ⊥
+TellsNames (Some link) = ⊥
+TellsNames (Some special) = ⊥
+TellsNames (Some (shut_folder u)) = ⊥
+TellsNames (Some (shut_file u)) = ⊥
+TellsNames (Some (unread u)) = ⊥
 
 -- a folder with names that aren't UTF-8, where it is known
 abbrev pub HasOthers : Option Node → Type 0

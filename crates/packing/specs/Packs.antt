@@ -12,9 +12,9 @@ use Rattle.request.specs.Input.{Spells}
 use Rattle.workspace.specs.FileKinds.{is_build_file, is_module}
 use Rattle.workspace.specs.Paths.{is_path, last_segment}
 use Rattle.workspace.specs.Workspaces.{Pair, paths_of, text_limit}
-use Rattle.packing.specs.Folders.{At, Comes, HasOthers, IsFile, IsFolder, IsKnown, IsLonger}
+use Rattle.packing.specs.Folders.{At, Comes, HasOthers, IsFile, IsKnown, IsLonger}
 use Rattle.packing.specs.Folders.{Leads, Node, Reaches, file, folder, link, shut_file, shut_folder}
-use Rattle.packing.specs.Folders.{special, unread}
+use Rattle.packing.specs.Folders.{TellsNames, special, unread}
 use Rattle.packing.specs.Inputs.{input_text}
 use Rattle.packing.specs.declared.folders.Unread.{Unread}
 use Rattle.packing.specs.declared.folders.Unread.TheVariants as reasons
@@ -116,7 +116,8 @@ IsNamed left path = (l : LeftOut) × Contains left l × Names l path
 
 -- what stands at a path isn't lost, among the files that are found and what is left out: a regular
 -- file is one of those, and a folder with names that aren't UTF-8 is named so. Links are passed
--- over; of what isn't known nothing is said
+-- over; of what isn't known nothing is said. What is special, a folder that is shut and what is
+-- unread are lost unless they are named
 abbrev pub IsTold : Option Node → List ℕ → List (List ℕ) → List LeftOut → Type 0
 IsTold None path files left = ⊤
 IsTold (Some (folder names others)) path files left =
@@ -150,13 +151,13 @@ counts_of paths = record {
 
 -- what is written is the text of a workspace, and spells it: its pairs ascend by their paths, and
 -- each is of a file of the folder, none of them a `BUILD.bazel` or `MODULE.bazel`. Nothing known
--- that a walk leads to is lost, from the root on, which is a folder: a file is one of them or named
--- as left out, and so is what is neither file, folder nor link, and what can't be read; a folder
--- with names that aren't UTF-8 is named so. What is named has its cause and stands by its path.
--- Where all is known that a walk comes to, no other file is one of them. The files are counted by
--- their kinds
+-- that a walk leads to is lost, from the root on, which is a folder that tells its names: a file,
+-- shut or not, is one of them or named as left out; what is neither file, folder nor link, a folder
+-- that is shut and what is unread are named; a folder with names that aren't UTF-8 is named so.
+-- What is named has its cause and stands by its path. Where all is known that a walk comes to, no
+-- other file is one of them. The files are counted by their kinds
 pub record Packs (at : At) (p : Packed) : Type 0 where
-  pub root : IsFolder (at [])
+  pub root : TellsNames (at [])
   pub workspace : List Pair
   pub told : p.input.items ≡ input_text workspace
   pub spelt : Spells p.input.items workspace

@@ -42,10 +42,10 @@ pub record AreSizes (at : At) (sizes : List FileSize) : Type 0 where
   pub falling : (i j : ℕ) (d : FileSize) → i ≤ j → j < length sizes
       → (slice_index_or sizes j d).bytes ≤ (slice_index_or sizes i d).bytes
 
--- each refusal has its cause: the root tells no names, for that reason where it is shut or not told
--- at all, and not for want of memory; the input would be too long; or something is left out where
--- nothing may be, and it is named. That memory was refused, no definition tells; of a failed write
--- the clauses of `pack` tell
+-- each refusal has its cause: the root tells no names, where it is known, for that reason where it
+-- is a folder that is shut or isn't told at all, and not for want of memory; the input would be too
+-- long; or something is left out where nothing may be, and it is named. That memory was refused, no
+-- definition tells; of a failed write the clauses of `pack` tell
 abbrev pub Refuses : At → Bool → PackStop → Type 0
 Refuses at strict (stop.Root u) = (u ≢ why.NoMemory) × HasNoNames (at []) u
 Refuses at strict (stop.TooLong sizes) = IsTooMuch at × AreSizes at sizes.items

@@ -2,7 +2,7 @@
 -- own.)
 use Rattle.std.specs.Prelude.{◌≡◌, ◌⊎◌, ℕ, false, List, [], All, Contains}
 use Rattle.packing.specs.Folders.{At, Comes, IsFile, IsFolder, IsFound, IsHiddenFolder}
-use Rattle.packing.specs.Folders.{IsKnown, Leads, Reaches, below, passes_over}
+use Rattle.packing.specs.Folders.{IsKnown, Leads, Reaches, TellsNames, below, passes_over}
 use Rattle.packing.specs.Packs.{HasCause, HasReason, IsNamed, IsTold}
 use Rattle.packing.specs.declared.walk.Walk.{Walk}
 
@@ -48,7 +48,7 @@ Stays at old new = IsKnown at → IsWithin at old → IsWithin at new
 
 -- a walk that went through the names in the root, and has lost nothing
 pub record IsBegun (at : At) (w : Walk) : Type 0 where
-  pub root : IsFolder (at [])
+  pub root : TellsNames (at [])
   pub covers : CoversFrom at w []
   pub folders : All (λ p. IsFolder (at p)) w.waiting.items
   pub only : IsKnown at → IsWithin at w
@@ -58,7 +58,7 @@ pub record IsBegun (at : At) (w : Walk) : Type 0 where
 -- a whole walk: through a folder, and nothing is lost that it leads to; what it found are files
 -- that it reaches, and it left nothing out without a cause
 pub record IsWalked (at : At) (w : Walk) : Type 0 where
-  pub root : IsFolder (at [])
+  pub root : TellsNames (at [])
   pub whole : (path : List ℕ) → Leads at [] path
       → IsTold (at path) path w.files.keys w.left.items ⊎ IsNamed w.left.items path
   pub found : All (IsFound at) w.files.keys

@@ -170,7 +170,8 @@ fn pack_folder<F: Folder>(folder: &F, alloc: Global) -> Result<Packed, PackStop>
 ///
 /// A file that has no place in a workspace is left out, and so is what can't be read; each is
 /// named. Where `strict` says so, nothing may be left out. `folder` is read by its names and texts;
-/// links, folders whose name begins with a dot, and `bazel-*` in the root are passed over.
+/// links, folders whose name begins with a dot, `bazel-*` in the root and empty names are passed
+/// over.
 ///
 /// # Errors
 ///
