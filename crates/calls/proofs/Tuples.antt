@@ -1,6 +1,5 @@
 -- Tuples of keys and values, one after the other, and the heap that grows by them.
-use Rattle.std.proofs.Common.{◌≡◌, ℕ, zero, suc, ◌+◌, ◌≤◌, Bool, true, false, if◌then◌else◌, nat_lt, List, [], ◌∷◌, ◌++◌, map, length, take, drop, slice_get, Some, Result, Ok, Err, MatchResult, refl, sym, ap, ◌∙◌, subst, append_assoc, arith}
-use Rattle.depsets.proofs.Turns.{drop_at}
+use Rattle.std.proofs.Common.{◌≡◌, ℕ, ◌⊎◌, inl, inr, Bool, true, false, if◌then◌else◌, nat_lt, List, [], ◌∷◌, ◌++◌, map, length, take, Result, Ok, Err, MatchResult, refl, sym, ap, ◌∙◌, subst, append_assoc, arith}
 use Rattle.values.specs.Visits.{keys_of}
 use Rattle.ticks.specs.Ticking.{FaultOr}
 use Rattle.keys.specs.declared.key.Key.{Key}
@@ -9,7 +8,6 @@ use Rattle.values.specs.declared.value.Value.TheVariants as value
 use Rattle.values.specs.declared.cells.Cell.{Cell}
 use Rattle.values.specs.declared.cells.Cell.TheVariants as cell
 use Rattle.values.specs.declared.cells.TheConstants.{LARGEST}
-use Rattle.ticks.specs.declared.ticks.Kind.{Kind}
 use Rattle.ticks.specs.declared.ticks.Kind.TheVariants.{Large}
 use Rattle.ticks.specs.declared.ticks.Broken.{Broken}
 use Rattle.ticks.specs.declared.ticks.Broken.TheVariants as broken
@@ -64,25 +62,23 @@ pub no_tuple : (vs : List Value) (k v : Value) (s : State) (e : Broken) → Faul
 no_tuple vs k v s (broken.Kind f) h = ap (λ r. then_do r (λ t r. Ok (vs ++ t ∷ [], r))) h
 no_tuple vs k v s broken.NoMemory h = tt
 
-module _ (xs ys : List Value) (i : ℕ) (x y : Value) (p : slice_get xs i ≡ Some x) (q : slice_get ys i ≡ Some y) (vs : List Value) (s : State) where
-  turn : tuples_behind vs (drop i xs) (drop i ys) s ≡ then_do (tuple_behind vs x y s) (λ us t. tuples_behind us (drop (i + 1) xs) (drop (i + 1) ys) t)
-  turn = ap (λ l. tuples_behind vs l (drop i ys) s) (drop_at xs i x p) ∙ ap (λ l. tuples_behind vs (x ∷ drop (i + 1) xs) l s) (drop_at ys i y q)
+module _ (xs rest : List Value) (ys more : List Value) (x y : Value) (p : xs ≡ x ∷ rest) (q : ys ≡ y ∷ more) (vs : List Value) (s : State) where
+  turn : tuples_behind vs xs ys s ≡ then_do (tuple_behind vs x y s) (λ us t. tuples_behind us rest more t)
+  turn = λ j. tuples_behind vs (p j) (q j) s
 
-  pub turned : (us : List Value) (t : State) → tuple_behind vs x y s ≡ Ok (us, t) → tuples_behind vs (drop i xs) (drop i ys) s ≡ tuples_behind us (drop (i + 1) xs) (drop (i + 1) ys) t
-  turned us t e = turn ∙ ap (λ r. then_do r (λ us t. tuples_behind us (drop (i + 1) xs) (drop (i + 1) ys) t)) e
+  pub turned : (us : List Value) (t : State) → tuple_behind vs x y s ≡ Ok (us, t) → tuples_behind vs xs ys s ≡ tuples_behind us rest more t
+  turned us t e = turn ∙ ap (λ r. then_do r (λ us t. tuples_behind us rest more t)) e
 
-  pub unturned : (e : Broken) → FaultOr (tuple_behind vs x y s) e → FaultOr (tuples_behind vs (drop i xs) (drop i ys) s) e
-  unturned (broken.Kind f) h = turn ∙ ap (λ r. then_do r (λ us t. tuples_behind us (drop (i + 1) xs) (drop (i + 1) ys) t)) h
+  pub unturned : (e : Broken) → FaultOr (tuple_behind vs x y s) e → FaultOr (tuples_behind vs xs ys s) e
+  unturned (broken.Kind f) h = turn ∙ ap (λ r. then_do r (λ us t. tuples_behind us rest more t)) h
   unturned broken.NoMemory h = tt
 
-over : (i : ℕ) (vs : List Value) → length vs ≤ i → drop i vs ≡ []
-over zero [] l = refl
-over (suc i) [] l = refl
-over zero (v ∷ vs) l = absurd (omega (arith, l))
-over (suc i) (v ∷ vs) l = over i vs (omega (arith, l))
-
-pub all_behind : (vs xs ys : List Value) (i : ℕ) (s : State) → length xs ≤ i → tuples_behind vs (drop i xs) ys s ≡ Ok (vs, s)
-all_behind vs xs ys i s l = ap (λ l. tuples_behind vs l ys s) (over i xs l)
+-- where no key is left, or no value
+pub all_behind : (vs xs ys : List Value) (s : State) → (xs ≡ []) ⊎ (ys ≡ []) → tuples_behind vs xs ys s ≡ Ok (vs, s)
+all_behind vs [] ys s none = refl
+all_behind vs (x ∷ xs) [] s none = refl
+all_behind vs (x ∷ xs) (y ∷ ys) s (inl e) = absurd (cc)
+all_behind vs (x ∷ xs) (y ∷ ys) s (inr e) = absurd (cc)
 
 pub pushed_does : (vs ws p : List Value) (k v : Value) (s t : State) (u : Value) (r : Result (Unit {0}) Broken) → p ≡ k ∷ v ∷ [] → new_tuple p s ≡ Ok (u, t)
     → MatchResult r (λ x. ws ≡ vs ++ u ∷ []) (λ e. e ≡ broken.NoMemory)

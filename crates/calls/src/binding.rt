@@ -62,8 +62,8 @@ fn is_known(parameters: &[Parameter<'_>], name: &Text) -> bool
 fn may_get_all(parameters: &[Parameter<'_>], arguments: &Arguments<'_, '_>) -> bool
     ensures { result ≡ may_get_all 0 (map taken parameters.now) (given arguments.now) }
 {
-    for place in 0..parameters.len() {
-        if !may_get(&parameters[place], arguments, place) {
+    for (place, parameter) in parameters.iter().enumerate() {
+        if !may_get(parameter, arguments, place) {
             return false;
         }
     }

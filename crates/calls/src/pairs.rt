@@ -1,6 +1,5 @@
 //! `dict.items()`.
-ghost use Rattle.std.specs.Prelude.{◌≡◌, ◌<◌, ◌++◌, ◌∷◌, [], Ok, Err, Some, MatchResult, IfOk};
-ghost use Rattle.std.specs.Prelude.{OnOk, length, slice_get};
+ghost use Rattle.std.specs.Prelude.{◌≡◌, ◌++◌, ◌∷◌, [], Ok, Err, MatchResult, IfOk, OnOk, length};
 ghost use Rattle.ticks.specs.Ticking.{FaultOr};
 ghost use Rattle.values.specs.Shape.{shape};
 ghost use Rattle.values.specs.Seeing.{item_value};
@@ -73,7 +72,6 @@ fn list_tuples(
 }
 
 /// Makes a tuple of each key and its value.
-#[tactic(auto, using(crate::proofs::Tuples::all_behind))]
 fn put_tuples(
     alloc: Global,
     state: &mut State,
@@ -87,21 +85,12 @@ fn put_tuples(
         (λ _. tuples_behind tuples.old keys.now values.now state.old ≡ Ok (tuples.new, state.new))
         (λ e. FaultOr (tuples_behind tuples.old keys.now values.now state.old) e) }
 {
-    for place in 0..keys.len() {
-        let (key, value) = (value_at(keys, place), value_at(values, place));
+    for (key, value) in keys.iter().zip(values) {
         if let Err(broken) = put_tuple(alloc, state, key, value, tuples) {
             return Err(broken);
         }
     }
     Ok(())
-}
-
-/// The value at a place.
-fn value_at(values: &[Value], place: usize) -> &Value
-    requires { place < length values.now }
-    ensures { slice_get values.now place ≡ Some result.now }
-{
-    &values[place]
 }
 
 /// Makes a tuple of a key and its value.

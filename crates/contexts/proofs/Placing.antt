@@ -1,10 +1,10 @@
 -- Places of labels, found from the last dependency to the first.
-use Rattle.std.proofs.Common.{◌≡◌, ◌∙◌, ℕ, ◌+◌, ◌&&◌, Bool, true, false, List, ◌∷◌, Option, Some, length, drop, ap, sym, subst, refl, cond, arith}
+use Rattle.std.proofs.Common.{◌≡◌, ◌∙◌, ℕ, ◌+◌, ◌<◌, ◌&&◌, Bool, true, false, List, [], ◌∷◌, ◌++◌, Option, Some, length, drop, get_or, ap, sym, subst, refl, cond, arith}
 use Rattle.std.proofs.lemmas.Cmp.{nat_list_eq_equiv}
-use Rattle.std.proofs.lemmas.Option.{slice_get-map}
-use Rattle.std.specs.Prelude.{if◌then◌else◌, option_map, slice_get, unwrap_or}
+use Rattle.std.proofs.lemmas.List as list
+use Rattle.std.proofs.lemmas.List.{append_assoc, drop-map, drop_more, length_push}
+use Rattle.std.specs.Prelude.{if◌then◌else◌, unwrap_or}
 use Rattle.indexmap.specs.IndexMap.{IndexMap, Updates, get}
-use Rattle.depsets.proofs.Turns.{drop_at}
 use Rattle.workspace.specs.Labels.{LabelParts, same_label}
 use Rattle.targets.specs.Checks.{Dependency}
 use Rattle.analysis.specs.Seen.{dependency_seen, dependencies_seen}
@@ -24,32 +24,46 @@ turn true i n r o h = omega arith
 turn false i n r o h = omega (arith, h)
 
 -- a dependency where it lies
-at_drop : (ds : List Lying) (i : ℕ) (d : Lying) → slice_get ds i ≡ Some d → drop i (dependencies_seen ds) ≡ dependency_seen d ∷ drop (i + 1) (dependencies_seen ds)
-at_drop ds i d e = drop_at (dependencies_seen ds) i (dependency_seen d) (slice_get-map dependency_seen ds i ∙ ap (option_map dependency_seen) e)
+at_drop : (ds : List Lying) (i : ℕ) (d : Lying) → i < length ds → d ≡ get_or ds i d → drop i (dependencies_seen ds) ≡ dependency_seen d ∷ drop (i + 1) (dependencies_seen ds)
+at_drop ds i d low e =
+    drop-map dependency_seen i ds
+    ∙ ap dependencies_seen (drop_more ds i d low ∙ ap (λ x. x ∷ drop (i + 1) ds) (sym e))
+    ∙ ap (λ xs. dependency_seen d ∷ xs) (sym (drop-map dependency_seen (i + 1) ds))
 
 -- ---- by going through them
 
-tested : (ds : List Lying) (i : ℕ) (d : Lying) (l m : LabelParts) (b : Bool) → slice_get ds i ≡ Some d → m ≡ d.label.now → b ≡ same_label l m
+tested : (ds : List Lying) (i : ℕ) (d : Lying) (l m : LabelParts) (b : Bool) → i < length ds → d ≡ get_or ds i d → m ≡ d.label.now → b ≡ same_label l m
     → place_of (drop i (dependencies_seen ds)) l ≡ (if b then 0 else place_of (drop (i + 1) (dependencies_seen ds)) l + 1)
-tested ds i d l m b at is test =
-    ap (λ (xs : List Dependency). place_of xs l) (at_drop ds i d at)
+tested ds i d l m b low at is test =
+    ap (λ (xs : List Dependency). place_of xs l) (at_drop ds i d low at)
     ∙ ap (λ (t : Bool). if t then 0 else place_of (drop (i + 1) (dependencies_seen ds)) l + 1) (ap (same_label l) (sym is) ∙ sym test)
 
-pub here : (ds : List Lying) (i : ℕ) (d : Lying) (l m : LabelParts) (b : Bool) → slice_get ds i ≡ Some d → m ≡ d.label.now → b ≡ same_label l m → b ≡ true
+pub here : (ds : List Lying) (i : ℕ) (d : Lying) (l m : LabelParts) (b : Bool) → i < length ds → d ≡ get_or ds i d → m ≡ d.label.now → b ≡ same_label l m → b ≡ true
     → i + place_of (drop i (dependencies_seen ds)) l ≡ place_of (dependencies_seen ds) l → i ≡ place_of (dependencies_seen ds) l
-here ds i d l m b at is test same h =
+here ds i d l m b low at is test same h =
     let e : place_of (drop i (dependencies_seen ds)) l ≡ 0 =
-    tested ds i d l m b at is test ∙ ap (λ (t : Bool). if t then 0 else place_of (drop (i + 1) (dependencies_seen ds)) l + 1) same in
+    tested ds i d l m b low at is test ∙ ap (λ (t : Bool). if t then 0 else place_of (drop (i + 1) (dependencies_seen ds)) l + 1) same in
     omega (arith, e, h)
 
-pub later : (ds : List Lying) (i : ℕ) (d : Lying) (l m : LabelParts) (b : Bool) → slice_get ds i ≡ Some d → m ≡ d.label.now → b ≡ same_label l m → b ≡ false
+pub later : (ds : List Lying) (i : ℕ) (d : Lying) (l m : LabelParts) (b : Bool) → i < length ds → d ≡ get_or ds i d → m ≡ d.label.now → b ≡ same_label l m → b ≡ false
     → i + place_of (drop i (dependencies_seen ds)) l ≡ place_of (dependencies_seen ds) l → (i + 1) + place_of (drop (i + 1) (dependencies_seen ds)) l ≡ place_of (dependencies_seen ds) l
-later ds i d l m b at is test other h =
+later ds i d l m b low at is test other h =
     let e : place_of (drop i (dependencies_seen ds)) l ≡ place_of (drop (i + 1) (dependencies_seen ds)) l + 1 =
-    tested ds i d l m b at is test ∙ ap (λ (t : Bool). if t then 0 else place_of (drop (i + 1) (dependencies_seen ds)) l + 1) other in
+    tested ds i d l m b low at is test ∙ ap (λ (t : Bool). if t then 0 else place_of (drop (i + 1) (dependencies_seen ds)) l + 1) other in
     omega (arith, e, h)
 
 -- ---- by hash
+
+-- what is left before the last of those left
+pub left_over : (ds rest less : List Lying) (d : Lying) → rest ≡ less ++ d ∷ [] → rest ++ drop (length rest) ds ≡ ds
+    → (drop (length less) ds ≡ d ∷ drop (length less + 1) ds) × (less ++ drop (length less) ds ≡ ds)
+left_over ds rest less d p front =
+    let e : length rest ≡ length less + 1 = ap length p ∙ length_push less d in
+    let whole : less ++ d ∷ drop (length rest) ds ≡ ds = sym (append_assoc less (d ∷ []) (drop (length rest) ds)) ∙ ap (λ xs. xs ++ drop (length rest) ds) (sym p) ∙ front in
+    let last : drop (length less) ds ≡ d ∷ drop (length rest) ds = ap (drop (length less)) (sym whole) ∙ list.drop_at less (d ∷ drop (length rest) ds) (length less) refl in (
+      last ∙ ap (λ n. d ∷ drop n ds) e,
+      ap (λ xs. less ++ xs) last ∙ whole,
+    )
 
 module _ {S : Type 0} where
   -- the map has the first place of each label of the dependencies from here on
@@ -66,12 +80,15 @@ module _ {S : Type 0} where
       ∙ turn (same_label (key_label q) d.0) i (length ds) (place_of (drop (i + 1) ds) (key_label q)) (get same_key olds q) (h q)
       ∙ ap (λ (l : List Dependency). i + place_of l (key_label q)) (sym at)
 
-  -- a turn of the loop over places
-  pub placed_at : (ds : List Lying) (p i : ℕ) (d : Lying) (l : LabelParts) (olds news : IndexMap Key ℕ S) → p ≡ i + 1 → slice_get ds i ≡ Some d → l ≡ d.label.now
-      → HasFirst l i olds news → Places ds p olds → Places ds i news
-  placed_at ds p i d l olds news e at is put h =
-      placed_step i (dependencies_seen ds) (dependency_seen d) olds news (at_drop ds i d at)
-      (subst (λ (m : LabelParts). HasFirst m i olds news) is put) (subst (λ (n : ℕ). Places ds n olds) e h)
+  -- a turn of the loop over places, of which those before this one are left
+  pub placed_at : (ds rest less : List Lying) (i : ℕ) (d : Lying) (l : LabelParts) (olds news : IndexMap Key ℕ S) → rest ≡ less ++ d ∷ [] → rest ++ drop (length rest) ds ≡ ds → i ≡ length less
+      → l ≡ d.label.now → HasFirst l i olds news → Places ds (length rest) olds → Places ds (length less) news
+  placed_at ds rest less i d l olds news p front same is put h =
+      let e : length rest ≡ length less + 1 = ap length p ∙ length_push less d in
+      let at = (left_over ds rest less d p front).0 in
+      placed_step (length less) (dependencies_seen ds) (dependency_seen d) olds news
+      (drop-map dependency_seen (length less) ds ∙ ap dependencies_seen at ∙ ap (λ xs. dependency_seen d ∷ xs) (sym (drop-map dependency_seen (length less + 1) ds)))
+      (subst (λ (m : LabelParts). HasFirst m (length less) olds news) is (subst (λ (n : ℕ). HasFirst l n olds news) same put)) (subst (λ (n : ℕ). Places ds n olds) e h)
 
   -- a label that is put
   pub first_put : (k : Key) (l : LabelParts) (i : ℕ) (olds news : IndexMap Key ℕ S) → key_label k ≡ l → Updates same_key olds news k (Some i) → HasFirst l i olds news

@@ -127,8 +127,8 @@ fn is_same(a: &Label, b: &Label) -> bool
 fn place_among(all: &[Dependency<'_>], label: &Label) -> usize
     ensures { result ≡ place_of (dependencies_seen all.now) label.now }
 {
-    for place in 0..all.len() {
-        if is_same(label, dependency_at(all, place).label.get()) {
+    for (place, one) in all.iter().enumerate() {
+        if is_same(label, one.label.get()) {
             return place;
         }
     }
@@ -157,20 +157,10 @@ fn places<'a>(
     ensures { IfOk result (λ places. ArePlaced (dependencies_seen all.now) places) }
 {
     let mut places = IndexMap::with_capacity(alloc, all.len())?;
-    let mut place = all.len();
-    while place > 0 {
-        place -= 1;
-        put(dependency_at(all, place).label.get(), place, &mut places)?;
+    for (place, one) in all.iter().enumerate().rev() {
+        put(one.label.get(), place, &mut places)?;
     }
     Ok(places)
-}
-
-/// The dependency at a place.
-fn dependency_at<'a, 'b>(all: &'a [Dependency<'b>], place: usize) -> &'a Dependency<'b>
-    requires { place < length all.now }
-    ensures { slice_get all.now place ≡ Some result.now }
-{
-    &all[place]
 }
 
 /// Puts the place of a label, in place of a later one.

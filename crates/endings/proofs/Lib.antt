@@ -4,3 +4,4 @@ pub mod Places
 pub mod Ended
 mod Given
 mod Renamed
+mod FirstKeys

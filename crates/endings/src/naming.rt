@@ -1,6 +1,5 @@
 //! The names that globals give to what their module made.
-ghost use Rattle.std.specs.Prelude.{◌≡◌, ◌<◌, IfOk, OnOk, is_some, None, Some, length, replicate};
-ghost use Rattle.std.specs.Prelude.{slice_get};
+ghost use Rattle.std.specs.Prelude.{◌≡◌, IfOk, OnOk, is_some, None, Some, replicate};
 ghost use Rattle.std.specs.List.{list_all};
 ghost use Rattle.evaluation.specs.Naming.{unnamed, given_once, leaf_given, global_given};
 ghost use Rattle.evaluation.specs.Naming.{names_given, all_named};
@@ -118,11 +117,11 @@ impl Naming {
     ) -> Result<(), AllocError>
         ensures { OnOk result (self.new ≡ names_given self.old names.now globals.now) }
     {
-        for i in 0..globals.len() {
-            let Some(name) = names.get(i) else {
+        for (place, global) in globals.iter().enumerate() {
+            let Some(name) = names.get(place) else {
                 return Ok(());
             };
-            self.give_global(name, global_at(globals, i))?;
+            self.give_global(name, global)?;
         }
         Ok(())
     }
@@ -133,12 +132,4 @@ impl Naming {
     {
         have_names(self.providers.as_slice()) && have_names(self.rules.as_slice())
     }
-}
-
-/// The global at a place.
-fn global_at(globals: &[Option<Frozen>], place: usize) -> &Option<Frozen>
-    requires { place < length globals.now }
-    ensures { slice_get globals.now place ≡ Some result.now }
-{
-    &globals[place]
 }

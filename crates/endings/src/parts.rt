@@ -1,7 +1,7 @@
 //! The parts of frozen values, of which some are new.
-ghost use Rattle.std.specs.Prelude.{◌≡◌, ◌<◌, ◌≤◌, ◌++◌, ◌∷◌, ◌||◌, [], IfOk, OnOk, Some, None};
+ghost use Rattle.std.specs.Prelude.{◌≡◌, ◌≤◌, ◌++◌, ◌∷◌, ◌||◌, [], IfOk, OnOk, Some, None};
 ghost use Rattle.std.specs.Option.{option_or};
-ghost use Rattle.std.specs.Prelude.{is_some, length, min, slice_get, take, unwrap_or};
+ghost use Rattle.std.specs.Prelude.{is_some, length, min, take, unwrap_or};
 ghost use Rattle.std.specs.Prelude.{if◌then◌else◌};
 ghost use Rattle.values.specs.Tree.{dict, instance, list, pairs, slots, trees, tuple};
 
@@ -73,14 +73,6 @@ pub(crate) fn put_slot(
     Ok(())
 }
 
-/// The key at a place.
-fn one_of(keys: &[Key], place: usize) -> &Key
-    requires { place < length keys.now }
-    ensures { slice_get keys.now place ≡ Some result.now }
-{
-    &keys[place]
-}
-
 /// The first of these keys.
 fn first_keys(
     alloc: Global,
@@ -90,10 +82,9 @@ fn first_keys(
     requires { count ≤ length keys.now.keys }
     ensures { IfOk result (λ s. s.keys ≡ take count keys.now.keys) }
 {
-    let all = keys.as_slice();
     let mut first = IndexSet::with_capacity(alloc, count)?;
-    for i in 0..count {
-        first.insert(one_of(all, i).share()?)?;
+    for key in keys.as_slice().iter().take(count) {
+        first.insert(key.share()?)?;
     }
     Ok(first)
 }

@@ -1,19 +1,22 @@
 -- Places of names, found from the last name to the first.
-use Rattle.std.proofs.Common.{◌≡◌, ◌∙◌, ℕ, ◌+◌, suc, Bool, true, false, ◌||◌, refl, List, [], ◌∷◌, drop, slice_get, Option, Some, if◌then◌else◌, ap, sym, subst, add-one}
-use Rattle.std.proofs.Math.Seq.{drop-cons}
+use Rattle.std.proofs.Common.{◌≡◌, ◌∙◌, ℕ, ◌+◌, Bool, true, false, ◌||◌, refl, List, [], ◌∷◌, ◌++◌, drop, length, Option, Some, if◌then◌else◌, ap, sym, subst}
 use Rattle.std.proofs.lemmas.Cmp.{nat_list_eq_equiv}
-use Rattle.std.proofs.lemmas.Option.{slice_get_within, get_or_from_slice_get}
+use Rattle.std.proofs.lemmas.List.{append_assoc, drop_at, length_push}
 use Rattle.std.specs.BTreeMap.{BTreeMap, Updates, get, is_at}
 use Rattle.std.specs.Cmp.Lexicographic.{texts_ties}
 use Rattle.std.specs.Prelude.{bytes_eq, is_some}
 use Rattle.std.specs.List.{list_any, position_from}
 use Rattle.first_places.specs.Places.{name_cmp, place_named, HasFirst}
 
--- what stands from a place on
-from_place : (names : List (List ℕ)) (i : ℕ) (n : List ℕ) → slice_get names i ≡ Some n → drop i names ≡ n ∷ drop (i + 1) names
-from_place names i n at =
-    drop-cons names i n (slice_get_within names i n at) ∙ ap (λ m. m ∷ drop (suc i) names) (get_or_from_slice_get names i n n at)
-    ∙ ap (λ j. n ∷ drop j names) (sym (add-one i))
+-- what is left before the last of those left, where those left stand before the others
+pub left_over : {A : Type 0} (xs left less : List A) (x : A) → left ≡ less ++ x ∷ [] → left ++ drop (length left) xs ≡ xs
+    → (drop (length less) xs ≡ x ∷ drop (length less + 1) xs) × (less ++ drop (length less) xs ≡ xs)
+left_over xs left less x p front =
+    let whole : less ++ x ∷ drop (length left) xs ≡ xs = sym (append_assoc less (x ∷ []) (drop (length left) xs)) ∙ ap (λ l. l ++ drop (length left) xs) (sym p) ∙ front in
+    let last : drop (length less) xs ≡ x ∷ drop (length left) xs = ap (drop (length less)) (sym whole) ∙ drop_at less (x ∷ drop (length left) xs) (length less) refl in (
+      last ∙ ap (λ n. x ∷ drop n xs) (ap length p ∙ length_push less x),
+      ap (λ l. less ++ l) last ∙ whole,
+    )
 
 module _ {K : Type 0} (name : K → List ℕ) where
   -- the map has the first place of each name from here on
@@ -28,13 +31,14 @@ module _ {K : Type 0} (name : K → List ℕ) where
   first_put k n i olds news is h = λ q.
       h.0 q ∙ ap (λ b. if b then Some i else get (name_cmp name) olds q) (at_name k q ∙ ap (bytes_eq (name q)) is)
 
-  -- a turn of the loop over places
-  pub placed_at : (names : List (List ℕ)) (p i : ℕ) (n : List ℕ) (olds news : BTreeMap K ℕ) → p ≡ i + 1 → slice_get names i ≡ Some n → HasFirst name n i olds news
-      → ArePlacedFrom p names olds → ArePlacedFrom i names news
-  placed_at names p i n olds news e at put h = λ q.
-      put q
-      ∙ ap (λ o. if bytes_eq (name q) n then Some i else o) (subst (λ (m : ℕ). ArePlacedFrom m names olds) e h q)
-      ∙ ap (position_from (bytes_eq (name q)) i) (sym (from_place names i n at))
+  -- a turn of the loop over places, back from the last
+  pub placed_at : (names left less : List (List ℕ)) (i : ℕ) (n : List ℕ) (olds news : BTreeMap K ℕ) → left ≡ less ++ n ∷ [] → left ++ drop (length left) names ≡ names → i ≡ length less
+      → HasFirst name n i olds news → ArePlacedFrom (length left) names olds → ArePlacedFrom (length less) names news
+  placed_at names left less i n olds news p front here put h = λ q.
+      let e = ap length p ∙ length_push less n in
+      subst (λ (k : ℕ). HasFirst name n k olds news) here put q
+      ∙ ap (λ o. if bytes_eq (name q) n then Some (length less) else o) (subst (λ (m : ℕ). ArePlacedFrom m names olds) e h q)
+      ∙ ap (position_from (bytes_eq (name q)) (length less)) (sym (left_over names left less n p front).0)
 
 found : (b : Bool) (i : ℕ) (o : Option ℕ) (rest : Bool) → is_some o ≡ rest → is_some (if b then Some i else o) ≡ (b || rest)
 found true i o rest h = refl

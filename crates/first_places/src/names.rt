@@ -3,7 +3,7 @@ ghost use Rattle.std.specs.Prelude.{◌≡◌, ◌<◌, IfOk, OnOk, bytes_eq, le
 ghost use Rattle.std.specs.List.{list_any};
 ghost use Rattle.first_places.specs.Places.{ArePlaced, HasFirst, place_named};
 
-use crate::places::{FEW, name_at, place_named};
+use crate::places::{FEW, place_named};
 use plain::Text;
 use std::alloc::{AllocError, Global};
 use std::collections::BTreeMap;
@@ -88,10 +88,8 @@ fn places(alloc: Global, names: &[Text]) -> Result<BTreeMap<Text, usize>, AllocE
     ensures { IfOk result (ArePlaced (λ q. q) names.now) }
 {
     let mut places = BTreeMap::new(alloc);
-    let mut place = names.len();
-    while place > 0 {
-        place -= 1;
-        put(name_at(names, place), place, &mut places)?;
+    for (place, name) in names.iter().enumerate().rev() {
+        put(name, place, &mut places)?;
     }
     Ok(places)
 }

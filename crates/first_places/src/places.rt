@@ -1,5 +1,5 @@
 //! Names by their first places.
-ghost use Rattle.std.specs.Prelude.{◌≡◌, ◌<◌, Some, IfOk, OnOk, bytes_eq, length, slice_get};
+ghost use Rattle.std.specs.Prelude.{◌≡◌, ◌<◌, Some, IfOk, OnOk, bytes_eq, length};
 ghost use Rattle.std.specs.List.{list_any};
 ghost use Rattle.first_places.specs.Places.{ArePlaced, HasFirst, place_named};
 
@@ -86,10 +86,8 @@ fn places<'a>(alloc: Global, names: &'a [Text]) -> Result<BTreeMap<&'a str, usiz
     ensures { IfOk result (ArePlaced (λ q. q.now) names.now) }
 {
     let mut places = BTreeMap::new(alloc);
-    let mut place = names.len();
-    while place > 0 {
-        place -= 1;
-        put(name_at(names, place), place, &mut places)?;
+    for (place, name) in names.iter().enumerate().rev() {
+        put(name, place, &mut places)?;
     }
     Ok(places)
 }
@@ -111,12 +109,4 @@ pub fn place_named(name: &str, names: &[Text]) -> Option<usize>
     ensures { result ≡ place_named name.now names.now }
 {
     names.iter().position(|other| name == other.as_str())
-}
-
-/// The name at a place.
-pub(crate) fn name_at(names: &[Text], place: usize) -> &Text
-    requires { place < length names.now }
-    ensures { slice_get names.now place ≡ Some result.now }
-{
-    &names[place]
 }

@@ -4,7 +4,7 @@
 //! blocks that are open, each as a stack; brackets and columns are tested together, in the order of
 //! the text.
 
-ghost use Rattle.std.specs.Prelude.{◌≡◌, ◌+◌, List, ℕ, [], ◌∷◌, ◌++◌, ◌<◌, map, drop, length, Ok};
+ghost use Rattle.std.specs.Prelude.{◌≡◌, ◌+◌, List, ℕ, [], ◌∷◌, ◌++◌, ◌<◌, map, Ok};
 ghost use Rattle.std.specs.Prelude.{Some, None, IfOk, IfErr, if◌then◌else◌};
 ghost use Rattle.std.specs.Bool.{MatchBool};
 ghost use Rattle.lexer.specs.Layout.{opening, closing, opened, closed, after_mark, back_to};
@@ -254,14 +254,6 @@ fn note(starts: &mut Vec<usize>, counts: bool, place: usize) -> Result<(), Parse
     Ok(())
 }
 
-/// The token at a place, which stands before those that follow it.
-fn token_at(tokens: &[Token], place: usize) -> Token
-    requires { place < length tokens.now }
-    ensures { drop place tokens.now ≡ result ∷ drop (place + 1) tokens.now }
-{
-    tokens[place]
-}
-
 /// Goes on behind a token, and notes its place where it begins a logical line.
 fn go_on(
     layout: &mut Layout,
@@ -291,9 +283,8 @@ pub(crate) fn line_starts(alloc: Global, tokens: &[Token]) -> Result<Vec<usize>,
 {
     let mut layout = Layout::new(alloc);
     let mut starts = Vec::new(alloc);
-    for i in 0..tokens.len() {
-        let token = token_at(tokens, i);
-        if let Err(stop) = go_on(&mut layout, &mut starts, i, token) {
+    for (place, token) in tokens.iter().enumerate() {
+        if let Err(stop) = go_on(&mut layout, &mut starts, place, *token) {
             return Err(stop);
         }
     }

@@ -31,15 +31,15 @@ pub(crate) fn body_length(quote: u8, rest: &[u8]) -> Option<usize>
     ensures within { IfSome result (λ n. n < length rest.now) }
 {
     let mut escaped = false;
-    for i in 0..rest.len() {
-        let b = rest[i];
+    for (place, b) in rest.iter().enumerate() {
+        let b = *b;
         if escaped {
             if !is_escape(b) {
                 return None;
             }
             escaped = false;
         } else if b == quote {
-            return Some(i);
+            return Some(place);
         } else if b == b'\n' {
             return None;
         } else {

@@ -1,11 +1,11 @@
 -- What modules came to, sorted out and found by path.
-use Rattle.std.proofs.Common.{◌≡◌, ℕ, zero, suc, ◌+◌, ◌<◌, ◌≤◌, inl, inr, true, false, ◌||◌, List, [], ◌∷◌, ◌++◌, length, map, take, get_or, set, add-one, Option, Some, None, Result, sym, ap, ◌∙◌, subst, arith, refl, true≢false}
+use Rattle.std.proofs.Common.{◌≡◌, ℕ, ◌<◌, ◌⊎◌, inl, inr, true, false, ◌||◌, List, [], ◌∷◌, ◌++◌, length, map, get_or, Option, Some, None, Result, sym, ap, ◌∙◌, subst, arith, refl, true≢false}
 use Rattle.std.specs.Prelude.{if◌then◌else◌, MatchOption}
 use Rattle.std.specs.Option.{option_copied, option_flatten}
 use Rattle.std.specs.Borrow.{Bor}
 use Rattle.std.specs.Str.{bytes_eq}
 use Rattle.std.specs.List.{list_any}
-use Rattle.std.proofs.lemmas.List.{append-nil, append_assoc, get_or_default, get_or-set_other, get_or_past, map_more}
+use Rattle.std.proofs.lemmas.List.{append-nil, get_or_default, get_or_past}
 use Rattle.std.proofs.lemmas.Slice.Eq.{bytes_eq-Decides}
 use Rattle.edges.specs.Rows.{has}
 use Rattle.edges.proofs.Tests.{cases_of}
@@ -23,35 +23,16 @@ use Rattle.modules.specs.Loading.{AreLinks, IsReady}
 
 -- ---- sorting out
 
-faults_suc : {M S K : Type 0} (ps : List Path) (rs : List (Option (Result M (LoadFault S K)))) (i : ℕ) → i < length ps → i < length rs
-    → faults_in (take (suc i) ps) (take (suc i) rs) ≡ faults_in (take i ps) (take i rs) ++ fault_in (get_or ps i []) (get_or rs i None)
-faults_suc [] rs i low low' = absurd (omega (arith, low))
-faults_suc (p ∷ ps) [] i low low' = absurd (omega (arith, low'))
-faults_suc (p ∷ ps) (r ∷ rs) zero low low' = append-nil (fault_in p r)
-faults_suc (p ∷ ps) (r ∷ rs) (suc i) low low' =
-    ap (λ l. fault_in p r ++ l) (faults_suc ps rs i (omega (arith, low)) (omega (arith, low')))
-    ∙ sym (append_assoc (fault_in p r) (faults_in (take i ps) (take i rs)) (fault_in (get_or ps i []) (get_or rs i None)))
+-- where nothing is left, what was gathered is all
+pub nothing_more : {A : Type 0} (xs rest all : List A) → rest ≡ [] → xs ++ rest ≡ all → xs ≡ all
+nothing_more xs rest all none had = sym (append-nil xs) ∙ ap (λ l. xs ++ l) (sym none) ∙ had
 
--- ---- a turn over what is done
-
-module _ {M S K : Type 0} (ps : List Path) (initial done : List (Option (Result M (LoadFault S K)))) (n : ℕ) (low : n < length ps) (size : length initial ≡ length ps) (size' : length done ≡ length initial)
-    (rest : (m : ℕ) → n ≤ m → get_or done m None ≡ get_or initial m None) (o d : Option (Result M (LoadFault S K))) (taken : o ≡ d) (read : d ≡ get_or done n d) where
-  outcome_is : o ≡ get_or initial n None
-  outcome_is = taken ∙ read ∙ get_or_default done n d None (omega (arith, low, size, size')) ∙ rest n (omega arith)
-
-  pub rest_more : (m : ℕ) → n + 1 ≤ m → get_or (set done n None) m None ≡ get_or initial m None
-  rest_more m past = get_or-set_other done n m None None (omega (arith, past)) ∙ rest m (omega (arith, past))
-
-  pub values_more : (values new : List (Option M)) → values ≡ map value_in (take n initial) → new ≡ values ++ value_in o ∷ [] → new ≡ map value_in (take (n + 1) initial)
-  values_more values new was more =
-      more ∙ ap (λ l. l ++ value_in o ∷ []) was ∙ ap (λ x. map value_in (take n initial) ++ value_in x ∷ []) outcome_is ∙ sym (map_more value_in initial n None (omega (arith, low, size)))
-
-  pub faults_more : (p : Path) (faults new : List (FileFault S K)) → p ≡ get_or ps n p → faults ≡ faults_in (take n ps) (take n initial) → new ≡ faults ++ fault_in p o → new ≡ faults_in (take (n + 1) ps) (take (n + 1) initial)
-  faults_more p faults new at was more =
-      more ∙ ap (λ l. l ++ fault_in p o) was
-      ∙ ap (λ x. faults_in (take n ps) (take n initial) ++ fault_in x o) (at ∙ get_or_default ps n p [] low)
-      ∙ ap (λ x. faults_in (take n ps) (take n initial) ++ fault_in (get_or ps n []) x) outcome_is
-      ∙ sym (ap (λ k. faults_in (take k ps) (take k initial)) (add-one n) ∙ faults_suc ps initial n low (omega (arith, low, size)))
+-- where one of two lists of one length is empty, both are
+pub both_spent : {X Y : Type 0} (xs : List X) (ys : List Y) → length ys ≡ length xs → (length xs ≡ 0) ⊎ (length ys ≡ 0) → (xs ≡ []) × (ys ≡ [])
+both_spent [] [] size one = (refl, refl)
+both_spent [] (y ∷ ys) size one = absurd (omega (arith, size))
+both_spent (x ∷ xs) ys size (inl e) = absurd (omega (arith, e))
+both_spent (x ∷ xs) ys size (inr e) = absurd (omega (arith, size, e))
 
 module _ {M S K : Type 0} (f : Path → Result M (LoadFault S K)) where
   pub faults_are : (ps : List Path) → faults_in ps (map (λ p. Some (f p)) ps) ≡ faults_of f ps

@@ -46,7 +46,7 @@ fn put<M: Drop, S: Drop, K: Drop>(
 pub(crate) fn sorted_out<M: Drop, S: Drop, K: Drop>(
     alloc: Global,
     paths: &[Text],
-    mut done: Vec<Option<Result<M, Placed<LoadFaultKind<S, K>>>>>,
+    done: Vec<Option<Result<M, Placed<LoadFaultKind<S, K>>>>>,
 ) -> Result<(Vec<Option<M>>, Vec<FileFault<S, K>>), AllocError>
     requires size { length done.items ≡ length paths.now }
     ensures values { IfOk result (λ r. r.0.items ≡ map value_in done.items) }
@@ -54,9 +54,8 @@ pub(crate) fn sorted_out<M: Drop, S: Drop, K: Drop>(
 {
     let mut values = Vec::with_capacity(alloc, paths.len())?;
     let mut faults = Vec::new(alloc);
-    for n in 0..paths.len() {
-        let outcome = done[n].take();
-        put(&mut values, &mut faults, &paths[n], outcome)?;
+    for (path, outcome) in paths.iter().zip(done) {
+        put(&mut values, &mut faults, path, outcome)?;
     }
     Ok((values, faults))
 }

@@ -281,14 +281,6 @@ fn step(blocks: &mut Stack<Open>, line: Outline, next: Option<Outline>) -> Resul
     go_on(blocks, block, form, line, next)
 }
 
-/// The line at a place, which stands before those that follow it.
-fn outline_at(lines: &[Outline], place: usize) -> Outline
-    requires { place < length lines.now }
-    ensures { drop place lines.now ≡ result ∷ drop (place + 1) lines.now }
-{
-    lines[place]
-}
-
 /// The line behind a place.
 fn next_of(lines: &[Outline], place: usize) -> Option<Outline>
     requires { place < length lines.now }
@@ -318,10 +310,9 @@ pub(crate) fn lines_stand(alloc: Global, lines: &[Outline], top: Place) -> Resul
         after: false,
         early: true,
     })?;
-    for i in 0..lines.len() {
-        let line = outline_at(lines, i);
-        let next = next_of(lines, i);
-        if let Err(stop) = step(&mut blocks, line, next) {
+    for (place, line) in lines.iter().enumerate() {
+        let next = next_of(lines, place);
+        if let Err(stop) = step(&mut blocks, *line, next) {
             return Err(stop);
         }
     }

@@ -3,14 +3,18 @@ use Rattle.std.proofs.Common.{◌≡◌, ◌+◌, ◌-◌, ◌<◌, ◌≤◌, �
 use Rattle.std.proofs.Math.ListN.{get_or}
 use Rattle.grammar.specs.BareDepth.{lines_depth}
 use Rattle.grammar.specs.BareLines.{Lines, a_line, no_lines}
-use Rattle.grammar.specs.LineView.{line_step, lines}
+use Rattle.grammar.specs.LineView.{line_of, line_step, lines}
 use Rattle.grammar.specs.declared.statements.Line.{Line, out-Line}
 use Rattle.grammar.specs.declared.statements.Line.TheFolds.{fold_out-Line}
 use Rattle.scopes.proofs.NameLemmas.{drop_at}
 use Rattle.syntax.specs.Resolves.{before_lines, line_depth}
 
+-- a line and what stands behind it
+pub line_is : (l : Line) (rest : Lines) → line_of l rest ≡ before_lines l rest
+line_is l rest = ap (λ f. f rest) (fold_out-Line (Lines → Lines) line_step l)
+
 line_seen : (l : Line) (ls : List Line) → lines (l ∷ ls) ≡ before_lines l (lines ls)
-line_seen l ls = ap (λ f. f (lines ls)) (fold_out-Line (Lines → Lines) line_step l)
+line_seen l ls = line_is l (lines ls)
 
 -- the first line of some, and those behind it
 pub first_depth : (l : Line) (ls : List Line) (n : ℕ) → lines_depth (lines (l ∷ ls)) ≤ n → (line_depth l ≤ n) × (lines_depth (lines ls) ≤ n)

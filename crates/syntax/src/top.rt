@@ -1,12 +1,9 @@
 //! The rules of what the top level of a file binds: no name a second time, and nothing is added to
 //! one.
 
-ghost use Rattle.std.specs.Prelude.{◌≡◌, ◌+◌, ◌<◌, ◌++◌, ◌∷◌, [], ℕ, List, None, IfOk, drop};
-ghost use Rattle.std.specs.Prelude.{length, take, true};
+ghost use Rattle.std.specs.Prelude.{◌≡◌, ◌++◌, [], ℕ, List, None, IfOk, length, take, true};
 ghost use Rattle.grammar.specs.LineView as view;
-ghost use Rattle.grammar.specs.BareLines.{Lines, a_line};
-ghost use Rattle.grammar.specs.LineView.{form_of, line_of};
-ghost use Rattle.grammar.specs.declared.statements.Line.{out-Line};
+ghost use Rattle.grammar.specs.LineView.{form_of};
 ghost use Rattle.program_tree.specs.Names.{Scope as Around, among, file_scope, form_binds};
 ghost use Rattle.program_tree.specs.Names.{loads_bind, or_else};
 ghost use Rattle.syntax.specs.Resolves.{binds_anew};
@@ -63,17 +60,6 @@ fn binds_anew<'t>(
     Ok(!matches!(form, Form::Add(_, _)))
 }
 
-/// The line at a place.
-fn line_at<'l, 't>(lines: &'l [Line<'t>], place: usize) -> &'l Line<'t>
-    requires { place < length lines.now }
-    ensures at { drop place lines.now ≡ result.now ∷ drop (place + 1) lines.now }
-    ensures seen { (rest : Lines) → line_of result.now rest
-        ≡ a_line (out-Line result.now).number (form_of (out-Line result.now).form)
-        (view.lines (out-Line result.now).block.items) rest }
-{
-    &lines[place]
-}
-
 /// How many lines of a top level stand before the first that binds what it may not, and the number
 /// of that line.
 pub(crate) fn until_rebound(
@@ -86,10 +72,9 @@ pub(crate) fn until_rebound(
     ensures whole { IfOk result (λ r. r.1 ≡ None → take r.0 lines.now ≡ lines.now) }
 {
     let mut before = IndexSet::new(alloc);
-    for i in 0..lines.len() {
-        let line = line_at(lines, i);
+    for (place, line) in lines.iter().enumerate() {
         if !binds_anew(alloc, &mut before, &line.form)? {
-            return Ok((i, Some(line.number)));
+            return Ok((place, Some(line.number)));
         }
     }
     Ok((lines.len(), None))

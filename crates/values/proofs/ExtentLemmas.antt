@@ -1,21 +1,36 @@
 -- Laws of what a visit of a frozen value finds.
-use Rattle.std.proofs.Common.{◌≡◌, ℕ, ◌+◌, ◌-◌, ◌<◌, List, [], ◌∷◌, Option, Some, None, drop, length, slice_get, true, refl, sym, ap, subst, ◌∙◌, arith}
-use Rattle.depsets.proofs.Turns.{drop_at}
-use Rattle.values.specs.Tree.{pairs, slots}
+use Rattle.std.proofs.Common.{◌≡◌, ◌+◌, List, [], ◌∷◌, ◌++◌, drop, length, true, refl, sym, ap, subst, ◌∙◌, arith}
+use Rattle.std.proofs.lemmas.List.{append_assoc, drop_at, length_push}
+use Rattle.values.specs.Tree.{pairs}
 use Rattle.values.specs.View.{FrozenTree}
 use Rattle.ticks.specs.Extents.{Measure, IsExtent, beside, one}
-use Rattle.values.specs.Extents.{measure, pairs_measure, slots_measure, values_measure}
+use Rattle.values.specs.Extents.{measure, pairs_measure, values_measure}
 use Rattle.ticks.specs.declared.extent.Extent.{Extent}
 use Rattle.keys.specs.declared.key.Key.{Key}
 
--- one turn of a loop that goes back over parts: what is found of those behind, and one before them
-pub gathered : {A : Type 0} (m : List A → Measure) (g : A → Measure → Measure) → ((x : A) (xs : List A) → m (x ∷ xs) ≡ g x (m xs))
-    → (xs : List A) (e new : Extent) (p : ℕ) (x : A) → 0 < p → slice_get xs (p - 1) ≡ Some x → IsExtent e (m (drop p xs))
-    → ((n : Measure) → IsExtent e n → IsExtent new (g x n)) → IsExtent new (m (drop (p - 1) xs))
-gathered m g law xs e new p x positive at behind step =
-    let same : p ≡ (p - 1) + 1 = omega (arith, positive) in
-    subst (IsExtent new) (sym (ap m (drop_at xs (p - 1) x at) ∙ law x (drop ((p - 1) + 1) xs)))
-    (step (m (drop ((p - 1) + 1) xs)) (subst (λ k. IsExtent e (m (drop k xs))) same behind))
+-- a loop that goes back over xs: those that are left stand before the others
+abbrev pub AreLeft : {A : Type 0} → List A → List A → Type 0
+AreLeft xs left = left ++ drop (length left) xs ≡ xs
+
+-- one turn of it
+module _ {A : Type 0} (xs left less : List A) (x : A) (p : left ≡ less ++ x ∷ []) (before : AreLeft xs left) where
+  one_less : length left ≡ length less + 1
+  one_less = ap length p ∙ length_push less x
+
+  whole : less ++ x ∷ drop (length left) xs ≡ xs
+  whole = sym (append_assoc less (x ∷ []) (drop (length left) xs)) ∙ ap (λ l. l ++ drop (length left) xs) (sym p) ∙ before
+
+  behind_less : drop (length less) xs ≡ x ∷ drop (length left) xs
+  behind_less = ap (drop (length less)) (sym whole) ∙ drop_at less (x ∷ drop (length left) xs) (length less) refl
+
+  pub are_left : AreLeft xs less
+  are_left = ap (λ l. less ++ l) behind_less ∙ whole
+
+  -- what is found of those behind, and of one before them
+  pub gathered : (m : List A → Measure) (g : A → Measure → Measure) → ((y : A) (ys : List A) → m (y ∷ ys) ≡ g y (m ys))
+      → (e new : Extent) → IsExtent e (m (drop (length left) xs)) → ((n : Measure) → IsExtent e n → IsExtent new (g x n)) → IsExtent new (m (drop (length less) xs))
+  gathered m g law e new behind step =
+      subst (IsExtent new) (sym (ap m behind_less ∙ law x (drop (length left) xs))) (step (m (drop (length left) xs)) behind)
 
 -- of entries by place, keys count as one each
 pub pairs-values : (ks : List Key) (ts : List FrozenTree) → length ks ≡ length ts → pairs_measure (pairs ks ts) ≡ values_measure ts
@@ -25,12 +40,3 @@ pairs-values (k ∷ ks) [] h = absurd (omega arith)
 pairs-values (k ∷ ks) (t ∷ ts) h =
     let rest = pairs-values ks ts (omega arith) in
     ap (λ m. beside (one true) (beside (measure t) m)) rest
-
--- what a visit finds in a field and in those behind it, whose measure is m
-abbrev pub with_slot : Option FrozenTree → Measure → Measure
-with_slot None m = m
-with_slot (Some t) m = beside (measure t) m
-
-pub slots-next : (o : Option FrozenTree) (os : List (Option FrozenTree)) → slots_measure (slots (o ∷ os)) ≡ with_slot o (slots_measure (slots os))
-slots-next None os = refl
-slots-next (Some t) os = refl

@@ -1,5 +1,5 @@
 -- What a frozen value shows, from its parts by place.
-use Rattle.std.proofs.Common.{◌≡◌, ℕ, zero, suc, ◌+◌, ◌<◌, ◌≤◌, List, [], ◌∷◌, length, drop, drop_of_length-le, map, slice_get, Option, Some, None, refl, sym, ap, ◌∙◌, arith, min, Bool, true, false, cond, not, ⊎_elim, nat_lt}
+use Rattle.std.proofs.Common.{◌≡◌, ℕ, zero, suc, ◌+◌, ◌<◌, ◌≤◌, List, [], ◌∷◌, length, map, slice_get, Option, Some, None, refl, sym, ap, ◌∙◌, arith, min, Bool, true, false, cond, not, ⊎_elim, nat_lt}
 use Rattle.std.proofs.lemmas.Bool.{cases_Bool}
 use Rattle.std.proofs.lemmas.Bool.Decides.{nat_tests}
 use borrow.Author.Tests.{ltb-true}
@@ -8,7 +8,7 @@ use Rattle.std.specs.Map.{lookup}
 use Rattle.leaves.specs.Leaves.{same_key}
 use Rattle.keys.specs.declared.key.Key.TheVariants as key
 use Rattle.keys.specs.contracts.key.KeyPartialEq.TheImpl.{eq-value}
-use Rattle.values.specs.Tree.{stop, trees, tree_list, pairs, pair_list, slots, slot_list}
+use Rattle.values.specs.Tree.{trees, tree_list, pairs, pair_list, slots, slot_list}
 use Rattle.values.specs.View.{FrozenTree}
 use Rattle.values.specs.Shape.{value_of, entry_of, zip}
 use Rattle.keys.specs.declared.key.Key.{Key}
@@ -21,22 +21,6 @@ pub slot_list-slots : (os : List (Option FrozenTree)) → slot_list (slots os) �
 slot_list-slots [] = refl
 slot_list-slots (None ∷ os) = ap (λ l. None ∷ l) (slot_list-slots os)
 slot_list-slots (Some t ∷ os) = ap (λ l. Some t ∷ l) (slot_list-slots os)
-
-abbrev no_keys : List Key
-no_keys = []
-
-abbrev no_trees : List FrozenTree
-no_trees = []
-
-pairs-none : (ks : List Key) → pairs ks no_trees ≡ stop
-pairs-none [] = refl
-pairs-none (k ∷ ks) = refl
-
-pub pairs-short : (ks : List Key) (ts : List FrozenTree) (n : ℕ) → min (length ks) (length ts) ≤ n → pairs (drop n ks) (drop n ts) ≡ stop
-pairs-short [] ts n l = ap (λ l. pairs l (drop n ts)) (drop_of_length-le no_keys (omega arith))
-pairs-short (k ∷ ks) [] n l = ap (pairs (drop n (k ∷ ks))) (drop_of_length-le no_trees (omega arith)) ∙ pairs-none (drop n (k ∷ ks))
-pairs-short (k ∷ ks) (t ∷ ts) zero l = absurd (omega arith)
-pairs-short (k ∷ ks) (t ∷ ts) (suc n) l = pairs-short ks ts n (omega arith)
 
 pub zip-pairs : (ks : List Key) (ts : List FrozenTree) → zip ks ts ≡ map entry_of (pair_list (pairs ks ts))
 zip-pairs [] ts = refl

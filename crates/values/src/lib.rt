@@ -28,6 +28,6 @@ pub use leaves::{
     AttributeKind, AttributeRef, BuiltIn, ExportName, Exported, FunctionRef, Leaf, MadeId, Names,
     Object, Provider, ProviderRef, RuleRef,
 };
-pub use sees::{Group, Item, Seen, Slots, Table, part_at};
+pub use sees::{Group, Item, Seen, Slots, Table};
 pub use ticks::{Broken, Extent, Kind, Ticks, VISITED_LEVELS};
 pub use value::Value;

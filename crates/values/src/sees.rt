@@ -59,7 +59,7 @@ pub enum Seen<'a> {
 
 /// The part at a place.
 #[inline(always)]
-pub fn part_at<T>(parts: &[T], place: usize) -> &T
+fn part_at<T>(parts: &[T], place: usize) -> &T
     requires { place < length parts.now }
     ensures { slice_get parts.now place ≡ Some result.now }
 {

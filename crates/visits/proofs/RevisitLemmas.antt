@@ -1,5 +1,5 @@
 -- Freezing what is frozen gives the same tree, with the ticks of its visit.
-use Rattle.std.proofs.Common.{◌≡◌, ℕ, zero, suc, ◌+◌, ◌-◌, ◌<◌, Bool, true, false, List, [], ◌∷◌, length, drop, slice_get, Option, Some, None, map, Result, Ok, Err, if◌then◌else◌, refl, sym, ap, ◌∙◌, arith, add-one}
+use Rattle.std.proofs.Common.{◌≡◌, ℕ, zero, suc, ◌+◌, ◌-◌, Bool, true, false, List, [], ◌∷◌, length, take, Option, Some, None, map, Result, Ok, Err, if◌then◌else◌, refl, sym, ap, ◌∙◌, arith}
 use Rattle.values.specs.Tree.{Trees, Pairs, Slots, key as key_tree, leaf, branch, list, tuple, dict, instance, none, more, stop, pair, end, missing, given, trees, tree_list, pairs, pair_list, slots, slot_list}
 use Rattle.values.specs.View.{FrozenTree, FrozenBranch}
 use Rattle.values.specs.Shape.{shape, tree_shape, branch_shape, value_of, entry_of, slot_of}
@@ -152,19 +152,14 @@ module _ {T : Type 0} (f : T → Count → Result Count Kind) where
   pub visited-fault : (t : T) (ts us : List T) (c : Count) (k : Kind) → ts ≡ t ∷ us → f t c ≡ Err k → all_visited f ts c ≡ Err k
   visited-fault t ts us c k p h = first t ts us c (Err k) p h
 
-  pub visited-end : (ts : List T) (c : Count) → ts ≡ [] → all_visited f ts c ≡ Ok c
-  visited-end ts c p = ap (λ l. all_visited f l c) p
+-- the values of pairs are those of the trees that have a key
+pub values-taken : (ks : List Key) (ts : List FrozenTree) → take (length ks) ts ≡ values_in (pairs ks ts)
+values-taken [] ts = refl
+values-taken (k ∷ ks) [] = refl
+values-taken (k ∷ ks) (t ∷ ts) = ap (λ us. t ∷ us) (values-taken ks ts)
 
-value_of-pair : (ks : List Key) (ts : List FrozenTree) (i : ℕ) (t : FrozenTree) → i < length ks → slice_get ts i ≡ Some t
-    → values_in (pairs (drop i ks) (drop i ts)) ≡ t ∷ values_in (pairs (drop (suc i) ks) (drop (suc i) ts))
-value_of-pair [] ts i t l p = absurd (omega arith)
-value_of-pair (k ∷ ks) [] i t l p = absurd (cc)
-value_of-pair (k ∷ ks) (u ∷ us) zero t l p = let e : u ≡ t = cc in ap (λ v. v ∷ values_in (pairs ks us)) e
-value_of-pair (k ∷ ks) (u ∷ us) (suc i) t l p = value_of-pair ks us i t (omega arith) p
-
-pub next-pair : (ks : List Key) (ts : List FrozenTree) (i : ℕ) (t : FrozenTree) → i < length ks → slice_get ts i ≡ Some t
-    → values_in (pairs (drop i ks) (drop i ts)) ≡ t ∷ values_in (pairs (drop (i + 1) ks) (drop (i + 1) ts))
-next-pair ks ts i t l p = value_of-pair ks ts i t l p ∙ ap (λ n. t ∷ values_in (pairs (drop n ks) (drop n ts))) (sym (add-one i))
+pub taken-turn : (t : FrozenTree) (ts us : List FrozenTree) (n m : ℕ) → ts ≡ t ∷ us → m + 1 ≡ n → take n ts ≡ t ∷ take m us
+taken-turn t ts us n m p q = let e : n ≡ suc m = omega (arith, q) in λ j. take (e j) (p j)
 
 abbrev tree_got : FrozenTree → Ticking FrozenTree → FrozenTree
 tree_got z (Ok p) = p.0

@@ -11,7 +11,7 @@ ghost use Rattle.visits.specs.Revisit.{all_visited, entry_visited, slot_visited}
 ghost use Rattle.visits.specs.Revisit.{values_in};
 
 use indexmap::IndexSet;
-use values::{Branch, Broken, Extent, Frozen, Held, Key, Kind, Leaf, Node, Ticks, part_at};
+use values::{Branch, Broken, Extent, Frozen, Held, Key, Kind, Leaf, Node, Ticks};
 
 /// A second name of a frozen value, after its visit.
 pub(crate) fn freeze_tree(left: u32, tree: &Frozen, ticks: &mut Ticks) -> Result<Frozen, Broken>
@@ -142,8 +142,8 @@ fn visit_pairs(
     ensures { Goes (all_visited (entry_visited (entered left) (visit_at left))
         (values_in (pairs keys.now.keys values.now)) ticks.old) result ticks.new }
 {
-    for i in 0..keys.len().min(values.len()) {
-        if let Err(kind) = visit_entry(left, part_at(values, i), ticks) {
+    for tree in values.iter().take(keys.len()) {
+        if let Err(kind) = visit_entry(left, tree, ticks) {
             return Err(kind);
         }
     }

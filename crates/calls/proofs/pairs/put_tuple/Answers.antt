@@ -1,4 +1,4 @@
-use Rattle.std.proofs.Common.{◌∷◌, [], subst}
+use Rattle.std.proofs.Common.{subst}
 use Rattle.ticks.specs.Ticking.{FaultOr}
 use Rattle.operations.specs.Making.{new_tuple}
 use Rattle.calls.proofs.Tuples.{same_grown, stays_grown, tuple_grows, no_tuple, pushed_does}

@@ -1,13 +1,18 @@
-use Rattle.std.proofs.Common.{◌+◌, ◌-◌, ◌≡◌, ◌<◌, arith}
-use Rattle.contexts.proofs.Placing.{placed_at}
+use Rattle.std.proofs.Common.{◌∙◌, arith}
+use Rattle.std.specs.Iterator.Adapters.{enumerate_source, rev_source}
+use Rattle.std.specs.Slice.Iter.{iter_rest}
+use Rattle.contexts.proofs.Placing.{left_over, placed_at}
 use Rattle.contexts.proofs.dependencies.places.Goals as goal
 
 pub loop-place-preserved : goal.loop-place-preserved
 loop-place-preserved c =
-    let n = c.loop-place.place in
-    let t : 0 < n = c.loop-place-test.true in
-    let e : n ≡ (n - 1) + 1 = omega (arith, t) in
-    let within = c.loop-place.invariant.0 in (
-      omega (arith, t, within),
-      placed_at c.args.all.now n (n - 1) c.dependency_at.result.now c.get.result.now c.loop-place.places c.put.new.places e c.dependency_at.ensures c.get.ensures c.in_ok-put.ensures c.loop-place.invariant.1,
-    )
+    let step = c.in-Some.ensures.steps in
+    let had = c.loop-place.invariant in
+    let rest = iter_rest (enumerate_source (rev_source c.loop-place.place-iterator)) in
+    let less = iter_rest (enumerate_source (rev_source c.next.new.self)) in
+    let one = c.in-Some.one.now in
+    record {
+      numbered = step.0 ∙ had.numbered;
+      front = (left_over c.args.all.now rest less one step.1.0 had.front).1;
+      placed = placed_at c.args.all.now rest less c.in-Some.place one c.get.result.now c.loop-place.places c.put.new.places step.1.0 had.front (omega (arith, step.1.1, had.numbered)) c.get.ensures c.in_ok-put.ensures had.placed;
+    }

@@ -1,5 +1,5 @@
 use Rattle.std.proofs.Common.{◌≡◌, ◌+◌, drop, sym, ap, ◌∙◌, Err}
-use Rattle.std.proofs.lemmas.List.{drop_all}
+use Rattle.std.proofs.lemmas.List.{drop_all, drop_more}
 use Rattle.lexer.specs.declared.fault.ParseStop.TheVariants.{Fault}
 use Rattle.statements.specs.Outlines.{pass}
 use Rattle.statements.proofs.OutlineLemmas.{refused_there, goes_on_there, at_the_end}
@@ -9,21 +9,21 @@ pub returns-in-Err-clause-fault : goal.returns-in-Err-clause-fault
 returns-in-Err-clause-fault c f e =
     let same : c.in-Err.stop ≡ Fault f = cc in
     let found = c.in-Err.ensures.fault f (ap Err same) in
-    let l = c.loop-i in (
+    let l = c.loop-place in (
       sym l.invariant
-          ∙ ap (λ ls. pass ls l.blocks) c.outline_at-line.ensures
-          ∙ refused_there c.outline_at-line.result (drop (l.i + 1) c.args.lines.now) c.next_of-next.result l.blocks f.line c.next_of-next.ensures found.0,
+          ∙ ap (λ ls. pass ls l.blocks) (drop_more c.args.lines.now l.place _ c.loop-place-test.true)
+          ∙ refused_there _ (drop (l.place + 1) c.args.lines.now) c.next_of-next.result l.blocks f.line c.next_of-next.ensures found.0,
       found.1,
     )
 
-pub loop-i-preserved : goal.loop-i-preserved
-loop-i-preserved c =
-    let l = c.loop-i in
-    sym (goes_on_there c.outline_at-line.result (drop (l.i + 1) c.args.lines.now) c.next_of-next.result l.blocks c.step.new.blocks c.next_of-next.ensures c.in_default.ensures.value)
-    ∙ ap (λ ls. pass ls l.blocks) (sym c.outline_at-line.ensures)
+pub loop-place-preserved : goal.loop-place-preserved
+loop-place-preserved c =
+    let l = c.loop-place in
+    sym (goes_on_there _ (drop (l.place + 1) c.args.lines.now) c.next_of-next.result l.blocks c.step.new.blocks c.next_of-next.ensures c.in_default.ensures.value)
+    ∙ ap (λ ls. pass ls l.blocks) (sym (drop_more c.args.lines.now l.place _ c.loop-place-test.true))
     ∙ l.invariant
 
 pub returns-clause-value : goal.returns-clause-value
 returns-clause-value c =
-    let l = c.loop-i in
-    (l.blocks, sym l.invariant ∙ ap (λ ls. pass ls l.blocks) (drop_all l.i c.args.lines.now c.loop-i-test.false) ∙ at_the_end l.blocks)
+    let l = c.loop-place in
+    (l.blocks, sym l.invariant ∙ ap (λ ls. pass ls l.blocks) (drop_all l.place c.args.lines.now c.loop-place-test.false) ∙ at_the_end l.blocks)

@@ -8,7 +8,7 @@ use Rattle.syntax.proofs.top.until_rebound.Given as goal
 
 -- the lines before this one break no rule of the top level, so that only the rules of functions are left for them; and
 -- the first that breaks one is among them, or behind them
-abbrev pub invariant-loop-i : goal.invariant-loop-i
-invariant-loop-i l =
-    ((s : Scope) → top_fault s [] (lines l.lines) ≡ or_else (lines_fault s (onto (λ f r. f r) (map line_of (take l.i l.lines)) no_lines)) (top_fault s l.before.keys (lines (drop l.i l.lines))))
-    × ((s : Scope) (rest : Lines) → lines_fault s (onto (λ f r. f r) (map line_of (take l.i l.lines)) rest) ≡ or_else (lines_fault s (onto (λ f r. f r) (map line_of (take l.i l.lines)) no_lines)) (lines_fault s rest))
+abbrev pub invariant-loop-place : goal.invariant-loop-place
+invariant-loop-place l =
+    ((s : Scope) → top_fault s [] (lines l.lines) ≡ or_else (lines_fault s (onto (λ f r. f r) (map line_of (take l.place l.lines)) no_lines)) (top_fault s l.before.keys (lines (drop l.place l.lines))))
+    × ((s : Scope) (rest : Lines) → lines_fault s (onto (λ f r. f r) (map line_of (take l.place l.lines)) rest) ≡ or_else (lines_fault s (onto (λ f r. f r) (map line_of (take l.place l.lines)) no_lines)) (lines_fault s rest))

@@ -1,14 +1,16 @@
-use Rattle.std.proofs.Common.{◌≤◌, length, drop}
+use Rattle.std.proofs.Common.{length, drop}
+use Rattle.std.specs.Iterator.Adapters.{rev_source}
+use Rattle.std.specs.Slice.Iter.{iter_rest}
 use Rattle.values.specs.Tree.{trees}
 use Rattle.ticks.specs.Extents.{IsExtent}
 use Rattle.values.specs.Extents.{trees_measure}
+use Rattle.values.proofs.ExtentLemmas.{AreLeft}
 use Rattle.values.proofs.extent.of_items.Given as goal
 
-abbrev pub invariant-loop-place : goal.invariant-loop-place
-invariant-loop-place l = record {
-  within : l.place ≤ length l.items;
-  behind : IsExtent l.extent (trees_measure (trees (drop l.place l.items)));
-}
-
-abbrev pub decreases-loop-place : goal.decreases-loop-place
-decreases-loop-place l = l.place
+abbrev pub invariant-loop-item : goal.invariant-loop-item
+invariant-loop-item l =
+    let left = iter_rest (rev_source l.item-iterator) in
+    record {
+      rest : AreLeft l.items left;
+      behind : IsExtent l.extent (trees_measure (trees (drop (length left) l.items)));
+    }

@@ -1,13 +1,14 @@
-use Rattle.std.proofs.Common.{◌+◌, ◌-◌, drop, length, false, refl, sym, ap, ◌∙◌, subst, arith}
+use Rattle.std.proofs.Common.{◌+◌, ◌-◌, drop, length, take, refl, sym, ap, ◌∙◌, subst}
 use Rattle.std.proofs.lemmas.Option.{slice_get_read}
+use Rattle.std.specs.Iterator.Adapters.{take_source, take_count}
+use Rattle.std.specs.Slice.Iter.{iter_rest}
 use Rattle.depsets.proofs.Turns.{drop_at}
 use Rattle.ticks.specs.Ticking.{Count, after_tick, entered}
-use Rattle.values.specs.Tree.{pairs}
 use Rattle.values.specs.View.{node_branch}
-use Rattle.values.proofs.SeeLemmas.{tree_list-trees, slot_list-slots, pairs-short}
-use Rattle.visits.specs.Revisit.{Goes, visit_at, visited, branch_visited, all_visited, entry_visited, slot_visited, values_in}
+use Rattle.values.proofs.SeeLemmas.{tree_list-trees, slot_list-slots}
+use Rattle.visits.specs.Revisit.{Goes, visit_at, visited, branch_visited, all_visited, entry_visited, slot_visited}
 use Rattle.visits.proofs.ExtentLemmas.{not-at-once}
-use Rattle.visits.proofs.RevisitLemmas.{visit-opened, visited-next, visited-fault, visited-end, next-pair}
+use Rattle.visits.proofs.RevisitLemmas.{visit-opened, visited-next, visited-fault, values-taken, taken-turn}
 use Rattle.visits.proofs.revisit.+visit.Goals as goal
 
 pub visit_tree-returns-in-Err : goal.visit_tree-returns-in-Err
@@ -45,36 +46,23 @@ visit_trees-loop-tree-preserved t c =
     (drop_at ts c.loop-tree.tree-index c.tree-item.result (slice_get_read ts (length ts) c.loop-tree.tree-index c.tree-item.result refl c.loop-tree-test.true c.tree-item.is)) c.in_default.ensures
     ∙ c.loop-tree.invariant
 
-pub visit_pairs-loop-i-init : goal.visit_pairs-loop-i-init
-visit_pairs-loop-i-init t c = refl
+pub visit_pairs-loop-tree-init : goal.visit_pairs-loop-tree-init
+visit_pairs-loop-tree-init t c =
+    let n = c.args.left in
+    ap (λ l. all_visited (entry_visited (entered n) (visit_at n)) l c.args.ticks.now)
+    (ap (λ s. take (take_count s) (iter_rest (take_source s))) c.into_iter-tree-iterator.ensures.into_iter_gives
+    ∙ (λ j. take ((c.take-tree-items.ensures.count ∙ c.len.ensures.len) j) ((ap iter_rest c.take-tree-items.ensures.source ∙ c.iter.ensures.rest) j))
+    ∙ values-taken c.args.keys.now.keys c.args.values.now)
 
 pub visit_pairs-returns-in-Err : goal.visit_pairs-returns-in-Err
 visit_pairs-returns-in-Err t c =
-    let ks = c.args.keys.now.keys in
-    let ts = c.args.values.now in
-    sym c.loop-i.invariant
-    ∙ visited-fault (entry_visited (entered c.args.left) (visit_at c.args.left)) c.part_at.result.now
-    (values_in (pairs (drop c.loop-i.i ks) (drop c.loop-i.i ts))) (values_in (pairs (drop (c.loop-i.i + 1) ks) (drop (c.loop-i.i + 1) ts)))
-    c.loop-i.ticks c.in-Err.kind
-    (next-pair ks ts c.loop-i.i c.part_at.result.now (omega (arith, c.loop-i-test.true, c.min-i-end.ensures, c.len.ensures.len)) c.part_at.ensures) c.in-Err.ensures
-
-pub visit_pairs-loop-i-preserved : goal.visit_pairs-loop-i-preserved
-visit_pairs-loop-i-preserved t c =
-    let ks = c.args.keys.now.keys in
-    let ts = c.args.values.now in
-    visited-next (entry_visited (entered c.args.left) (visit_at c.args.left)) c.part_at.result.now
-    (values_in (pairs (drop c.loop-i.i ks) (drop c.loop-i.i ts))) (values_in (pairs (drop (c.loop-i.i + 1) ks) (drop (c.loop-i.i + 1) ts)))
-    c.loop-i.ticks c.visit_entry.new.ticks
-    (next-pair ks ts c.loop-i.i c.part_at.result.now (omega (arith, c.loop-i-test.true, c.min-i-end.ensures, c.len.ensures.len)) c.part_at.ensures) c.in_default.ensures
-    ∙ c.loop-i.invariant
-
-pub visit_pairs-returns : goal.visit_pairs-returns
-visit_pairs-returns t c =
-    let ks = c.args.keys.now.keys in
-    let ts = c.args.values.now in
-    sym c.loop-i.invariant
-    ∙ visited-end (entry_visited (entered c.args.left) (visit_at c.args.left)) (values_in (pairs (drop c.loop-i.i ks) (drop c.loop-i.i ts))) c.loop-i.ticks
-    (ap values_in (pairs-short ks ts c.loop-i.i (omega (arith, c.loop-i-test.false, c.min-i-end.ensures, c.len.ensures.len))))
+    let now = c.loop-tree.tree-iterator in
+    let next = c.next.new.self in
+    let step = c.in-Some.ensures.steps in
+    sym c.loop-tree.invariant
+    ∙ visited-fault (entry_visited (entered c.args.left) (visit_at c.args.left)) c.in-Some.tree.now
+    (take (take_count now) (iter_rest (take_source now))) (take (take_count next) (iter_rest (take_source next))) c.loop-tree.ticks c.in-Err.kind
+    (taken-turn c.in-Some.tree.now (iter_rest (take_source now)) (iter_rest (take_source next)) (take_count now) (take_count next) step.0 step.1) c.in-Err.ensures
 
 pub visit_node-returns-in-List : goal.visit_node-returns-in-List
 visit_node-returns-in-List t c =

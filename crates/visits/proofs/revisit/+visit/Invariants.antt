@@ -1,4 +1,6 @@
-use Rattle.std.proofs.Common.{◌≡◌, ◌+◌, ◌*◌, drop}
+use Rattle.std.proofs.Common.{◌≡◌, ◌+◌, ◌*◌, drop, take}
+use Rattle.std.specs.Iterator.Adapters.{take_source, take_count}
+use Rattle.std.specs.Slice.Iter.{iter_rest}
 use Rattle.values.specs.Tree.{pairs}
 use Rattle.ticks.specs.Ticking.{entered}
 use Rattle.visits.specs.Revisit.{visit_at, all_visited, entry_visited, slot_visited, values_in}
@@ -8,10 +10,11 @@ abbrev pub invariant-visit_trees-loop-tree : goal.invariant-visit_trees-loop-tre
 invariant-visit_trees-loop-tree l =
     all_visited (visit_at l.left) (drop l.tree-index l.trees) l.ticks ≡ all_visited (visit_at l.left) l.trees l.initial.ticks
 
-abbrev pub invariant-visit_pairs-loop-i : goal.invariant-visit_pairs-loop-i
-invariant-visit_pairs-loop-i l =
-    all_visited (entry_visited (entered l.left) (visit_at l.left)) (values_in (pairs (drop l.i l.keys.keys) (drop l.i l.values))) l.ticks
-    ≡ all_visited (entry_visited (entered l.left) (visit_at l.left)) (values_in (pairs l.keys.keys l.values)) l.initial.ticks
+abbrev pub invariant-visit_pairs-loop-tree : goal.invariant-visit_pairs-loop-tree
+invariant-visit_pairs-loop-tree l =
+    let all = entry_visited (entered l.left) (visit_at l.left) in
+    all_visited all (take (take_count l.tree-iterator) (iter_rest (take_source l.tree-iterator))) l.ticks
+    ≡ all_visited all (values_in (pairs l.keys.keys l.values)) l.initial.ticks
 
 abbrev pub invariant-visit_slots-loop-slot : goal.invariant-visit_slots-loop-slot
 invariant-visit_slots-loop-slot l =
