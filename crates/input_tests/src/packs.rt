@@ -131,6 +131,22 @@ fn nothing_is_written_after_a_refusal(rt: HostRuntime) -> Result<(), Fail> {
     Ok(())
 }
 
+/// Whether a call of the writer that fails is told, where a folder is packed.
+fn is_failed(alloc: Global, call: u64, how: Failing) -> bool {
+    let mut page = Page::new(alloc, 100_000, Some(call), how);
+    let packed = pack(&Tree { lines: "f BUILD" }, alloc, false, &mut page);
+    matches!(packed, Err(PackStop::Write))
+}
+
+#[test]
+fn a_failed_write_is_told(rt: HostRuntime) -> Result<(), Fail> {
+    let alloc = rt.alloc();
+    assert!(rt; is_failed(alloc, 0, Failing::Stalled));
+    assert!(rt; is_failed(alloc, 0, Failing::Interrupted));
+    assert!(rt; is_failed(alloc, 1, Failing::Interrupted));
+    Ok(())
+}
+
 #[test]
 fn one_file_is_packed(rt: HostRuntime) -> Result<(), Fail> {
     let alloc = rt.alloc();
