@@ -11,8 +11,8 @@ use Rattle.std.proofs.lemmas.List.Elements.{All-nil, All-pop, All-push, All-same
 use Rattle.std.proofs.lemmas.Map.Text.{is_eq-slice_cmp}
 use Rattle.std.proofs.lemmas.Slice.Eq.{bytes_eq-Decides}
 use Rattle.std.proofs.lemmas.Map.Views.{All-insert_key}
-use Rattle.packing.specs.Folders.{At, Comes, HasKind, HasNames, HasNoBytes, HasNoKind, HasNoNames, HasOthers, IsFile, IsFolder, IsHiddenFolder, IsKnown, IsKnownFile, IsListed, Leads, Node, Reaches, TellsNames, below, file, folder, here, inside, is_hidden, link, onward, passes_over, shut_file, shut_folder, special, start, unread}
-use Rattle.packing.specs.Packs.{HasReason, IsTold, IsUnread, is_used}
+use Rattle.packing.specs.Folders.{At, Comes, HasKind, HasNames, HasNoKind, HasNoNames, HasOthers, IsFile, IsFolder, IsHiddenFolder, IsKnown, IsKnownFile, IsListed, Leads, Node, Reaches, TellsNames, below, file, folder, here, inside, is_hidden, link, onward, passes_over, shut_file, shut_folder, special, start, unread}
+use Rattle.packing.specs.Packs.{HasReason, IsTold, IsUnread}
 use Rattle.packing.specs.Walks.{CoversFrom, CoversName, Grows, IsBegun, IsCovered, IsWithin, Stays}
 use Rattle.packing.specs.declared.folders.Kind.{Kind}
 use Rattle.packing.specs.declared.folders.Kind.TheVariants as kind
@@ -213,9 +213,6 @@ covers-names at w from names more told named each path (inside f name p ns other
     let same : names ≡ ns = (subst (λ n. HasNames n names more) there told).0 in
     each name (subst (λ (xs : List (List ℕ)). Contains xs name) (sym same) listed) kept seen path later
 
-pub covers-grown : (at : At) (a b : Walk) (from : List ℕ) → Grows at a b → CoversFrom at a from → CoversFrom at b from
-covers-grown at a b from g h path r = g.covered path (h path r)
-
 pub covers-more : (at : At) (a b : Walk) (from : List ℕ) (names : List (List ℕ)) (i : ℕ) (d : List ℕ) → i < length names → Grows at a b
     → ((name : List ℕ) → Contains (take i names) name → CoversName at a from name) → CoversName at b from (get_or names i d)
     → (name : List ℕ) → Contains (take (i + 1) names) name → CoversName at b from name
@@ -342,7 +339,7 @@ told-more (Some (shut_folder w)) told more has is = has
 told-more (Some (shut_file w)) told more has is = has
 told-more (Some (unread u)) told more has is = has
 
--- what tells no kind, a folder that tells no names, and a file whose text is used that tells no bytes are unread for that reason
+-- what tells no kind, and a folder that tells no names, are unread for that reason
 pub unread-kind : (n : Option Node) (path : List ℕ) (u : Unread) → HasNoKind n u → IsUnread n path u
 unread-kind None path u has = has
 unread-kind (Some (folder names others)) path u has = has
@@ -362,16 +359,6 @@ unread-folder (Some special) path u is has = absurd is
 unread-folder (Some (shut_folder w)) path u is has = has
 unread-folder (Some (shut_file w)) path u is has = absurd is
 unread-folder (Some (unread w)) path u is has = has
-
-pub unread-file : (n : Option Node) (path : List ℕ) (u : Unread) → IsFile n → is_used path ≡ true → HasNoBytes n u → IsUnread n path u
-unread-file None path u is used has = has
-unread-file (Some (folder names others)) path u is used has = absurd is
-unread-file (Some (file bytes)) path u is used has = has
-unread-file (Some link) path u is used has = absurd is
-unread-file (Some special) path u is used has = absurd is
-unread-file (Some (shut_folder w)) path u is used has = absurd is
-unread-file (Some (shut_file w)) path u is used has = (has, used)
-unread-file (Some (unread w)) path u is used has = has
 
 -- what tells no kind, and what is special, is no folder that is passed over
 pub seen-unread : (n : Option Node) (name : List ℕ) (u : Unread) → HasNoKind n u → IsHiddenFolder n name → ⊥
