@@ -11,8 +11,7 @@ fn put_digit(out: &mut String, digit: u8) -> Result<(), AllocError>
     ensures { OnOk result (string_bytes out.new ≡ string_bytes out.old ++ hex_digit digit ∷ []) }
 {
     let code = if digit < 10 { 48 + digit } else { 87 + digit };
-    out.push(char::from(code))?;
-    Ok(())
+    out.push(char::from(code))
 }
 
 /// Appends a byte that needs no escape, or that is no ASCII.
@@ -25,8 +24,7 @@ fn put_unescaped(out: &mut String, byte: u8) -> Result<(), AllocError>
     }
     out.push_str("\\x")?;
     put_digit(out, byte / 16)?;
-    put_digit(out, byte % 16)?;
-    Ok(())
+    put_digit(out, byte % 16)
 }
 
 /// Appends one byte of a string, escaped.
@@ -34,13 +32,12 @@ fn put_byte(out: &mut String, byte: u8) -> Result<(), AllocError>
     ensures { OnOk result (string_bytes out.new ≡ string_bytes out.old ++ escape byte) }
 {
     match byte {
-        b'\n' => out.push_str("\\n")?,
-        b'\t' => out.push_str("\\t")?,
-        b'\\' => out.push_str("\\\\")?,
-        b'"' => out.push_str("\\\"")?,
-        _ => put_unescaped(out, byte)?,
+        b'\n' => out.push_str("\\n"),
+        b'\t' => out.push_str("\\t"),
+        b'\\' => out.push_str("\\\\"),
+        b'"' => out.push_str("\\\""),
+        _ => put_unescaped(out, byte),
     }
-    Ok(())
 }
 
 /// Whether a byte is written as it stands.
@@ -90,6 +87,5 @@ pub fn put_quoted(out: &mut String, text: &str) -> Result<(), AllocError>
 {
     out.push_str("\"")?;
     put_unquoted(out, text)?;
-    out.push_str("\"")?;
-    Ok(())
+    out.push_str("\"")
 }

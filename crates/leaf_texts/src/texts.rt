@@ -19,8 +19,7 @@ use std::alloc::{AllocError, Global};
 fn put_number(out: &mut String, number: i64) -> Result<(), AllocError>
     ensures { OnOk result (string_bytes out.new ≡ string_bytes out.old ++ signed_decimal number) }
 {
-    write!(out, "{number}")?;
-    Ok(())
+    write!(out, "{number}")
 }
 
 /// Appends a bool.
@@ -42,8 +41,7 @@ fn put_between(out: &mut String, before: &str, text: &str, behind: &str) -> Resu
 {
     out.push_str(before)?;
     out.push_str(text)?;
-    out.push_str(behind)?;
-    Ok(())
+    out.push_str(behind)
 }
 
 /// Appends a File.
@@ -58,10 +56,9 @@ fn put_export(out: &mut String, name: &ExportName) -> Result<(), AllocError>
     ensures { OnOk result (string_bytes out.new ≡ string_bytes out.old ++ export_text name.now) }
 {
     match name {
-        ExportName::Global(global) => out.push_str(global.as_str())?,
-        ExportName::Making(number) => write!(out, "{number}")?,
+        ExportName::Global(global) => out.push_str(global.as_str()),
+        ExportName::Making(number) => write!(out, "{number}"),
     }
-    Ok(())
 }
 
 /// Appends the module's path and the name.
@@ -71,8 +68,7 @@ fn put_exported(out: &mut String, exported: &Exported) -> Result<(), AllocError>
 {
     out.push_str(exported.path.as_str())?;
     out.push_str("%")?;
-    put_export(out, &exported.name)?;
-    Ok(())
+    put_export(out, &exported.name)
 }
 
 /// Appends the name of a provider.
@@ -85,10 +81,9 @@ pub fn put_provider(out: &mut String, provider: &ProviderRef) -> Result<(), Allo
         ≡ string_bytes out.old ++ provider_text provider.now) }
 {
     match provider {
-        ProviderRef::DefaultInfo => out.push_str("DefaultInfo")?,
-        ProviderRef::Exported(exported) => put_exported(out, exported)?,
+        ProviderRef::DefaultInfo => out.push_str("DefaultInfo"),
+        ProviderRef::Exported(exported) => put_exported(out, exported),
     }
-    Ok(())
 }
 
 /// Appends a provider as a value.
@@ -98,8 +93,7 @@ fn put_provider_value(out: &mut String, provider: &ProviderRef) -> Result<(), Al
 {
     out.push_str("<provider ")?;
     put_provider(out, provider)?;
-    out.push_str(">")?;
-    Ok(())
+    out.push_str(">")
 }
 
 /// Appends a rule as a value.
@@ -109,8 +103,7 @@ fn put_rule(out: &mut String, rule: &Exported) -> Result<(), AllocError>
 {
     out.push_str("<rule ")?;
     put_exported(out, rule)?;
-    out.push_str(">")?;
-    Ok(())
+    out.push_str(">")
 }
 
 /// Appends a function.
@@ -121,8 +114,7 @@ fn put_function(out: &mut String, function: &FunctionRef) -> Result<(), AllocErr
 {
     put_between(out, "<function ", function.path.as_str(), "%")?;
     out.push_str(function.name.as_str())?;
-    out.push_str(">")?;
-    Ok(())
+    out.push_str(">")
 }
 
 /// How an order is written.
@@ -184,13 +176,12 @@ fn put_element(out: &mut String, element: &Element) -> Result<(), AllocError>
         ≡ string_bytes out.old ++ element_text element.now) }
 {
     match element {
-        Element::Text(text) => put_quoted(out, text.as_str())?,
-        Element::Number(number) => put_number(out, *number)?,
-        Element::Truth(truth) => put_truth(out, *truth)?,
-        Element::Label(text) => out.push_str(text.as_str())?,
-        Element::File(file) => put_file(out, file.get())?,
+        Element::Text(text) => put_quoted(out, text.as_str()),
+        Element::Number(number) => put_number(out, *number),
+        Element::Truth(truth) => put_truth(out, *truth),
+        Element::Label(text) => out.push_str(text.as_str()),
+        Element::File(file) => put_file(out, file.get()),
     }
-    Ok(())
 }
 
 /// Appends the element at a place of a listing.
@@ -199,8 +190,7 @@ fn put_element_at(out: &mut String, place: usize, element: &Element) -> Result<(
         ≡ string_bytes out.old ++ (separator place ++ element_text element.now)) }
 {
     put_separator(out, place)?;
-    put_element(out, element)?;
-    Ok(())
+    put_element(out, element)
 }
 
 /// Appends elements with commas between them.
@@ -220,8 +210,7 @@ fn put_listed(out: &mut String, elements: &Elements<'_>) -> Result<(), AllocErro
         ≡ string_bytes out.old ++ (joined (map element_text elements.now) ++ codes "])")) }
 {
     put_elements(out, elements)?;
-    out.push_str("])")?;
-    Ok(())
+    out.push_str("])")
 }
 
 /// Appends a depset, by its listing.
@@ -244,21 +233,20 @@ pub fn put_leaf(alloc: Global, out: &mut String, leaf: &Leaf) -> Result<(), Allo
         ≡ string_bytes out.old ++ leaf_text walked leaf.now) }
 {
     match leaf {
-        Leaf::None => out.push_str("None")?,
-        Leaf::Label(text) => out.push_str(text.as_str())?,
-        Leaf::File(file) => put_file(out, file.get())?,
-        Leaf::Depset(depset) => put_depset(alloc, out, depset)?,
-        Leaf::Function(function) => put_function(out, function.get())?,
-        Leaf::BuiltIn(function) => put_between(out, "<built-in ", function.name(), ">")?,
-        Leaf::Provider(provider) => put_provider_value(out, &provider.get().name)?,
-        Leaf::Rule(rule) => put_rule(out, &rule.get().name)?,
+        Leaf::None => out.push_str("None"),
+        Leaf::Label(text) => out.push_str(text.as_str()),
+        Leaf::File(file) => put_file(out, file.get()),
+        Leaf::Depset(depset) => put_depset(alloc, out, depset),
+        Leaf::Function(function) => put_function(out, function.get()),
+        Leaf::BuiltIn(function) => put_between(out, "<built-in ", function.name(), ">"),
+        Leaf::Provider(provider) => put_provider_value(out, &provider.get().name),
+        Leaf::Rule(rule) => put_rule(out, &rule.get().name),
         Leaf::Attribute(attribute) => {
-            put_between(out, "<attr ", attribute_name(attribute.get().kind), ">")?
+            put_between(out, "<attr ", attribute_name(attribute.get().kind), ">")
         }
-        Leaf::Target(_) => out.push_str("<target>")?,
-        Leaf::Object(object) => out.push_str(object_name(*object))?,
+        Leaf::Target(_) => out.push_str("<target>"),
+        Leaf::Object(object) => out.push_str(object_name(*object)),
     }
-    Ok(())
 }
 
 /// Appends a key of a dict, as a value.
@@ -270,11 +258,10 @@ pub fn put_key(out: &mut String, key: &Key) -> Result<(), AllocError>
     ensures { OnOk result (string_bytes out.new ≡ string_bytes out.old ++ key_text key.now) }
 {
     match key {
-        Key::Text(text) => put_quoted(out, text.as_str())?,
-        Key::Number(number) => put_number(out, *number)?,
-        Key::Truth(truth) => put_truth(out, *truth)?,
+        Key::Text(text) => put_quoted(out, text.as_str()),
+        Key::Number(number) => put_number(out, *number),
+        Key::Truth(truth) => put_truth(out, *truth),
     }
-    Ok(())
 }
 
 /// Appends what stands before the value of a field.
@@ -286,8 +273,7 @@ pub fn put_field_head(out: &mut String, name: &Text) -> Result<(), AllocError>
     ensures { OnOk result (string_bytes out.new ≡ string_bytes out.old ++ field_head name.now) }
 {
     out.push_str(name.as_str())?;
-    out.push_str("=")?;
-    Ok(())
+    out.push_str("=")
 }
 
 /// What a tuple of so many items ends with.
