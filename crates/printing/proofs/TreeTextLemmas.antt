@@ -1,7 +1,7 @@
 -- The parts of a frozen value, one after the other: their texts, and the weight of an item. And of a coherent
 -- value, that its text is that of the plain meaning.
 use Rattle.std.specs.Prelude.{codes}
-use Rattle.std.proofs.Common.{◌≡◌, ◌⊎◌, inl, inr, ℕ, zero, suc, ◌+◌, ◌≤◌, List, [], ◌∷◌, ◌++◌, length, drop, slice_get, Option, Some, None, refl, ap, ◌∙◌, arith, drop_of_length-le}
+use Rattle.std.proofs.Common.{◌≡◌, ◌⊎◌, cond, is_ok, OnOk, Result, Ok, Err, inl, inr, ℕ, zero, suc, ◌+◌, ◌≤◌, List, [], ◌∷◌, ◌++◌, length, drop, slice_get, Option, Some, refl, ap, ◌∙◌, arith, drop_of_length-le}
 use Rattle.depsets.proofs.Turns.{drop_at}
 use Rattle.depsets.proofs.Walked.{walked-flat}
 use Rattle.depsets.specs.Rose.{Rose, label}
@@ -26,6 +26,11 @@ weight_at (u ∷ us) (suc i) t p = let e = weight_at us i t p in omega arith
 pub how_many-trees : (ts : List FrozenTree) → how_many (trees ts) ≡ length ts
 how_many-trees [] = refl
 how_many-trees (t ∷ ts) = omega (arith, how_many-trees ts)
+
+-- of what is appended last, what a refusal leaves doesn't count
+pub appended_last : {T E : Type 0} (r : Result T E) (new longer old whole : List ℕ) → longer ≡ whole → new ≡ cond (is_ok r) longer old → OnOk r (new ≡ whole)
+appended_last (Ok x) new longer old whole e h = h ∙ e
+appended_last (Err x) new longer old whole e h = tt
 
 module _ (listing : Rose Own → List Element) (n : ℕ) (out : List ℕ) where
   pub trees-next : (ts : List FrozenTree) (t : FrozenTree) (then : List ℕ) → slice_get ts n ≡ Some t → then ≡ out ++ (separator n ++ text_by listing t)

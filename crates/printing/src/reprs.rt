@@ -58,10 +58,10 @@ fn is_full(out: &String) -> bool
 fn put_text(out: &mut String, text: &str) -> Result<(), AllocError>
     ensures { OnOk result (fits (string_bytes out.new) ≡ fits (string_bytes out.old ++ text.now)) }
 {
-    if !is_full(out) {
-        out.push_str(text)?;
+    if is_full(out) {
+        return Ok(());
     }
-    Ok(())
+    out.push_str(text)
 }
 
 /// Appends what stands before the part at a place.
@@ -69,10 +69,10 @@ fn put_comma(out: &mut String, place: usize) -> Result<(), AllocError>
     ensures { OnOk result (fits (string_bytes out.new)
         ≡ fits (string_bytes out.old ++ separator place)) }
 {
-    if !is_full(out) {
-        put_separator(out, place)?;
+    if is_full(out) {
+        return Ok(());
     }
-    Ok(())
+    put_separator(out, place)
 }
 
 /// Appends what stands before the value of a dict's entry.
@@ -80,11 +80,11 @@ fn put_entry_head(out: &mut String, key: &Key) -> Result<(), AllocError>
     ensures { OnOk result (fits (string_bytes out.new)
         ≡ fits (string_bytes out.old ++ entry_head key.now)) }
 {
-    if !is_full(out) {
-        put_key(out, key)?;
-        out.push_str(": ")?;
+    if is_full(out) {
+        return Ok(());
     }
-    Ok(())
+    put_key(out, key)?;
+    out.push_str(": ")
 }
 
 /// Whether a leaf has a text in the language.
@@ -100,10 +100,10 @@ fn put_printed(alloc: Global, leaf: &Leaf, out: &mut String) -> Result<(), Alloc
     ensures { OnOk result (fits (string_bytes out.new)
         ≡ fits (string_bytes out.old ++ leaf_text flat leaf.now)) }
 {
-    if !is_full(out) {
-        put_leaf(alloc, out, leaf)?;
+    if is_full(out) {
+        return Ok(());
     }
-    Ok(())
+    put_leaf(alloc, out, leaf)
 }
 
 /// Appends a key.
@@ -111,10 +111,10 @@ fn put_shown_key(key: &Key, out: &mut String) -> Result<(), AllocError>
     ensures { OnOk result (fits (string_bytes out.new)
         ≡ fits (string_bytes out.old ++ key_text key.now)) }
 {
-    if !is_full(out) {
-        put_key(out, key)?;
+    if is_full(out) {
+        return Ok(());
     }
-    Ok(())
+    put_key(out, key)
 }
 
 /// Appends a key that is visited.

@@ -36,8 +36,7 @@ fn put_head(out: &mut String, key: &Key) -> Result<(), AllocError>
     ensures { OnOk result (string_bytes out.new ≡ string_bytes out.old ++ entry_head key.now) }
 {
     put_key(out, key)?;
-    out.push_str(": ")?;
-    Ok(())
+    out.push_str(": ")
 }
 
 /// Appends a frozen value.
@@ -50,11 +49,10 @@ pub fn put_tree(alloc: Global, out: &mut String, tree: &Frozen) -> Result<(), Al
     ensures { OnOk result (string_bytes out.new ≡ string_bytes out.old ++ text_by walked tree.now) }
 {
     match tree.held() {
-        Held::Key(key) => put_key(out, key)?,
-        Held::Leaf(leaf) => put_leaf(alloc, out, leaf)?,
-        Held::Branch(limb) => put_node(alloc, out, limb.node())?,
+        Held::Key(key) => put_key(out, key),
+        Held::Leaf(leaf) => put_leaf(alloc, out, leaf),
+        Held::Branch(limb) => put_node(alloc, out, limb.node()),
     }
-    Ok(())
 }
 
 /// Appends a frozen value of these parts.
@@ -67,27 +65,26 @@ fn put_node(alloc: Global, out: &mut String, node: &Node) -> Result<(), AllocErr
         Node::List(items) => {
             out.push_str("[")?;
             put_trees(alloc, out, items.as_slice())?;
-            out.push_str("]")?;
+            out.push_str("]")
         }
         Node::Tuple(items) => {
             out.push_str("(")?;
             put_trees(alloc, out, items.as_slice())?;
-            out.push_str(end_of_tuple(items.len()))?;
+            out.push_str(end_of_tuple(items.len()))
         }
         Node::Dict(keys, values) => {
             out.push_str("{")?;
             put_pairs(alloc, out, keys, values.as_slice())?;
-            out.push_str("}")?;
+            out.push_str("}")
         }
         Node::Instance(provider, fields) => {
             let provider = provider.get();
             put_provider(out, &provider.name)?;
             out.push_str("(")?;
             put_fields(alloc, out, provider.fields.as_slice(), fields.as_slice())?;
-            out.push_str(")")?;
+            out.push_str(")")
         }
     }
-    Ok(())
 }
 
 /// Appends frozen values with commas between them.

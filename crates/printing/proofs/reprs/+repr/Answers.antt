@@ -1,4 +1,4 @@
-use Rattle.std.proofs.Common.{◌+◌, ◌-◌, Ok, Some, slice_get, string_bytes, sym, ap, ◌∙◌, subst}
+use Rattle.std.proofs.Common.{◌-◌, string_bytes, sym, ap, ◌∙◌, subst}
 use Rattle.ticks.specs.Ticking.{Count, FaultOr, after_tick, entered}
 use Rattle.values.specs.Visits.{all_of}
 use Rattle.values.specs.Shape.{shape}

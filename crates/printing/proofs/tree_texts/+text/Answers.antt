@@ -1,5 +1,5 @@
 use Rattle.std.specs.Prelude.{codes}
-use Rattle.std.proofs.Common.{◌≡◌, ◌+◌, ◌++◌, Some, None, drop, length, string_bytes, arith, refl, sym, ap, ◌∙◌, append_assoc}
+use Rattle.std.proofs.Common.{◌≡◌, ◌+◌, ◌++◌, None, length, string_bytes, arith, refl, sym, ap, ◌∙◌, append_assoc}
 use Rattle.std.specs.Iterator.Adapters.{zip_first, zip_second, enumerate_source, enumerate_count}
 use Rattle.std.specs.Slice.Iter.{iter_rest}
 use Rattle.std.proofs.lemmas.Option.{slice_get_read}
@@ -7,9 +7,9 @@ use Rattle.std.proofs.lemmas.Slice.Zip.{either_empty_from_Zip}
 use Rattle.depsets.specs.Listed.{walked}
 use Rattle.values.specs.Tree.{trees, pairs, slots, weight, branch_weight, weights, pair_weights, slot_weights}
 use Rattle.values.specs.View.{tree_of, node_branch}
-use Rattle.leaf_texts.specs.Texts.{separator, joined, joined_from, tuple_end, entry_head, field_head}
+use Rattle.leaf_texts.specs.Texts.{separator, joined, joined_from, tuple_end, entry_head}
 use Rattle.printing.specs.TreeTexts.{how_many, text_by, branch_text_by, texts_by, pair_texts_by, field_texts_by}
-use Rattle.printing.proofs.TreeTextLemmas.{weight_at, fields-end, how_many-trees, trees-next, trees-end, pairs-next, pairs-end}
+use Rattle.printing.proofs.TreeTextLemmas.{appended_last, weight_at, fields-end, how_many-trees, trees-next, trees-end, pairs-next, pairs-end}
 use Rattle.leaf_texts.proofs.TextLemmas.{parts-end}
 use Rattle.printing.proofs.tree_texts.+text.Goals as goal
 
@@ -62,8 +62,8 @@ put_pairs-put_tree-requires t c =
     (omega (arith, c.decreases, c.loop-place.invariant.light, h), tt)
 
 -- a tuple, with the comma of a single item
-pub put_node-returns-in_ok-push_str-in-Tuple-2 : goal.put_node-returns-in_ok-push_str-in-Tuple-2
-put_node-returns-in_ok-push_str-in-Tuple-2 t c =
+pub put_node-returns-in_ok-put_trees-in-Tuple : goal.put_node-returns-in_ok-put_trees-in-Tuple
+put_node-returns-in_ok-put_trees-in-Tuple t c =
     let out = string_bytes c.args.out.now in
     let xs = c.in-Tuple.items.items in
     let inner = joined (texts_by walked (trees xs)) in
@@ -72,9 +72,9 @@ put_node-returns-in_ok-push_str-in-Tuple-2 t c =
     let written = c.in_ok-put_trees-in-Tuple.ensures ∙ ap (λ l. string_bytes c.push_str-in-Tuple.new.self ++ joined (texts_by walked (trees l))) c.as_slice-in-Tuple.ensures.value ∙ begun in
     let many : c.len.result ≡ how_many (trees xs) = omega (arith, c.len.ensures, how_many-trees xs) in
     let end = c.end_of_tuple.ensures ∙ ap tuple_end many in
-    c.in_ok-push_str-in-Tuple-2.ensures.bytes ∙ (λ j. written j ++ end j)
+    appended_last c.push_str-in-Tuple-2.result _ _ _ _ ((λ j. written j ++ end j)
     ∙ ap (λ o. o ++ last) (append_assoc out (codes "(") inner) ∙ append_assoc out (codes "(" ++ inner) last
-    ∙ ap (λ n. out ++ branch_text_by walked (node_branch n)) (sym c.in-Tuple.is)
+    ∙ ap (λ n. out ++ branch_text_by walked (node_branch n)) (sym c.in-Tuple.is)) c.push_str-in-Tuple-2.ensures.bytes
 
 pub put_trees-loop-place-init : goal.put_trees-loop-place-init
 put_trees-loop-place-init t c = refl
