@@ -5,7 +5,7 @@ ghost use Rattle.claims.specs.Claims.{claim_on, claims_of, claims_from, in_order
 
 use crate::owned::Owned;
 use depsets::FileRef;
-use plain::{Shared, Text};
+use plain::{Shared, Text, push_last};
 use std::alloc::{AllocError, Global};
 
 /// An action declares a path: the path, the label of the action's owner, and the action's place in
@@ -62,6 +62,5 @@ fn add_claim(
 {
     let path = file.get().path.text().share()?;
     let label = label.share()?;
-    claims.push(Claim { path, label, place })?;
-    Ok(())
+    push_last(claims, Claim { path, label, place })
 }

@@ -72,8 +72,7 @@ impl Gatherer {
         self.members.push(Member {
             label,
             place: claim.place,
-        })?;
-        Ok(())
+        })
     }
 
     /// Ends the path that is gathered: it is kept where at least two actions declare it.

@@ -4,7 +4,7 @@ ghost use Rattle.claims.specs.Members.{label_of, place_of};
 ghost use Rattle.claims.specs.Sets.{IsSorting};
 
 use actions::Words;
-use plain::Text;
+use plain::{Text, push_last};
 use std::alloc::{AllocError, Global};
 use std::marker::Model;
 
@@ -69,8 +69,7 @@ impl Members {
     pub(crate) fn push(&mut self, member: Member) -> Result<(), AllocError>
         ensures { OnOk result (self.new ≡ self.old ++ member ∷ []) }
     {
-        self.items.push(member)?;
-        Ok(())
+        push_last(&mut self.items, member)
     }
 
     /// None from now on.

@@ -58,8 +58,7 @@ fn set_of(alloc: Global, members: &[Member]) -> Result<Option<Shared>, AllocErro
         return Ok(None);
     }
     let sorted = Members::sorted(alloc, members)?;
-    let found = set_from(alloc, sorted.as_slice())?;
-    Ok(found)
+    set_from(alloc, sorted.as_slice())
 }
 
 /// The set of actions that are in order, if no two of them have one owner.

@@ -71,8 +71,7 @@ fn leaders_among(
     ensures { IfOk result (λ v. v.items ≡ leaders walked owned.now) }
 {
     let marks = marks(alloc, owned, commons)?;
-    let found = leaders(alloc, owned, &marks)?;
-    Ok(found)
+    leaders(alloc, owned, &marks)
 }
 
 /// The conflicts of these actions, where these are their leaders and common paths.
@@ -87,8 +86,7 @@ fn conflicts_by(
     ensures { IfOk result (λ v. v.items ≡ conflicts_of walked owned.now) }
 {
     let _count = owned.len();
-    let found = conflicts_among(alloc, led, commons)?;
-    Ok(found)
+    conflicts_among(alloc, led, commons)
 }
 
 /// How these actions are told, where these are their leaders.
@@ -117,8 +115,7 @@ fn told_by_sets(
 {
     let buckets = buckets(alloc, owned, led)?;
     let sets = sets(alloc, &buckets)?;
-    let found = tellings(alloc, owned, led, &sets)?;
-    Ok(found)
+    tellings(alloc, owned, led, &sets)
 }
 
 /// The shared actions: each set of at least two equal actions, no two of which have one owner,
@@ -134,8 +131,7 @@ pub fn shared(alloc: Global, owned: &[Owned<'_>]) -> Result<Vec<Shared>, AllocEr
 {
     let commons = commons(alloc, owned)?;
     let leaders = leaders_among(alloc, owned, &commons)?;
-    let found = sets_by(alloc, owned, &leaders)?;
-    Ok(found)
+    sets_by(alloc, owned, &leaders)
 }
 
 /// The shared actions, where these are the leaders of all.
@@ -155,6 +151,5 @@ fn found_sets(alloc: Global, owned: &[Owned<'_>], led: &[usize]) -> Result<Vec<S
     ensures { IfOk result (λ v. AreShared walked owned.now v.items) }
 {
     let buckets = buckets(alloc, owned, led)?;
-    let sets = found(alloc, &buckets)?;
-    Ok(sets)
+    found(alloc, &buckets)
 }

@@ -1,4 +1,4 @@
-use Rattle.std.proofs.Common.{◌∙◌, ap, map, subst}
+use Rattle.std.proofs.Common.{◌≡◌, ◌∙◌, ap, map, subst, IfOk}
 use Rattle.std.specs.List.{AllZip}
 use Rattle.depsets.specs.Listed.{walked}
 use Rattle.claims.specs.Buckets.{no_members, put_all}
@@ -15,6 +15,7 @@ returns c =
     let are =
     subst (λ ls. AllZip IsSetOf (put_all ls (map no_members os) 0 os) c.in_ok-sets.sets.items) led
     (subst (λ bs. AllZip IsSetOf bs c.in_ok-sets.sets.items) (c.deref.ensures.value ∙ c.in_ok-buckets.ensures) c.in_ok-sets.ensures) in
-    c.in_ok-found.ensures ∙ ap (λ ls. tellings_from ls c.deref-2.result.now 0 os) led
+    subst (λ ts. IfOk c.tellings.result (λ v. v.items ≡ ts))
+    (ap (λ ls. tellings_from ls c.deref-2.result.now 0 os) led
     ∙ ap (λ ss. tellings_from (leaders walked os) ss 0 os) c.deref-2.ensures.value
-    ∙ tellings_found walked os c.in_ok-sets.sets.items are
+    ∙ tellings_found walked os c.in_ok-sets.sets.items are) c.tellings.ensures
