@@ -517,18 +517,8 @@ fn begin_in(cell: &mut Cell) -> Result<(), Broken>
     ensures full { IfErr result (λ e. e ≡ Broken.NoMemory → IsFull cell.old) }
 {
     match cell {
-        Cell::List(_, walks) => {
-            if let Err(refused) = count_up(walks) {
-                return Err(refused);
-            }
-            Ok(())
-        }
-        Cell::Dict(_, walks) => {
-            if let Err(refused) = count_up(walks) {
-                return Err(refused);
-            }
-            Ok(())
-        }
+        Cell::List(_, walks) => count_up(walks),
+        Cell::Dict(_, walks) => count_up(walks),
         Cell::Tuple(_) => Ok(()),
         Cell::Instance(_, _) => Err(Broken::Kind(Kind::Wrong)),
     }
