@@ -21,8 +21,7 @@ fn put_outputs(out: &mut String, action: &Action) -> Result<(), AllocError>
     out.push_str("  action ")?;
     out.push_str(action.mnemonic.as_str())?;
     out.push_str(" outputs ")?;
-    put_file_list(out, action.outputs.as_slice())?;
-    Ok(())
+    put_file_list(out, action.outputs.as_slice())
 }
 
 /// Appends the list of an action's inputs, those of a depset by its listing.
@@ -44,11 +43,11 @@ fn put_content(out: &mut String, content: &Option<Text>) -> Result<(), AllocErro
     ensures { OnOk result
         (string_bytes out.new ≡ string_bytes out.old ++ content_text content.now) }
 {
-    if let Some(text) = content {
-        out.push_str(" content ")?;
-        put_quoted(out, text.as_str())?;
-    }
-    Ok(())
+    let Some(text) = content else {
+        return Ok(());
+    };
+    out.push_str(" content ")?;
+    put_quoted(out, text.as_str())
 }
 
 /// Appends the words of an action and its content.
@@ -57,8 +56,7 @@ fn put_words(out: &mut String, action: &Action) -> Result<(), AllocError>
 {
     out.push_str(" words ")?;
     put_text_list(out, action.words.as_slice())?;
-    put_content(out, &action.content)?;
-    Ok(())
+    put_content(out, &action.content)
 }
 
 /// Appends the text of an action.
@@ -69,8 +67,7 @@ fn put_action(alloc: Global, out: &mut String, action: &Action) -> Result<(), Al
     put_outputs(out, action)?;
     out.push_str(" inputs ")?;
     put_inputs(alloc, out, &action.inputs)?;
-    put_words(out, action)?;
-    Ok(())
+    put_words(out, action)
 }
 
 /// Appends the line of an action that isn't shared.
@@ -79,8 +76,7 @@ fn put_alone(alloc: Global, out: &mut String, action: &Action) -> Result<(), All
         ≡ string_bytes out.old ++ line (action_text walked action.now)) }
 {
     put_action(alloc, out, action)?;
-    out.push_str("\n")?;
-    Ok(())
+    out.push_str("\n")
 }
 
 /// Appends the labels of an action's owners.
@@ -88,8 +84,7 @@ fn put_owners(out: &mut String, owners: &Words) -> Result<(), AllocError>
     ensures { OnOk result (string_bytes out.new ≡ string_bytes out.old ++ owners_text owners.now) }
 {
     out.push_str(" owners")?;
-    put_spaced(out, owners.as_slice())?;
-    Ok(())
+    put_spaced(out, owners.as_slice())
 }
 
 /// Appends the line of an action that is told for all its owners.
@@ -104,8 +99,7 @@ fn put_shared(
 {
     put_action(alloc, out, action)?;
     put_owners(out, owners)?;
-    out.push_str("\n")?;
-    Ok(())
+    out.push_str("\n")
 }
 
 /// Appends the line of an action that is told so, if it has one.

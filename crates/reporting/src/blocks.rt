@@ -81,8 +81,7 @@ pub(crate) fn tell_nodes(alloc: Global, nodes: &[Node<'_>]) -> Result<Told, Allo
         (owned_actions (nodes_seen nodes.now))) }
 {
     let owned = owned_actions(alloc, nodes)?;
-    let told = tell(alloc, &owned)?;
-    Ok(told)
+    tell(alloc, &owned)
 }
 
 /// The first `count` tellings, or all of them where there are fewer.

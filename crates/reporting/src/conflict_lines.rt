@@ -31,6 +31,5 @@ pub fn put_conflict(out: &mut String, conflict: &Conflict) -> Result<(), AllocEr
     out.push_str("conflict ")?;
     out.push_str(conflict.path.as_str())?;
     put_spaced(out, conflict.labels.as_slice())?;
-    out.push_str("\n")?;
-    Ok(())
+    out.push_str("\n")
 }

@@ -14,8 +14,7 @@ pub(crate) fn put_place(out: &mut String, path: &Text, line: u64) -> Result<(), 
         (string_bytes out.new ≡ string_bytes out.old ++ place_text path.now line) }
 {
     out.push_str(path.as_str())?;
-    write!(out, ":{line}")?;
-    Ok(())
+    write!(out, ":{line}")
 }
 
 /// Appends the kind of a fault of an evaluation; that of `fail` with its text.
@@ -26,11 +25,10 @@ pub(crate) fn put_kind(out: &mut String, kind: &Kind) -> Result<(), AllocError>
     match kind {
         Kind::Fail(text) => {
             out.push_str("fail ")?;
-            put_quoted(out, text.as_str())?;
+            put_quoted(out, text.as_str())
         }
-        other => out.push_str(other.name())?,
+        other => out.push_str(other.name()),
     }
-    Ok(())
 }
 
 /// Appends the kind of a fault of an evaluation behind a word.
@@ -39,6 +37,5 @@ pub(crate) fn put_kind_behind(out: &mut String, word: &str, kind: &Kind) -> Resu
         ≡ string_bytes out.old ++ (word.now ++ evaluation_text kind.now)) }
 {
     out.push_str(word)?;
-    put_kind(out, kind)?;
-    Ok(())
+    put_kind(out, kind)
 }

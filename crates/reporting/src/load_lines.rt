@@ -15,16 +15,15 @@ fn put_load_kind(out: &mut String, kind: &LoadFaultKind<FaultKind, Kind>) -> Res
     ensures { OnOk result (string_bytes out.new ≡ string_bytes out.old ++ load_kind_text kind.now) }
 {
     match kind {
-        LoadFaultKind::Syntax(kind) => write!(out, "syntax {kind}")?,
-        LoadFaultKind::LoadCycle => out.push_str("load cycle")?,
-        LoadFaultKind::MissingFile => out.push_str("missing file")?,
-        LoadFaultKind::LoadedModuleFailed => out.push_str("loaded module failed")?,
-        LoadFaultKind::PrivateName => out.push_str("private name")?,
-        LoadFaultKind::MissingName => out.push_str("missing name")?,
-        LoadFaultKind::Evaluation(kind) => put_kind_behind(out, "evaluation ", kind)?,
-        LoadFaultKind::Unexported => out.push_str("unexported")?,
+        LoadFaultKind::Syntax(kind) => write!(out, "syntax {kind}"),
+        LoadFaultKind::LoadCycle => out.push_str("load cycle"),
+        LoadFaultKind::MissingFile => out.push_str("missing file"),
+        LoadFaultKind::LoadedModuleFailed => out.push_str("loaded module failed"),
+        LoadFaultKind::PrivateName => out.push_str("private name"),
+        LoadFaultKind::MissingName => out.push_str("missing name"),
+        LoadFaultKind::Evaluation(kind) => put_kind_behind(out, "evaluation ", kind),
+        LoadFaultKind::Unexported => out.push_str("unexported"),
     }
-    Ok(())
 }
 
 /// Appends which file failed, and why.
@@ -39,8 +38,7 @@ fn put_file(
     out.push_str("load ")?;
     out.push_str(path.as_str())?;
     out.push_str(" ")?;
-    put_load_kind(out, kind)?;
-    Ok(())
+    put_load_kind(out, kind)
 }
 
 /// Appends where a fault stands.
@@ -49,8 +47,7 @@ pub(crate) fn put_at(out: &mut String, path: &Text, line: u64) -> Result<(), All
         ≡ string_bytes out.old ++ (codes " at " ++ place_text path.now line)) }
 {
     out.push_str(" at ")?;
-    put_place(out, path, line)?;
-    Ok(())
+    put_place(out, path, line)
 }
 
 /// Appends the line of a file at a path that has this fault.
@@ -68,6 +65,5 @@ pub fn put_load_fault(
 {
     put_file(out, path, &fault.kind)?;
     put_at(out, &fault.path, fault.line)?;
-    out.push_str("\n")?;
-    Ok(())
+    out.push_str("\n")
 }

@@ -168,8 +168,7 @@ fn told_lines<R: Threads + Sync>(
         ++ flat_map conflict_line told.now.conflicts.items)) }
 {
     let blocks = blocks(alloc, nodes, &told.tellings)?;
-    let parts = lines(rt, alloc, faults, &blocks, &told.conflicts, threads)?;
-    Ok(parts)
+    lines(rt, alloc, faults, &blocks, &told.conflicts, threads)
 }
 
 /// All lines, in parts.

@@ -39,8 +39,7 @@ fn put_refused(out: &mut String, what: &str, name: &Text, label: &Label) -> Resu
     out.push_str(what)?;
     out.push_str(name.as_str())?;
     out.push_str(" ")?;
-    out.push_str(label.text())?;
-    Ok(())
+    out.push_str(label.text())
 }
 
 /// Appends the labels of dependencies that failed.
@@ -49,8 +48,7 @@ fn put_failed(out: &mut String, labels: &[Shared<Label>]) -> Result<(), AllocErr
         ≡ string_bytes out.old ++ (codes "dependency failed" ++ flat_map spaced_label labels.now)) }
 {
     out.push_str("dependency failed")?;
-    put_labels(out, labels)?;
-    Ok(())
+    put_labels(out, labels)
 }
 
 /// Appends the fault of an implementation, and where it stands.
@@ -65,8 +63,7 @@ fn put_implementation(
         ++ (codes " at " ++ place_text path.now line))) }
 {
     put_kind_behind(out, "implementation ", kind)?;
-    put_at(out, path, line)?;
-    Ok(())
+    put_at(out, path, line)
 }
 
 /// Appends the path of a declared file that no action makes.
@@ -75,8 +72,7 @@ fn put_no_action(out: &mut String, path: &Text) -> Result<(), AllocError>
         ≡ string_bytes out.old ++ (codes "no action " ++ path.now)) }
 {
     out.push_str("no action ")?;
-    out.push_str(path.as_str())?;
-    Ok(())
+    out.push_str(path.as_str())
 }
 
 /// Appends why a target has no providers.
@@ -85,24 +81,21 @@ fn put_fault(out: &mut String, fault: &TargetFault) -> Result<(), AllocError>
         ≡ string_bytes out.old ++ target_fault_text fault.now) }
 {
     match fault {
-        TargetFault::Cycle => out.push_str("cycle")?,
-        TargetFault::NoSuchTarget => out.push_str("no such target")?,
-        TargetFault::PackageFailed => out.push_str("package failed")?,
-        TargetFault::DependencyFailed(labels) => put_failed(out, labels.as_slice())?,
+        TargetFault::Cycle => out.push_str("cycle"),
+        TargetFault::NoSuchTarget => out.push_str("no such target"),
+        TargetFault::PackageFailed => out.push_str("package failed"),
+        TargetFault::DependencyFailed(labels) => put_failed(out, labels.as_slice()),
         TargetFault::ProvidersMissing(name, label) => put_refused(
             out,
             "providers missing ",
             name,
             label.get(),
-        )?,
-        TargetFault::FileKind(name, label) => put_refused(out, "file kind ", name, label.get())?,
-        TargetFault::Implementation(kind, path, line) => put_implementation(
-            out, kind, path, *line,
-        )?,
-        TargetFault::Returned => out.push_str("returned")?,
-        TargetFault::NoAction(path) => put_no_action(out, path)?,
+        ),
+        TargetFault::FileKind(name, label) => put_refused(out, "file kind ", name, label.get()),
+        TargetFault::Implementation(kind, path, line) => put_implementation(out, kind, path, *line),
+        TargetFault::Returned => out.push_str("returned"),
+        TargetFault::NoAction(path) => put_no_action(out, path),
     }
-    Ok(())
 }
 
 /// Appends a word, a label, and what stands behind it.
@@ -112,8 +105,7 @@ fn put_head(out: &mut String, word: &str, label: &Label, behind: &str) -> Result
 {
     out.push_str(word)?;
     out.push_str(label.text())?;
-    out.push_str(behind)?;
-    Ok(())
+    out.push_str(behind)
 }
 
 /// Appends the line of a source file.
@@ -123,8 +115,7 @@ fn put_source(out: &mut String, label: &Label, path: &Text) -> Result<(), AllocE
 {
     put_head(out, "source ", label, " ")?;
     out.push_str(path.as_str())?;
-    out.push_str("\n")?;
-    Ok(())
+    out.push_str("\n")
 }
 
 /// Appends the line of a target that failed.
@@ -135,8 +126,7 @@ fn put_failure(out: &mut String, label: &Label, fault: &TargetFault) -> Result<(
 {
     put_head(out, "target ", label, " failed ")?;
     put_fault(out, fault)?;
-    out.push_str("\n")?;
-    Ok(())
+    out.push_str("\n")
 }
 
 /// Appends the line of a target that is done.
@@ -145,8 +135,7 @@ fn put_done(out: &mut String, label: &Label) -> Result<(), AllocError>
         ++ line (codes "target " ++ (label_text label.now ++ codes " ok"))) }
 {
     put_head(out, "target ", label, " ok")?;
-    out.push_str("\n")?;
-    Ok(())
+    out.push_str("\n")
 }
 
 /// Appends the lines of what becomes of a label, whose actions are told so.

@@ -20,8 +20,7 @@ fn put_given(alloc: Global, out: &mut String, name: &Text, value: &Frozen) -> Re
 {
     out.push_str(" ")?;
     put_field_head(out, name)?;
-    put_tree(alloc, out, value)?;
-    Ok(())
+    put_tree(alloc, out, value)
 }
 
 /// Appends a field, if it was given.
@@ -61,14 +60,14 @@ fn put_instance(alloc: Global, out: &mut String, node: &Node) -> Result<(), Allo
     ensures { OnOk result (string_bytes out.new
         ≡ string_bytes out.old ++ instance_line walked (node_branch node.now)) }
 {
-    if let Node::Instance(provider, fields) = node {
-        let provider = provider.get();
-        out.push_str("  provider ")?;
-        put_provider(out, &provider.name)?;
-        put_fields(alloc, out, provider.fields.as_slice(), fields.as_slice())?;
-        out.push_str("\n")?;
-    }
-    Ok(())
+    let Node::Instance(provider, fields) = node else {
+        return Ok(());
+    };
+    let provider = provider.get();
+    out.push_str("  provider ")?;
+    put_provider(out, &provider.name)?;
+    put_fields(alloc, out, provider.fields.as_slice(), fields.as_slice())?;
+    out.push_str("\n")
 }
 
 /// Appends the line of a provider.

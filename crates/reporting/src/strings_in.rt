@@ -16,8 +16,7 @@ fn put_string_at(out: &mut String, place: usize, text: &str) -> Result<(), Alloc
         ≡ string_bytes out.old ++ (separator place ++ quoted text.now)) }
 {
     put_separator(out, place)?;
-    put_quoted(out, text)?;
-    Ok(())
+    put_quoted(out, text)
 }
 
 /// Appends texts as strings, with commas between them.
@@ -48,8 +47,7 @@ pub(crate) fn put_text_list(out: &mut String, texts: &[Text]) -> Result<(), Allo
 {
     out.push_str("[")?;
     put_texts(out, texts)?;
-    out.push_str("]")?;
-    Ok(())
+    out.push_str("]")
 }
 
 /// Appends the list of the paths of Files.
@@ -59,8 +57,7 @@ pub(crate) fn put_file_list(out: &mut String, files: &[Shared<FileRef>]) -> Resu
 {
     out.push_str("[")?;
     put_paths(out, files)?;
-    out.push_str("]")?;
-    Ok(())
+    out.push_str("]")
 }
 
 /// Appends the paths of the Files among elements as strings, with commas between them.
@@ -85,6 +82,5 @@ pub(crate) fn put_element_list(out: &mut String, elements: &Elements<'_>) -> Res
 {
     out.push_str("[")?;
     put_element_paths(out, elements)?;
-    out.push_str("]")?;
-    Ok(())
+    out.push_str("]")
 }
