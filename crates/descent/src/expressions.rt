@@ -156,16 +156,11 @@ impl<F: for<'t> Fn(Global, &mut Ahead<'_, 't>, usize, Row, usize) -> Result<Part
             (spec.argument (spec.read self.now.turns) self.now.most room ahead.old)
             (λ a u. Some (spec.with_argument (arguments_seen found.entry) a, u))) result ahead.new }
     {
-        match ahead.named() {
-            Some(name) => {
-                let name = Name::new(name);
-                let value = self.inside(ahead, Row::Whole, room)?;
-                Ok(parts::with_keyword(found, name, value)?)
-            }
-            None => {
-                let value = self.inside(ahead, Row::Whole, room)?;
-                Ok(parts::with_positional(found, value)?)
-            }
+        let name = ahead.named();
+        let value = self.inside(ahead, Row::Whole, room)?;
+        match name {
+            Some(name) => Ok(parts::with_keyword(found, Name::new(name), value)?),
+            None => Ok(parts::with_positional(found, value)?),
         }
     }
 
