@@ -275,12 +275,11 @@ impl FormReader {
         let Some(name) = ahead.name() else {
             return Err(Stop::NoForm);
         };
-        let name = Name::new(name);
         if !ahead.assign() {
-            return Ok(Param::Required(name));
+            return Ok(Param::Required(Name::new(name)));
         }
         let default = self.expr(ahead, MAX_DEPTH)?;
-        Ok(Param::Optional(name, Box::into_inner(default.expr)))
+        Ok(Param::Optional(Name::new(name), Box::into_inner(default.expr)))
     }
 
     /// The parameters of a function, up to the closing bracket.
@@ -321,18 +320,13 @@ impl FormReader {
     fn item<'t>(&self, ahead: &mut Ahead<'_, 't>) -> Result<Item<'t>, Stop>
         ensures { Reads item_of (spec.item self.now.turns ahead.old) result ahead.new }
     {
-        match ahead.named() {
-            Some(name) => {
-                let binds = Name::new(name);
-                let asked = self.string(ahead)?;
-                Ok(Item { binds, asked })
-            }
-            None => {
-                let asked = self.string(ahead)?;
-                let binds = Name::from_text(asked.share()?);
-                Ok(Item { binds, asked })
-            }
-        }
+        let name = ahead.named();
+        let asked = self.string(ahead)?;
+        let binds = match name {
+            Some(name) => Name::new(name),
+            None => Name::from_text(asked.share()?),
+        };
+        Ok(Item { binds, asked })
     }
 
     /// All that a `load` asks for, up to the closing bracket.
@@ -371,10 +365,7 @@ impl FormReader {
             return Err(Stop::NoForm);
         }
         let items = self.items(ahead)?;
-        if items.is_empty() {
-            return Err(Stop::NoForm);
-        }
-        if !ahead.is_done() {
+        if items.is_empty() || !ahead.is_done() {
             return Err(Stop::NoForm);
         }
         Ok((Form::Load(module, items), Body::Nothing))
@@ -388,12 +379,11 @@ impl FormReader {
         let Some(name) = ahead.name() else {
             return Err(Stop::NoForm);
         };
-        let name = Name::new(name);
         if !ahead.open_round() {
             return Err(Stop::NoForm);
         }
         let params = self.params(ahead)?;
-        self.bodied(ahead, Form::Def(name, params))
+        self.bodied(ahead, Form::Def(Name::new(name), params))
     }
 
     /// Behind `for`.
@@ -404,15 +394,11 @@ impl FormReader {
         let Some(name) = ahead.name() else {
             return Err(Stop::NoForm);
         };
-        let name = Name::new(name);
         let Some(others) = ahead.names_in(self.alloc)? else {
             return Err(Stop::NoForm);
         };
-        let operand = self.expr(ahead, MAX_DEPTH)?;
-        self.bodied(
-            ahead,
-            Form::For(name, others, Box::into_inner(operand.expr)),
-        )
+        let operand = Box::into_inner(self.expr(ahead, MAX_DEPTH)?.expr);
+        self.bodied(ahead, Form::For(Name::new(name), others, operand))
     }
 
     /// Behind `if`.
