@@ -1,4 +1,5 @@
-//! Calls of the built-in functions and of the methods of values, with their arguments.
+//! Calls of the built-in functions and of the methods of values, with their arguments; and what is
+//! in a list, a tuple, a dict or a string.
 //!
 //! Each call does what its definition in `operations` says, for every state; those that may give a
 //! `Broken` may answer instead that memory was refused. After a fault, and after such a refusal,
@@ -6,21 +7,26 @@
 //! methods of `attr` and of `ctx.actions` are those of one place, and aren't here.
 #![tactic(auto)]
 
+mod affixes;
 mod arguments;
 mod binding;
 mod built_ins;
 mod dicts;
 mod functions;
+mod joins;
+mod members;
 mod methods;
 mod pairs;
 mod ranges;
 mod receivers;
+mod splits;
 
 pub use arguments::{Parameter, argument, got, only, positions};
 pub use binding::check_arguments;
 pub use built_ins::{fail, len, list, str};
 pub use dicts::{get, keys, values};
 pub use functions::{call_built_in, call_provider};
+pub use members::member;
 pub use methods::call_method;
 pub use pairs::items;
 pub use ranges::range;

@@ -12,14 +12,16 @@ ghost use Rattle.operations.specs.Depsets.{to_list};
 ghost use Rattle.operations.specs.Strings.{split, join, starts_with, ends_with};
 ghost use Rattle.operations.specs.Calls.{of_text, of_depset, method_of, method_call};
 
+use crate::affixes::{ends_with, starts_with};
 use crate::arguments::{only, positions};
 use crate::dicts::{get, keys, values};
+use crate::joins::join;
 use crate::pairs::items;
 use crate::receivers::{depset_of, string_of};
+use crate::splits::split;
 use operands::{Operand, as_value, owned};
 use operations::{Arguments, Method, State};
 use std::alloc::Global;
-use text_calls::{ends_with, join, split, starts_with};
 use values::{Broken, Item, Kind, Value};
 
 /// The call of a method of a list, a dict, a string or a depset. What `get` finds in a dict that is

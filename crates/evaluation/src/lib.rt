@@ -4,13 +4,15 @@
 //! it, `Worlds` what an evaluation knows of the modules before it, `Naming` how providers and rules
 //! get their names, and `Runs` what the top level of a module or a `BUILD` file and the call of an
 //! implementation come to, over any place of each. `Workspaces` puts them together for the files of
-//! a workspace.
+//! a workspace. [`first_state`] and [`state_of_target`] are what an evaluation begins with.
 #![tactic(auto)]
 
+mod beginning;
 mod handed;
 mod made;
 mod names;
 
+pub use beginning::{first_state, state_of_target};
 pub use handed::{Globals, Module};
 pub use made::Made;
 pub use names::TopNames;

@@ -8,10 +8,9 @@ use crate::world::World;
 use field_names::FieldName;
 use finding::Found;
 use frames::Callee;
-use language::Whole;
+use language::{Link, Place, Whole};
 use language_calls::of_place;
 use operands::Operand;
-use places::{Link, Place};
 use values::{Broken, Leaf};
 
 /// What `owner.name` is where it is called: of a target or an object its place's. The owner of a

@@ -6,10 +6,9 @@ ghost use Rattle.ticks.specs.Ticking.{Says};
 
 use crate::world::World;
 use field_names::FieldName;
-use language::Whole;
+use language::{Link, Place, Whole};
 use language_calls::{of_place, target_of};
 use operands::Operand;
-use places::{Link, Place};
 use values::{Broken, Item};
 
 /// `value.name`: of a target or an object its place's.

@@ -7,9 +7,8 @@ ghost use Rattle.ticks.specs.Ticking.{Says};
 
 use crate::world::World;
 use grammar::{Operator, Sign};
-use language::Whole;
+use language::{Link, Place, Whole};
 use language_calls::target_of;
-use places::{Link, Place};
 use values::{Broken, Item, Key, Value};
 
 /// An operator between two values, but `and` and `or`.

@@ -10,10 +10,9 @@ ghost use Rattle.file_places.specs.BuildPlace.{refused_call, rule_called};
 
 use crate::methods::{declared_kind, has_method};
 use field_names::FieldName;
-use language::Whole;
+use language::{Place, Whole, Works};
 use operands::Operand;
 use operations::Arguments;
-use places::{Place, Works};
 use plain::Shared;
 use rule_calls::{PackageTargets, call_rule};
 use std::alloc::Global;

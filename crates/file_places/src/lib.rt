@@ -2,8 +2,8 @@
 //!
 //! A module declares providers, rules and attributes, and a `BUILD` file targets, by calls of
 //! rules. `specs/ModulePlace` and `specs/BuildPlace` make of these the records over which the
-//! language has its meaning (`language`); [`ModulePlace`] and [`BuildPlace`] are the places of
-//! `places` that have these. [`made_of`] is what a module leaves at its end.
+//! language has its meaning (`language`); [`ModulePlace`] and [`BuildPlace`] are the places
+//! ([`language::Place`]) that have these. [`made_of`] is what a module leaves at its end.
 #![tactic(auto)]
 
 mod build_place;

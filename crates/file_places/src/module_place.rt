@@ -7,10 +7,9 @@ ghost use Rattle.file_places.specs.ModulePlace.{attribute_call, built_in_call};
 use crate::methods::{declared_kind, has_method};
 use declaring::{Attributes, Declarations, new_attribute, new_provider, new_rule};
 use field_names::FieldName;
-use language::Whole;
+use language::{Place, Whole, Works};
 use operands::Operand;
 use operations::Arguments;
-use places::{Place, Works};
 use std::alloc::Global;
 use values::{AttributeKind, Broken, BuiltIn, Item, Kind, Leaf, Value};
 

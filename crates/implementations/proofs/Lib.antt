@@ -1,2 +1,3 @@
+pub mod Outputs
 mod Rows
 mod WholeRow

@@ -1,1 +1,2 @@
 pub mod Implementations
+pub mod Programs

@@ -5,15 +5,15 @@ ghost use Rattle.ticks.specs.Ticking.{Says};
 ghost use Rattle.implementations.specs.Implementations.{implementation_place, call_method};
 ghost use Rattle.implementations.specs.Implementations.{action_call};
 
+use crate::calling;
 use crate::methods::{action_named, attr_refused, has_method, refused};
+use crate::mnemonics::Mnemonics;
 use contexts::{ActionMethod, FileLists, TargetContext, Work, field, item, offers};
 use field_names::FieldName;
-use language::Whole;
+use language::{Place, Whole, Works};
 use operands::Operand;
 use operations::Arguments;
-use places::{Place, Works};
 use std::alloc::Global;
-use target_actions::Mnemonics;
 use values::{Broken, Item, Kind, Leaf, Object, Value};
 use workspace::Label;
 
@@ -155,7 +155,7 @@ fn call_action(
         return Err(Broken::Kind(Kind::Name));
     };
     let state = &whole.state;
-    target_actions::call_method(
+    calling::call_method(
         alloc,
         label,
         mnemonics,

@@ -1,3 +1,4 @@
 pub mod Place
+pub mod Nothing
 pub mod Language
 pub mod Laws

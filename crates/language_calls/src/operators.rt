@@ -92,7 +92,7 @@ fn within(state: &mut State, left: Item<'_>, right: Item<'_>) -> Result<Value, B
     ensures { Does (as_truth (member (item_value left.entry) (item_value right.entry))) state.old
         result state.new }
 {
-    let held = text_calls::member(state, left, right)?;
+    let held = calls::member(state, left, right)?;
     Ok(Value::Key(Key::Truth(held)))
 }
 
@@ -102,7 +102,7 @@ fn not_within(state: &mut State, left: Item<'_>, right: Item<'_>) -> Result<Valu
     ensures { Does (as_opposite (member (item_value left.entry) (item_value right.entry))) state.old
         result state.new }
 {
-    let held = text_calls::member(state, left, right)?;
+    let held = calls::member(state, left, right)?;
     Ok(Value::Key(Key::Truth(!held)))
 }
 

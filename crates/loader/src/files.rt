@@ -6,7 +6,7 @@ ghost use Rattle.loader.specs.MadeBefore.{attribute_at, rule_of};
 
 use crate::known::KnownModules;
 use evaluation::Module;
-use places::Link;
+use language::Link;
 use plain::{Shared, Text};
 use sources::load_path;
 use std::alloc::{AllocError, Global};

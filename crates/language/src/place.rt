@@ -1,0 +1,87 @@
+//! What only one place has.
+ghost use Rattle.std.specs.Prelude.{◌≡◌};
+ghost use Rattle.values.specs.Seeing.{item_value};
+ghost use Rattle.operations.specs.Arguments.{given};
+ghost use Rattle.language.specs.Place.{Place as Having};
+ghost use Rattle.operations.specs.States.{Gives};
+ghost use Rattle.ticks.specs.Ticking.{Says};
+
+use crate::Whole;
+use field_names::FieldName;
+use operands::Operand;
+use operations::Arguments;
+use std::alloc::Global;
+use values::{Broken, Item, Leaf, Value};
+
+/// What has work of its own.
+pub trait Works {
+    /// What its calls change beside the state of the evaluation.
+    type Work;
+}
+
+/// A module, a `BUILD` file or an implementation: its calls, and what its targets and objects show.
+/// What lies in what lives longer than the evaluation is lent.
+///
+/// Each method gives what the place gives, with the state after it, or the fault that it has. Where
+/// memory was refused nothing is said.
+pub trait Place<'a>: Works {
+    ghost place: { Self → Having Self.Work };
+
+    /// A call of `provider` or `rule`, or of a rule.
+    fn call(
+        &self,
+        alloc: Global,
+        whole: &mut Whole<Self::Work>,
+        callee: &Leaf,
+        arguments: &Arguments<'_, '_>,
+    ) -> Result<Value, Broken>
+        ensures { Says ((place self.now).call callee.now (given arguments.now) whole.old) result
+            whole.new };
+
+    /// Whether a target or an object has a method of this name.
+    fn has_method(&self, owner: &Leaf, name: &FieldName) -> bool
+        ensures { result ≡ (place self.now).has_method owner.now name.now };
+
+    /// A call of a method of a target or an object.
+    fn method(
+        &self,
+        alloc: Global,
+        whole: &mut Whole<Self::Work>,
+        owner: &Leaf,
+        name: &FieldName,
+        arguments: &Arguments<'_, '_>,
+    ) -> Result<Value, Broken>
+        ensures { Says ((place self.now).method owner.now name.now (given arguments.now) whole.old)
+            result whole.new };
+
+    /// A field of a target or an object.
+    fn field(
+        &self,
+        alloc: Global,
+        whole: &Whole<Self::Work>,
+        owner: &Leaf,
+        name: &FieldName,
+    ) -> Result<Operand<'a>, Broken>
+        ensures { Gives ((place self.now).field owner.now name.now whole.now) result };
+
+    /// `t[P]` of the target at a place among the dependencies.
+    fn item(
+        &self,
+        alloc: Global,
+        whole: &Whole<Self::Work>,
+        target: usize,
+        provider: Item<'_>,
+    ) -> Result<Operand<'a>, Broken>
+        ensures { Gives
+            ((place self.now).item target (item_value provider.entry) whole.now) result };
+
+    /// `P in t` of the target at a place among the dependencies.
+    fn offers(
+        &self,
+        whole: &Whole<Self::Work>,
+        target: usize,
+        provider: Item<'_>,
+    ) -> Result<bool, Broken>
+        ensures { Gives
+            ((place self.now).offers target (item_value provider.entry) whole.now) result };
+}
