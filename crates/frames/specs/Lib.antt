@@ -1,4 +1,5 @@
 pub mod Stopped
+pub mod Onward
 pub mod Answers
 pub mod Popped
 pub mod Seen

@@ -5,11 +5,11 @@ ghost use Rattle.meaning.specs.Instructions as instr;
 ghost use Rattle.frames.specs.Seen.{Performs};
 
 use crate::frame::Frame;
+use crate::onward::{put, put_own};
 use crate::stack::Stack;
 use crate::stop::{Step, Stop, stop_at};
 use crate::taking::take;
 use crate::world::Operate;
-use operands::Operand;
 
 /// A list of so many values.
 ///
@@ -34,13 +34,8 @@ pub fn make_list<'a, W: Operate<'a>>(
     if !take(count, &mut f.values, &mut items)? {
         return Ok(Step::Stuck);
     }
-    let value = match world.new_list(state, items) {
-        Ok(value) => value,
-        Err(broken) => return Err(stop_at(broken, f.function.file, line)),
-    };
-    f.values.push(Operand::own(value))?;
-    f.place += 1;
-    Ok(Step::More)
+    let given = world.new_list(state, items);
+    put_own(f, line, given)
 }
 
 /// A tuple of so many values.
@@ -66,13 +61,8 @@ pub fn make_tuple<'a, W: Operate<'a>>(
     if !take(count, &mut f.values, &mut items)? {
         return Ok(Step::Stuck);
     }
-    let value = match world.new_tuple(state, items) {
-        Ok(value) => value,
-        Err(broken) => return Err(stop_at(broken, f.function.file, line)),
-    };
-    f.values.push(Operand::own(value))?;
-    f.place += 1;
-    Ok(Step::More)
+    let given = world.new_tuple(state, items);
+    put_own(f, line, given)
 }
 
 /// A dict without entries.
@@ -91,13 +81,8 @@ pub fn new_dict<'a, W: Operate<'a>>(
     ensures { Performs W.rest (W.operations world.now) line instr.new_dict f.old state.old result
         f.new state.new }
 {
-    let value = match world.new_dict(state) {
-        Ok(value) => value,
-        Err(broken) => return Err(stop_at(broken, f.function.file, line)),
-    };
-    f.values.push(Operand::own(value))?;
-    f.place += 1;
-    Ok(Step::More)
+    let given = world.new_dict(state);
+    put_own(f, line, given)
 }
 
 /// An item for the list below it, which stays.
@@ -125,9 +110,7 @@ pub fn collect<'a, W: Operate<'a>>(
     if let Err(broken) = world.collect(state, list.item(), item) {
         return Err(stop_at(broken, f.function.file, line));
     }
-    f.values.push(list)?;
-    f.place += 1;
-    Ok(Step::More)
+    put(f, list)
 }
 
 /// An entry of a display for the dict below it, which stays.
@@ -158,9 +141,7 @@ pub fn enter<'a, W: Operate<'a>>(
     if let Err(broken) = world.enter(state, dict.item(), key.item(), value) {
         return Err(stop_at(broken, f.function.file, line));
     }
-    f.values.push(dict)?;
-    f.place += 1;
-    Ok(Step::More)
+    put(f, dict)
 }
 
 /// An entry of a comprehension for the dict below it, which stays.
@@ -191,7 +172,5 @@ pub fn keep<'a, W: Operate<'a>>(
     if let Err(broken) = world.keep(state, dict.item(), key.item(), value) {
         return Err(stop_at(broken, f.function.file, line));
     }
-    f.values.push(dict)?;
-    f.place += 1;
-    Ok(Step::More)
+    put(f, dict)
 }

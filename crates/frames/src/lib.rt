@@ -17,6 +17,7 @@ mod frame;
 mod items;
 mod jumps;
 mod names;
+mod onward;
 mod operators;
 mod pushes;
 mod slots;

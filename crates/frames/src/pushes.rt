@@ -5,6 +5,7 @@ ghost use Rattle.meaning.specs.Instructions as instr;
 ghost use Rattle.frames.specs.Seen.{Performs};
 
 use crate::frame::Frame;
+use crate::onward::put;
 use crate::stop::{Step, Stop};
 use crate::world::Operate;
 use keys::TextKey;
@@ -29,9 +30,7 @@ pub fn push_number<'a, W: Operate<'a>>(
         result f.new s }
 {
     let value = world.number(number)?;
-    f.values.push(Operand::own(value))?;
-    f.place += 1;
-    Ok(Step::More)
+    put(f, Operand::own(value))
 }
 
 /// A string that the file writes out.
@@ -51,9 +50,7 @@ pub fn push_text<'a, W: Operate<'a>>(
         text.now) f.old s
         result f.new s }
 {
-    f.values.push(world.string(text))?;
-    f.place += 1;
-    Ok(Step::More)
+    put(f, world.string(text))
 }
 
 /// `None`.
@@ -72,9 +69,7 @@ pub fn push_none<'a, W: Operate<'a>>(
         result f.new s }
 {
     let value = world.none();
-    f.values.push(Operand::own(value))?;
-    f.place += 1;
-    Ok(Step::More)
+    put(f, Operand::own(value))
 }
 
 /// What each file finds bound.
@@ -94,7 +89,5 @@ pub fn push_builtin<'a, W: Operate<'a>>(
         name) f.old s
         result f.new s }
 {
-    f.values.push(world.predeclared(name))?;
-    f.place += 1;
-    Ok(Step::More)
+    put(f, world.predeclared(name))
 }
