@@ -1,1 +1,2 @@
+pub mod MayCross
 pub mod NoLabels

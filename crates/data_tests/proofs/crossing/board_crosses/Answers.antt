@@ -1,6 +1,6 @@
 use Rattle.board.proofs.board.Board.TheSendSync as board
-use Rattle.crossing_tests.proofs.Crossing.{crosses}
-use Rattle.crossing_tests.proofs.board_crosses.Goals as goal
+use Rattle.data_tests.proofs.MayCross.{crosses}
+use Rattle.data_tests.proofs.crossing.board_crosses.Goals as goal
 
 pub crosses-requires-send-T : goal.crosses-requires-send-T
 crosses-requires-send-T c κs = search (board.the_send, crosses) depth 40

@@ -1,5 +1,5 @@
-use Rattle.crossing_tests.proofs.Crossing.{crosses}
-use Rattle.crossing_tests.proofs.outcome_crosses.Goals as goal
+use Rattle.data_tests.proofs.MayCross.{crosses}
+use Rattle.data_tests.proofs.crossing.outcome_crosses.Goals as goal
 
 pub crosses-requires-send-T : goal.crosses-requires-send-T
 crosses-requires-send-T c κs = search crosses depth 40

@@ -1,4 +1,4 @@
-//! Conflicts and shared actions of small lists.
+//! Conflicts and shared actions of small lists, whose owners and places are out of order.
 use actions::{Action, Files, Inputs, Words};
 use claims::{Conflict, Owned, Places, Shared, shared, tell};
 use depsets::FileRef;

@@ -1,5 +1,5 @@
-use Rattle.crossing_tests.proofs.Crossing.{crosses}
-use Rattle.crossing_tests.proofs.values_cross.Goals as goal
+use Rattle.data_tests.proofs.MayCross.{crosses}
+use Rattle.data_tests.proofs.crossing.frozen_crosses.Goals as goal
 
 pub crosses-requires-sync-T : goal.crosses-requires-sync-T
 crosses-requires-sync-T c κs = search crosses depth 40

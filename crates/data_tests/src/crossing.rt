@@ -1,11 +1,9 @@
 //! What workers hand to each other may cross threads: frozen values, lists of them, actions, and
 //! what becomes of a label.
 //!
-//! Each function here asks of one type that it is `Send`, `Sync` and `Drop`; that the crate is
+//! Each function here asks of one type that it is `Send`, `Sync` and `Drop`; that the tests are
 //! proved is the test. The facts stand in a file `proofs/Crossing.antt` beside each type: of a type
 //! that leads back to itself the prover's own search doesn't find them.
-#![tactic(auto)]
-
 use actions::Action;
 use board::Board;
 use targets::{Outcome, TargetFault};
