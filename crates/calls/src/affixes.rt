@@ -15,7 +15,7 @@ use values::{Key, Kind, Value};
 /// # Errors
 ///
 /// `type`, where the front is no string.
-pub(crate) fn starts_with(state: &State, text: &Text, front: &Operand<'_>) -> Result<Value, Kind>
+pub fn starts_with(state: &State, text: &Text, front: &Operand<'_>) -> Result<Value, Kind>
     ensures { DoesKind (starts_with text.now front.now) state.now result state.now }
 {
     let Some(front) = text_of(&state.heap.see_item(front.item())) else {
@@ -30,7 +30,7 @@ pub(crate) fn starts_with(state: &State, text: &Text, front: &Operand<'_>) -> Re
 /// # Errors
 ///
 /// `type`, where the back is no string.
-pub(crate) fn ends_with(state: &State, text: &Text, back: &Operand<'_>) -> Result<Value, Kind>
+pub fn ends_with(state: &State, text: &Text, back: &Operand<'_>) -> Result<Value, Kind>
     ensures { DoesKind (ends_with text.now back.now) state.now result state.now }
 {
     let Some(back) = text_of(&state.heap.see_item(back.item())) else {

@@ -25,7 +25,7 @@ use values::{Broken, Group, Key, Kind, Seen, Value};
 /// # Errors
 ///
 /// `type`, where it is no sequence of strings; then `large`. `NoMemory` where memory was refused.
-pub(crate) fn join(
+pub fn join(
     alloc: Global,
     state: &State,
     separator: &Text,

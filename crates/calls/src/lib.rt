@@ -21,12 +21,15 @@ mod ranges;
 mod receivers;
 mod splits;
 
+pub use affixes::{ends_with, starts_with};
 pub use arguments::{Parameter, argument, got, only, positions};
 pub use binding::check_arguments;
 pub use built_ins::{fail, len, list, str};
 pub use dicts::{get, keys, values};
 pub use functions::{call_built_in, call_provider};
+pub use joins::join;
 pub use members::member;
 pub use methods::call_method;
 pub use pairs::items;
 pub use ranges::range;
+pub use splits::split;

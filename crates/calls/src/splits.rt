@@ -22,7 +22,7 @@ use values::{Broken, Items, Key, Kind, Seen, Value};
 ///
 /// `type`, where the separator is no string or empty; then `large`. `NoMemory` where memory was
 /// refused.
-pub(crate) fn split(
+pub fn split(
     alloc: Global,
     state: &mut State,
     text: &Text,
