@@ -1,4 +1,8 @@
+pub mod Alone
 pub mod Crossing
+pub mod Enumerated
+pub mod Exists
+pub mod InOrder
 pub mod Labelled
 pub mod OneAnswer
 pub mod Plainly

@@ -1,4 +1,5 @@
--- There is one answer to labels of a workspace: its files, in ascending order, are one list, and so are the labels that are reached.
+-- What answers to labels of a workspace have in common: its files, in ascending order, are one list; whoever asks for more labels is told the same and more; and so there
+-- is one answer.
 use Rattle.std.proofs.Common.{◌≡◌, ◌∙◌, ℕ, zero, suc, List, [], ◌∷◌, map, Contains, ap, sym, subst, arith}
 use Rattle.std.specs.List.Sorted.{IsPermutation}
 use Rattle.std.proofs.lemmas.List.Elements.{All-contains}
@@ -10,11 +11,11 @@ use Rattle.outcomes.specs.Workspaces.{outcome_of}
 use Rattle.reporting.specs.Answers.{Node}
 use Rattle.loader.specs.Loaded.{AreFilesOf}
 use Rattle.workspace_laws.specs.Workspaces.{plain_workspace}
-use Rattle.answers.specs.Answers.{Answer, IsAnswerOf}
-use Rattle.answers.specs.Laws.{WorkspacesHaveOneAnswer}
+use Rattle.answers.specs.Answers.{Answer, IsAnswer, IsAnswerOf}
+use Rattle.answers.specs.Laws.{AreAmong, MoreLabelsChangeNothing, WorkspacesHaveOneAnswer}
 
 -- an element that a list of what elements come to has comes from one of them
-source_of : {A B : Type 0} (f : A → B) (xs : List A) (y : B) → Contains (map f xs) y → (x : A) × Contains xs x × (f x ≡ y)
+pub source_of : {A B : Type 0} (f : A → B) (xs : List A) (y : B) → Contains (map f xs) y → (x : A) × Contains xs x × (f x ≡ y)
 source_of f [] y (k, low, is) = absurd (omega (arith, low))
 source_of f (x ∷ xs) y (zero, low, is) = (x, head_in x xs, is)
 source_of f (x ∷ xs) y (suc k, low, is) =
@@ -22,7 +23,7 @@ source_of f (x ∷ xs) y (suc k, low, is) =
     (later.0, tail_in x xs later.0 later.1, later.2)
 
 -- what an element comes to is in the list of what elements come to
-comes_to : {A B : Type 0} (f : A → B) (xs : List A) (x : A) → Contains xs x → Contains (map f xs) (f x)
+pub comes_to : {A B : Type 0} (f : A → B) (xs : List A) (x : A) → Contains xs x → Contains (map f xs) (f x)
 comes_to f [] x (k, low, is) = absurd (omega (arith, low))
 comes_to f (y ∷ xs) x (zero, low, is) = subst (λ z. Contains (map f (y ∷ xs)) (f z)) is (head_in (f y) (map f xs))
 comes_to f (y ∷ xs) x (suc k, low, is) = tail_in (f y) (map f xs) (f x) (comes_to f xs x (k, omega (arith, low), is))
@@ -37,7 +38,7 @@ module _ (w v f g : List Pair) (moved : IsPermutation w v) (of_w : AreFilesOf w 
       (λ p h. Contains-permutation w f p of_w.all
       (Contains-permutation v w p (IsPermutation-sym w v moved) (Contains-permutation g v p (IsPermutation-sym v g of_v.all) h)))
 
-module _ (files : List Pair) (labels : List LabelParts) (limit : ℕ) where
+module _ (files : List Pair) (limit : ℕ) where
   abbrev IsOf : Node → Type 0
   IsOf n = n.outcome ≡ outcome_of (plain_workspace files limit) n.label
 
@@ -46,24 +47,39 @@ module _ (files : List Pair) (labels : List LabelParts) (limit : ℕ) where
       let out : m.outcome ≡ n.outcome = p ∙ ap (outcome_of (plain_workspace files limit)) l ∙ sym q in
       λ i. record { label = l i; outcome = out i }
 
-  node_in : (a b : Answer) → IsAnswerOf files labels limit a → IsAnswerOf files labels limit b → (n : Node) → Contains a.nodes n → Contains b.nodes n
-  node_in a b p q n h =
-      let reached = (p.reached n.label).0 (comes_to (λ (m : Node). m.label) a.nodes n h) in
-      let there = source_of (λ (m : Node). m.label) b.nodes n.label ((q.reached n.label).1 reached) in
-      subst (Contains b.nodes)
-      (one_node there.0 n there.2 (All-contains IsOf b.nodes there.0 q.outcomes there.1) (All-contains IsOf a.nodes n p.outcomes h)) there.1
+  module _ (labels more : List LabelParts) (among : AreAmong labels more) (a b : Answer) (p : IsAnswerOf files labels limit a) (q : IsAnswerOf files more limit b) where
+    node_in : (n : Node) → Contains a.nodes n → Contains b.nodes n
+    node_in n h =
+        let reached = (p.reached n.label).0 (comes_to (λ (m : Node). m.label) a.nodes n h) in
+        let there =
+        source_of (λ (m : Node). m.label) b.nodes n.label
+        ((q.reached n.label).1 (reached.0, among reached.0 reached.1, reached.2)) in
+        subst (Contains b.nodes)
+        (one_node there.0 n there.2 (All-contains IsOf b.nodes there.0 q.outcomes there.1) (All-contains IsOf a.nodes n p.outcomes h)) there.1
 
-  nodes_same : (a b : Answer) → IsAnswerOf files labels limit a → IsAnswerOf files labels limit b → a.nodes ≡ b.nodes
-  nodes_same a b p q =
-      ascending_same (λ (n : Node). label_text n.label) a.nodes b.nodes p.ordered q.ordered (node_in a b p q) (node_in b a q p)
+    faults_same : a.faults ≡ b.faults
+    faults_same = p.faults ∙ sym q.faults
 
-  answer_same : (a b : Answer) → IsAnswerOf files labels limit a → IsAnswerOf files labels limit b → a ≡ b
-  answer_same a b p q =
-      let faults : a.faults ≡ b.faults = p.faults ∙ sym q.faults in
-      let nodes = nodes_same a b p q in
+  answer_same : (labels others : List LabelParts) → AreAmong labels others → AreAmong others labels → (a b : Answer)
+      → IsAnswerOf files labels limit a → IsAnswerOf files others limit b → a ≡ b
+  answer_same labels others there here a b p q =
+      let faults = faults_same labels others there a b p q in
+      let nodes : a.nodes ≡ b.nodes =
+      ascending_same (λ (n : Node). label_text n.label) a.nodes b.nodes p.ordered q.ordered (node_in labels others there a b p q)
+      (node_in others labels here b a q p) in
       λ i. record { faults = faults i; nodes = nodes i }
 
+-- an answer over the files of one list is one over those of the other
+module _ (w v : List Pair) (moved : IsPermutation w v) (labels others : List LabelParts) (limit : ℕ) (a b : Answer) (p : IsAnswer w labels limit a) (q : IsAnswer v others limit b) where
+  over_same : IsAnswerOf q.files labels limit a
+  over_same =
+      subst (λ fs. IsAnswerOf fs labels limit a) (files_same w v p.files q.files moved p.are_files q.are_files) p.answers
+
 pub workspaces_have_one_answer : WorkspacesHaveOneAnswer
-workspaces_have_one_answer w v labels limit a b moved p q =
-    let same = files_same w v p.files q.files moved p.are_files q.are_files in
-    answer_same q.files labels limit a b (subst (λ fs. IsAnswerOf fs labels limit a) same p.answers) q.answers
+workspaces_have_one_answer w v labels others limit a b moved same p q =
+    answer_same q.files limit labels others same.0 same.1 a b (over_same w v moved labels others limit a b p q) q.answers
+
+pub more_labels_change_nothing : MoreLabelsChangeNothing
+more_labels_change_nothing w v labels more limit a b moved among p q =
+    let here = over_same w v moved labels more limit a b p q in
+    (faults_same q.files limit labels more among a b here q.answers, node_in q.files limit labels more among a b here q.answers)
