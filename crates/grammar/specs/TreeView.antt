@@ -1,5 +1,6 @@
 -- The tree that the program's tree stands for. (This project's own.)
 use Rattle.std.specs.Prelude.{ℕ, List, [], ◌∷◌, map}
+use Rattle.std.specs.Global.{Box}
 use Rattle.grammar.specs.Tree as written
 use Rattle.grammar.specs.Bare.{Tree, named, numeral, quoted, tuple, listing, dict, choice, operates}
 use Rattle.grammar.specs.Bare.{turned, selects, subscript, invokes, each, each_entry, Trees}
@@ -92,6 +93,10 @@ clause_step (Clause-F.If t) = only_if t
 abbrev pub tree_of : Expr → Tree
 tree_of = fold-Expr (Rest → Rest) Tree (Tree × Tree) (List ℕ × Tree)
     clause_step expr_step entry_step keyword_step
+
+-- the tree of the program's expression behind a `Box`
+abbrev pub tree_in : Box Expr → Tree
+tree_in a = tree_of a.value
 
 -- the key and the value of the program's entry of a dict
 abbrev pub entry_of : Entry → Tree × Tree

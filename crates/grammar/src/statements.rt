@@ -9,7 +9,7 @@ use plain::Text;
 pub enum Param<'t> {
     Required(Name<'t>),
     /// With its default.
-    Optional(Name<'t>, Expr<'t>),
+    Optional(Name<'t>, Box<Expr<'t>>),
 }
 
 // By hand, so that letting one go is a call and isn't written out wherever one may be let go.
@@ -31,32 +31,32 @@ pub struct Item<'t> {
 }
 
 /// A line, without the lines of its block. Where names are bound, the first stands before the
-/// others.
+/// others. Expressions stand behind a `Box`, as they were read.
 pub enum Form<'t> {
     /// `load(MODULE, ..)`.
     Load(Text, Vec<Item<'t>>),
     /// `def NAME(..):`.
     Def(Name<'t>, Vec<Param<'t>>),
-    If(Expr<'t>),
-    Elif(Expr<'t>),
+    If(Box<Expr<'t>>),
+    Elif(Box<Expr<'t>>),
     Else,
     /// `for FIRST, OTHERS in OPERAND:`.
-    For(Name<'t>, Vec<Name<'t>>, Expr<'t>),
+    For(Name<'t>, Vec<Name<'t>>, Box<Expr<'t>>),
     /// `FIRST, OTHERS = VALUE`.
-    Assign(Name<'t>, Vec<Name<'t>>, Expr<'t>),
+    Assign(Name<'t>, Vec<Name<'t>>, Box<Expr<'t>>),
     /// `BASE[INDEX] = VALUE`.
-    AssignAt(Box<Expr<'t>>, Box<Expr<'t>>, Expr<'t>),
+    AssignAt(Box<Expr<'t>>, Box<Expr<'t>>, Box<Expr<'t>>),
     /// `NAME += VALUE`.
-    Add(Name<'t>, Expr<'t>),
+    Add(Name<'t>, Box<Expr<'t>>),
     /// `BASE[INDEX] += VALUE`.
-    AddAt(Box<Expr<'t>>, Box<Expr<'t>>, Expr<'t>),
+    AddAt(Box<Expr<'t>>, Box<Expr<'t>>, Box<Expr<'t>>),
     /// An expression alone.
-    Evaluate(Expr<'t>),
+    Evaluate(Box<Expr<'t>>),
     Pass,
     Break,
     Continue,
     /// `return`, with its value where it has one.
-    Return(Option<Expr<'t>>),
+    Return(Option<Box<Expr<'t>>>),
 }
 
 // By hand, as of `Param`.
@@ -88,6 +88,6 @@ impl<'t> Drop for Form<'t> {
 #[derive(Drop)]
 pub struct Line<'t> {
     pub number: usize,
-    pub form: Form<'t>,
+    pub form: Box<Form<'t>>,
     pub block: Vec<Line<'t>>,
 }

@@ -4,7 +4,7 @@ ghost use Rattle.std.specs.Prelude.{◌≡◌, ◌∷◌, ◌++◌, [], List, If
 ghost use Rattle.grammar.specs.Bare.{Rest};
 ghost use Rattle.grammar.specs.LineView as view;
 ghost use Rattle.grammar.specs.BareLines.{Lines, a_line};
-ghost use Rattle.grammar.specs.LineView.{form_of, item_of, line_of, param_of};
+ghost use Rattle.grammar.specs.LineView.{form_in, form_of, item_of, line_of, param_of};
 ghost use Rattle.grammar.specs.declared.statements.Line.{out-Line};
 ghost use Rattle.grammar.specs.TreeView.{clause_of, rests};
 ghost use Rattle.program_tree.specs.Names as names;
@@ -105,7 +105,7 @@ fn keeps_names(form: &Form<'_>) -> bool
 pub fn block_of<'l, 't>(line: &'l Line<'t>) -> &'l [Line<'t>]
     ensures block { result.now ≡ (out-Line line.now).block.items }
     ensures seen { (rest : Lines) → line_of line.now rest
-        ≡ a_line (out-Line line.now).number (form_of (out-Line line.now).form)
+        ≡ a_line (out-Line line.now).number (form_in (out-Line line.now).form)
         (view.lines result.now) rest }
 {
     line.block.as_slice()
@@ -120,7 +120,7 @@ pub fn add_loaded<'t>(found: &mut Vec<Name<'t>>, line: &Line<'t>) -> Result<(), 
     ensures { OnOk result ((rest : Lines) → found.new.items ++ loads_bind rest
         ≡ found.old.items ++ loads_bind (line_of line.now rest)) }
 {
-    match &line.form {
+    match &*line.form {
         Form::Load(_, items) => add_items(found, items.as_slice()),
         _ => Ok(()),
     }

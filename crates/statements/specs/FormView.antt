@@ -1,5 +1,6 @@
 -- What the program's readings of lines stand for. (This project's own.)
 use Rattle.std.specs.Prelude.{Bool, true, false, List, [], ◌∷◌, Option, option_map}
+use Rattle.std.specs.Global.{Box}
 use Rattle.grammar.specs.declared.statements.Form.{Form}
 use Rattle.statements.specs.declared.blocks.Body.{Body}
 use Rattle.statements.specs.declared.outline.Outline.{Outline}
@@ -17,12 +18,12 @@ use Rattle.grammar.specs.BareLines.{breaks, continues, returns}
 use Rattle.grammar.specs.Built.{Belongs, nothing, block, statement, Made}
 use Rattle.grammar.specs.Blocks.{Laid}
 use Rattle.grammar.specs.FormDescent.{Shaped, reads_form}
-use Rattle.grammar.specs.LineView.{form_of}
+use Rattle.grammar.specs.LineView.{form_in}
 use Rattle.statements.specs.BuiltView.{body_of}
 
 -- a form with what belongs to it, as the readings of lines give them
-abbrev pub shaped_of : Form × Body → Shaped
-shaped_of p = (form_of p.0, body_of p.1)
+abbrev pub shaped_of : Box Form × Body → Shaped
+shaped_of p = (form_in p.0, body_of p.1)
 
 -- whether a line is a string alone
 unfoldable pub is_text : List Token → Bool

@@ -17,7 +17,7 @@ pub(crate) enum Body<'t> {
     Nothing,
     /// The block that follows.
     Block,
-    /// A statement on the line itself, behind a `Box` since few lines have one.
+    /// A statement on the line itself.
     Statement(Box<Form<'t>>),
 }
 
@@ -26,7 +26,7 @@ pub(crate) enum Body<'t> {
 pub(crate) struct Read<'t> {
     pub(crate) number: usize,
     pub(crate) column: usize,
-    pub(crate) form: Form<'t>,
+    pub(crate) form: Box<Form<'t>>,
     pub(crate) body: Body<'t>,
 }
 
@@ -116,7 +116,7 @@ fn block_of<'t>(
             alloc,
             Line {
                 number,
-                form: Box::into_inner(form),
+                form,
                 block: Vec::new(alloc),
             },
         ),

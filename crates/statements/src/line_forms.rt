@@ -11,8 +11,8 @@ ghost use Rattle.grammar.specs.Descended.{part_seen, several_seen};
 ghost use Rattle.grammar.specs.FormDescent as spec;
 ghost use Rattle.grammar.specs.FormReading.{names_to};
 ghost use Rattle.statements.specs.FormView.{shaped_of};
-ghost use Rattle.grammar.specs.LineView.{form_of, param_of, item_of};
-ghost use Rattle.grammar.specs.TreeView.{tree_of};
+ghost use Rattle.grammar.specs.LineView.{form_in, form_of, param_of, item_of};
+ghost use Rattle.grammar.specs.TreeView.{tree_in};
 ghost use Rattle.grammar.specs.declared.parts.Row.TheVariants.{Whole};
 
 use crate::blocks::Body;
@@ -33,18 +33,23 @@ struct FormReader {
 }
 
 /// What is assigned to the target, or to it and the names behind it.
-fn assigned<'t>(target: Part<'t>, names: Vec<Name<'t>>, value: Expr<'t>) -> Result<Form<'t>, Stop>
-    ensures { Makes form_of (spec.assigned (part_seen target.entry) names.entry.items
-        (tree_of value.entry)) result }
+fn assigned<'t>(
+    alloc: Global,
+    target: Part<'t>,
+    names: Vec<Name<'t>>,
+    value: Box<Expr<'t>>,
+) -> Result<Box<Form<'t>>, Stop>
+    ensures { Makes form_in (spec.assigned (part_seen target.entry) names.entry.items
+        (tree_in value.entry)) result }
 {
     if !target.is_target {
         return Err(Stop::NoForm);
     }
     match Box::into_inner(target.expr).into_target() {
-        Some(Target::Name(name)) => Ok(Form::Assign(name, names, value)),
+        Some(Target::Name(name)) => Ok(Box::new(alloc, Form::Assign(name, names, value))?),
         Some(Target::At(base, at)) => {
             if names.is_empty() {
-                Ok(Form::AssignAt(base, at, value))
+                Ok(Box::new(alloc, Form::AssignAt(base, at, value))?)
             } else {
                 Err(Stop::NoForm)
             }
@@ -54,25 +59,30 @@ fn assigned<'t>(target: Part<'t>, names: Vec<Name<'t>>, value: Expr<'t>) -> Resu
 }
 
 /// What is added to the target.
-fn increased<'t>(target: Part<'t>, value: Expr<'t>) -> Result<Form<'t>, Stop>
-    ensures { Makes form_of (spec.increased (part_seen target.entry) (tree_of value.entry)) result }
+fn increased<'t>(
+    alloc: Global,
+    target: Part<'t>,
+    value: Box<Expr<'t>>,
+) -> Result<Box<Form<'t>>, Stop>
+    ensures { Makes form_in (spec.increased (part_seen target.entry) (tree_in value.entry)) result }
 {
     if !target.is_target {
         return Err(Stop::NoForm);
     }
     match Box::into_inner(target.expr).into_target() {
-        Some(Target::Name(name)) => Ok(Form::Add(name, value)),
-        Some(Target::At(base, at)) => Ok(Form::AddAt(base, at, value)),
+        Some(Target::Name(name)) => Ok(Box::new(alloc, Form::Add(name, value))?),
+        Some(Target::At(base, at)) => Ok(Box::new(alloc, Form::AddAt(base, at, value))?),
         None => Err(Stop::NoForm),
     }
 }
 
 /// What is made of a line, where nothing is left of it.
-fn alone<F: Drop>(ahead: &Ahead<'_, '_>, made: F) -> Result<F, Stop>
-    ensures { (seen : F → bare.Form) → Makes seen (given (is_done ahead.now) (seen made)) result }
+fn alone<F: Drop>(alloc: Global, ahead: &Ahead<'_, '_>, made: F) -> Result<Box<F>, Stop>
+    ensures { (seen : F → bare.Form) → Makes (λ b. seen b.value)
+        (given (is_done ahead.now) (seen made)) result }
 {
     if ahead.is_done() {
-        Ok(made)
+        Ok(Box::new(alloc, made)?)
     } else {
         Err(Stop::NoForm)
     }
@@ -97,12 +107,12 @@ impl FormReader {
     }
 
     /// An expression up to the end of the line.
-    fn last<'t>(&self, ahead: &mut Ahead<'_, 't>) -> Result<Expr<'t>, Stop>
-        ensures { Makes tree_of (if_all (read self.now.turns Whole 200 ahead.old)) result }
+    fn last<'t>(&self, ahead: &mut Ahead<'_, 't>) -> Result<Box<Expr<'t>>, Stop>
+        ensures { Makes tree_in (if_all (read self.now.turns Whole 200 ahead.old)) result }
     {
         let part = self.expr(ahead, MAX_DEPTH)?;
         if ahead.is_done() {
-            Ok(Box::into_inner(part.expr))
+            Ok(part.expr)
         } else {
             Err(Stop::NoForm)
         }
@@ -137,42 +147,46 @@ impl FormReader {
         &self,
         ahead: &mut Ahead<'_, 't>,
         first: Part<'t>,
-    ) -> Result<Expr<'t>, Stop>
-        ensures { Makes tree_of (spec.value_step self.now.turns (self.now.turns - 1)
+    ) -> Result<Box<Expr<'t>>, Stop>
+        ensures { Makes tree_in (spec.value_step self.now.turns (self.now.turns - 1)
             (part_seen first.entry) [] (Some ahead.old)) result }
     {
         let found = parts::with_item(parts::no_items(self.alloc), first)?;
         let found = self.more_values(ahead, found)?;
         let part = parts::tuple(self.alloc, found, MAX_DEPTH)?;
-        Ok(Box::into_inner(part.expr))
+        Ok(part.expr)
     }
 
     /// What is assigned or returned: an expression up to the end of the line, or several, which are
     /// a tuple.
     #[tactic(auto, unfolding(grammar::specs::FormDescent::value))]
-    fn value<'t>(&self, ahead: &mut Ahead<'_, 't>) -> Result<Expr<'t>, Stop>
-        ensures { Makes tree_of (spec.value self.now.turns ahead.old) result }
+    fn value<'t>(&self, ahead: &mut Ahead<'_, 't>) -> Result<Box<Expr<'t>>, Stop>
+        ensures { Makes tree_in (spec.value self.now.turns ahead.old) result }
     {
         let first = self.expr(ahead, MAX_DEPTH)?;
         if ahead.comma() {
             return self.values_behind(ahead, first);
         }
         if ahead.is_done() {
-            Ok(Box::into_inner(first.expr))
+            Ok(first.expr)
         } else {
             Err(Stop::NoForm)
         }
     }
 
     /// Names behind the first target, up to `=`, and what is assigned.
-    fn names_behind<'t>(&self, ahead: &mut Ahead<'_, 't>, first: Part<'t>) -> Result<Form<'t>, Stop>
-        ensures { Makes form_of (spec.names_step self.now.turns (part_seen first.entry)
+    fn names_behind<'t>(
+        &self,
+        ahead: &mut Ahead<'_, 't>,
+        first: Part<'t>,
+    ) -> Result<Box<Form<'t>>, Stop>
+        ensures { Makes form_in (spec.names_step self.now.turns (part_seen first.entry)
             (names_to ahead.old)) result }
     {
         match ahead.names_to(self.alloc)? {
             Some(names) => {
                 let value = self.value(ahead)?;
-                assigned(first, names, value)
+                assigned(self.alloc, first, names, value)
             }
             None => Err(Stop::NoForm),
         }
@@ -180,34 +194,34 @@ impl FormReader {
 
     /// A line that begins with an expression.
     #[tactic(auto, unfolding(grammar::specs::FormDescent::expression_line))]
-    fn expression_line<'t>(&self, ahead: &mut Ahead<'_, 't>) -> Result<Form<'t>, Stop>
-        ensures { Makes form_of (spec.expression_line self.now.turns ahead.old) result }
+    fn expression_line<'t>(&self, ahead: &mut Ahead<'_, 't>) -> Result<Box<Form<'t>>, Stop>
+        ensures { Makes form_in (spec.expression_line self.now.turns ahead.old) result }
     {
         let first = self.expr(ahead, MAX_DEPTH)?;
         if ahead.is_done() {
-            return Ok(Form::Evaluate(Box::into_inner(first.expr)));
+            return Ok(Box::new(self.alloc, Form::Evaluate(first.expr))?);
         }
         if ahead.assign() {
             let value = self.value(ahead)?;
-            return assigned(first, Vec::new(self.alloc), value);
+            return assigned(self.alloc, first, Vec::new(self.alloc), value);
         }
         if ahead.add_assign() {
             let value = self.last(ahead)?;
-            return increased(first, value);
+            return increased(self.alloc, first, value);
         }
         self.names_behind(ahead, first)
     }
 
     /// Behind `return`.
-    fn returned<'t>(&self, ahead: &mut Ahead<'_, 't>) -> Result<Form<'t>, Stop>
-        ensures { Makes form_of (spec.return_step self.now.turns ahead.old (is_done ahead.old))
+    fn returned<'t>(&self, ahead: &mut Ahead<'_, 't>) -> Result<Box<Form<'t>>, Stop>
+        ensures { Makes form_in (spec.return_step self.now.turns ahead.old (is_done ahead.old))
             result }
     {
         if ahead.is_done() {
-            return Ok(Form::Return(None));
+            return Ok(Box::new(self.alloc, Form::Return(None))?);
         }
         let value = self.value(ahead)?;
-        Ok(Form::Return(Some(value)))
+        Ok(Box::new(self.alloc, Form::Return(Some(value)))?)
     }
 
     /// Behind the word that a statement without a head begins with.
@@ -215,14 +229,14 @@ impl FormReader {
         &self,
         opening: Opening,
         ahead: &mut Ahead<'_, 't>,
-    ) -> Result<Form<'t>, Stop>
-        ensures { Makes form_of (spec.simple_step self.now.turns [] (Some (opening, ahead.old)))
+    ) -> Result<Box<Form<'t>>, Stop>
+        ensures { Makes form_in (spec.simple_step self.now.turns [] (Some (opening, ahead.old)))
             result }
     {
         match opening {
-            Opening::Pass => alone(ahead, Form::Pass),
-            Opening::Break => alone(ahead, Form::Break),
-            Opening::Continue => alone(ahead, Form::Continue),
+            Opening::Pass => alone(self.alloc, ahead, Form::Pass),
+            Opening::Break => alone(self.alloc, ahead, Form::Break),
+            Opening::Continue => alone(self.alloc, ahead, Form::Continue),
             Opening::Return => self.returned(ahead),
             _ => Err(Stop::NoForm),
         }
@@ -230,8 +244,8 @@ impl FormReader {
 
     /// A statement without a head.
     #[tactic(auto, unfolding(grammar::specs::FormDescent::simple))]
-    fn simple<'t>(&self, ahead: &mut Ahead<'_, 't>) -> Result<Form<'t>, Stop>
-        ensures { Makes form_of (spec.simple self.now.turns ahead.old) result }
+    fn simple<'t>(&self, ahead: &mut Ahead<'_, 't>) -> Result<Box<Form<'t>>, Stop>
+        ensures { Makes form_in (spec.simple self.now.turns ahead.old) result }
     {
         match ahead.opening() {
             Some(opening) => self.simple_behind(opening, ahead),
@@ -250,17 +264,16 @@ impl FormReader {
         if ahead.is_done() {
             return Ok(Body::Block);
         }
-        let form = self.simple(ahead)?;
-        Ok(Body::Statement(Box::new(self.alloc, form)?))
+        Ok(Body::Statement(self.simple(ahead)?))
     }
 
     /// A head with its body.
     fn bodied<'t>(
         &self,
         ahead: &mut Ahead<'_, 't>,
-        form: Form<'t>,
-    ) -> Result<(Form<'t>, Body<'t>), Stop>
-        ensures { Makes shaped_of (spec.bodied self.now.turns (form_of form.entry)
+        form: Box<Form<'t>>,
+    ) -> Result<(Box<Form<'t>>, Body<'t>), Stop>
+        ensures { Makes shaped_of (spec.bodied self.now.turns (form_in form.entry)
             (spec.body self.now.turns ahead.old)) result }
     {
         let body = self.body(ahead)?;
@@ -279,7 +292,7 @@ impl FormReader {
             return Ok(Param::Required(Name::new(name)));
         }
         let default = self.expr(ahead, MAX_DEPTH)?;
-        Ok(Param::Optional(Name::new(name), Box::into_inner(default.expr)))
+        Ok(Param::Optional(Name::new(name), default.expr))
     }
 
     /// The parameters of a function, up to the closing bracket.
@@ -354,7 +367,7 @@ impl FormReader {
 
     /// Behind `load`.
     #[tactic(auto, unfolding(grammar::specs::FormDescent::load_line))]
-    fn load_line<'t>(&self, ahead: &mut Ahead<'_, 't>) -> Result<(Form<'t>, Body<'t>), Stop>
+    fn load_line<'t>(&self, ahead: &mut Ahead<'_, 't>) -> Result<(Box<Form<'t>>, Body<'t>), Stop>
         ensures { Makes shaped_of (spec.load_line self.now.turns ahead.old) result }
     {
         if !ahead.open_round() {
@@ -368,12 +381,13 @@ impl FormReader {
         if items.is_empty() || !ahead.is_done() {
             return Err(Stop::NoForm);
         }
-        Ok((Form::Load(module, items), Body::Nothing))
+        let form = Box::new(self.alloc, Form::Load(module, items))?;
+        Ok((form, Body::Nothing))
     }
 
     /// Behind `def`.
     #[tactic(auto, unfolding(grammar::specs::FormDescent::def_line))]
-    fn def_line<'t>(&self, ahead: &mut Ahead<'_, 't>) -> Result<(Form<'t>, Body<'t>), Stop>
+    fn def_line<'t>(&self, ahead: &mut Ahead<'_, 't>) -> Result<(Box<Form<'t>>, Body<'t>), Stop>
         ensures { Makes shaped_of (spec.def_line self.now.turns ahead.old) result }
     {
         let Some(name) = ahead.name() else {
@@ -383,12 +397,13 @@ impl FormReader {
             return Err(Stop::NoForm);
         }
         let params = self.params(ahead)?;
-        self.bodied(ahead, Form::Def(Name::new(name), params))
+        let form = Box::new(self.alloc, Form::Def(Name::new(name), params))?;
+        self.bodied(ahead, form)
     }
 
     /// Behind `for`.
     #[tactic(auto, unfolding(grammar::specs::FormDescent::for_line, grammar::specs::FormDescent::headed))]
-    fn for_line<'t>(&self, ahead: &mut Ahead<'_, 't>) -> Result<(Form<'t>, Body<'t>), Stop>
+    fn for_line<'t>(&self, ahead: &mut Ahead<'_, 't>) -> Result<(Box<Form<'t>>, Body<'t>), Stop>
         ensures { Makes shaped_of (spec.for_line self.now.turns ahead.old) result }
     {
         let Some(name) = ahead.name() else {
@@ -397,26 +412,29 @@ impl FormReader {
         let Some(others) = ahead.names_in(self.alloc)? else {
             return Err(Stop::NoForm);
         };
-        let operand = Box::into_inner(self.expr(ahead, MAX_DEPTH)?.expr);
-        self.bodied(ahead, Form::For(Name::new(name), others, operand))
+        let operand = self.expr(ahead, MAX_DEPTH)?.expr;
+        let form = Box::new(self.alloc, Form::For(Name::new(name), others, operand))?;
+        self.bodied(ahead, form)
     }
 
     /// Behind `if`.
     #[tactic(auto, unfolding(grammar::specs::FormDescent::headed))]
-    fn if_line<'t>(&self, ahead: &mut Ahead<'_, 't>) -> Result<(Form<'t>, Body<'t>), Stop>
+    fn if_line<'t>(&self, ahead: &mut Ahead<'_, 't>) -> Result<(Box<Form<'t>>, Body<'t>), Stop>
         ensures { Makes shaped_of (spec.headed self.now.turns bare.if_head ahead.old) result }
     {
         let test = self.expr(ahead, MAX_DEPTH)?;
-        self.bodied(ahead, Form::If(Box::into_inner(test.expr)))
+        let form = Box::new(self.alloc, Form::If(test.expr))?;
+        self.bodied(ahead, form)
     }
 
     /// Behind `elif`.
     #[tactic(auto, unfolding(grammar::specs::FormDescent::headed))]
-    fn elif_line<'t>(&self, ahead: &mut Ahead<'_, 't>) -> Result<(Form<'t>, Body<'t>), Stop>
+    fn elif_line<'t>(&self, ahead: &mut Ahead<'_, 't>) -> Result<(Box<Form<'t>>, Body<'t>), Stop>
         ensures { Makes shaped_of (spec.headed self.now.turns bare.elif_head ahead.old) result }
     {
         let test = self.expr(ahead, MAX_DEPTH)?;
-        self.bodied(ahead, Form::Elif(Box::into_inner(test.expr)))
+        let form = Box::new(self.alloc, Form::Elif(test.expr))?;
+        self.bodied(ahead, form)
     }
 
     /// Behind the word that a line begins with.
@@ -424,7 +442,7 @@ impl FormReader {
         &self,
         opening: Opening,
         ahead: &mut Ahead<'_, 't>,
-    ) -> Result<(Form<'t>, Body<'t>), Stop>
+    ) -> Result<(Box<Form<'t>>, Body<'t>), Stop>
         ensures { Makes shaped_of (spec.form_step self.now.turns [] (Some (opening, ahead.old)))
             result }
     {
@@ -433,7 +451,7 @@ impl FormReader {
             Opening::Def => self.def_line(ahead),
             Opening::If => self.if_line(ahead),
             Opening::Elif => self.elif_line(ahead),
-            Opening::Else => self.bodied(ahead, Form::Else),
+            Opening::Else => self.bodied(ahead, Box::new(self.alloc, Form::Else)?),
             Opening::For => self.for_line(ahead),
             _ => {
                 let form = self.simple_behind(opening, ahead)?;
@@ -444,7 +462,7 @@ impl FormReader {
 
     /// The form of a line.
     #[tactic(auto, unfolding(grammar::specs::FormDescent::form))]
-    fn form<'t>(&self, ahead: &mut Ahead<'_, 't>) -> Result<(Form<'t>, Body<'t>), Stop>
+    fn form<'t>(&self, ahead: &mut Ahead<'_, 't>) -> Result<(Box<Form<'t>>, Body<'t>), Stop>
         ensures { Makes shaped_of (spec.form self.now.turns ahead.old) result }
     {
         match ahead.opening() {
@@ -468,7 +486,7 @@ pub(crate) fn read_form<'t>(
     alloc: Global,
     lines: &Lines<'t>,
     tokens: &[Token],
-) -> Result<Option<(Form<'t>, Body<'t>)>, NoMemory>
+) -> Result<Option<(Box<Form<'t>>, Body<'t>)>, NoMemory>
     ensures { IfOk result (λ r. option_map shaped_of r
         ≡ spec.reads_form (tokens_seen lines.now.text tokens.now)) }
 {

@@ -95,7 +95,7 @@ struct LineRead<R> {
 fn with_start<'t>(
     number: usize,
     column: usize,
-    form: Option<(Form<'t>, Body<'t>)>,
+    form: Option<(Box<Form<'t>>, Body<'t>)>,
     is_text: bool,
 ) -> LineRead<Read<'t>>
     ensures outline { result.outline ≡ record {

@@ -22,7 +22,7 @@ use Rattle.syntax.specs.declared.steps.Later.{Later}
 use Rattle.grammar.specs.Bare.{Tree, Rest, done, for_each, only_if}
 use Rattle.grammar.specs.BareLines.{Form, Lines, a_line}
 use Rattle.grammar.specs.BareDepth.{form_depth, lines_depth, tree_depth}
-use Rattle.grammar.specs.LineView.{form_of, lines}
+use Rattle.grammar.specs.LineView.{form_in, lines}
 use Rattle.grammar.specs.TreeView.{tree_of}
 use Rattle.program_tree.specs.Names.{Name, Scope, apart, clause_names, distinct, form_binds}
 use Rattle.program_tree.specs.Names.{or_else, scope_of, width}
@@ -140,24 +140,24 @@ back (Some ls) s = record { globals = s.globals; levels = ls }
 -- a line before others, whose block is seen already
 abbrev pub before_lines : Line → Lines → Lines
 before_lines l rest =
-    a_line (out-Line l).number (form_of (out-Line l).form) (lines (out-Line l).block.items) rest
+    a_line (out-Line l).number (form_in (out-Line l).form) (lines (out-Line l).block.items) rest
 
 -- the depth of the deepest expression of a line and of its block
 abbrev pub line_depth : Line → ℕ
 line_depth l =
-    max (form_depth (form_of (out-Line l).form)) (lines_depth (lines (out-Line l).block.items))
+    max (form_depth (form_in (out-Line l).form)) (lines_depth (lines (out-Line l).block.items))
 
 -- the line itself, where it breaks a rule, or the first in its block
 abbrev pub own_fault : Scope → Line → Option ℕ
 own_fault s l =
-    let f = form_of (out-Line l).form in
+    let f = form_in (out-Line l).form in
     let inner = lines (out-Line l).block.items in
     or_else (unless (out-Line l).number (line_scoped s f)) (lines_fault (scope_of s f inner) inner)
 
 -- what is made of a line itself and of its block
 abbrev pub IsOwn : Scope → Line → head.Head → Inner → Type 0
 IsOwn s l h i =
-    let f = form_of (out-Line l).form in
+    let f = form_in (out-Line l).form in
     let ls = lines (out-Line l).block.items in
     (head_seen h ≡ resolved.head s f) × (view.steps i.steps.items ≡ steps_of (scope_of s f ls) ls)
     × (i.slots ≡ width (scope_of s f ls).levels)

@@ -6,7 +6,7 @@ ghost use Rattle.std.specs.Prelude.{◌≡◌, ◌≤◌, ◌<◌, ◌+◌, ◌^
 ghost use Rattle.grammar.specs.BareDepth.{form_depth, lines_depth};
 ghost use Rattle.grammar.specs.BareLines.{Lines};
 ghost use Rattle.grammar.specs.LineView as seen;
-ghost use Rattle.grammar.specs.LineView.{form_of, line_of};
+ghost use Rattle.grammar.specs.LineView.{form_in, form_of, line_of};
 ghost use Rattle.grammar.specs.declared.statements.Line.{out-Line};
 ghost use Rattle.program_tree.specs.Names.{Scope as Around, scope_of};
 ghost use Rattle.program_tree.specs.ProgramView as view;
@@ -175,10 +175,10 @@ pub(crate) struct Later {
 /// stack.
 #[inline(never)]
 fn head_of<'t>(alloc: Global, scope: &mut Scope<'t>, line: &Line<'t>) -> Result<Box<Head>, Stopped>
-    requires { form_depth (form_of (out-Line line.now).form) ≤ 200 }
+    requires { form_depth (form_in (out-Line line.now).form) ≤ 200 }
     ensures { Places (λ s. unless (out-Line line.now).number
-        (line_scoped s (form_of (out-Line line.now).form)))
-        (λ h s. head_seen h.value ≡ head s (form_of (out-Line line.now).form)) scope.old result
+        (line_scoped s (form_in (out-Line line.now).form)))
+        (λ h s. head_seen h.value ≡ head s (form_in (out-Line line.now).form)) scope.old result
         scope.new }
 {
     match line_head(alloc, scope, &line.form) {

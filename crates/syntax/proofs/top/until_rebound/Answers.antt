@@ -1,12 +1,13 @@
-use Rattle.std.proofs.Common.{length, ◌≡◌, ◌∙◌, ◌+◌, ◌∷◌, ◌++◌, [], ℕ, Option, ap, drop, map, sym, take}
+use Rattle.std.proofs.Common.{length, ◌≡◌, ◌∙◌, ◌+◌, ◌∷◌, ◌++◌, [], ℕ, List, Option, ap, drop, false, map, subst, sym, take, true}
 use Rattle.std.proofs.lemmas.List.{drop_all, take-append-drop}
 use Rattle.std.proofs.Math.Seq.{take-add}
 use Rattle.grammar.specs.declared.statements.Line.{out-Line}
 use Rattle.grammar.specs.BareLines.{Lines, a_line, no_lines}
-use Rattle.grammar.specs.LineView.{form_of, line_of, lines}
-use Rattle.program_tree.specs.Names.{Scope, or_else, scope_of}
+use Rattle.grammar.specs.LineView.{form_in, form_of, line_of, lines}
+use Rattle.program_tree.specs.Names.{Scope, among, form_binds, or_else, scope_of}
 use Rattle.program_tree.specs.ProgramView.{onto}
 use Rattle.file_syntax.specs.Scopes.{line_scoped, lines_fault, top_fault, unless}
+use Rattle.syntax.specs.Resolves.{binds_anew}
 use Rattle.syntax.proofs.DepthLemmas.{line_is}
 use Rattle.syntax.proofs.ProgramLemmas.{lines_onto, onto_last, take_whole}
 use Rattle.scopes.proofs.NameLemmas.{append_none, drop_at}
@@ -21,13 +22,13 @@ returns-then-not-branch-clause-found c s =
     let x = c.index-lines-place.result in
     let l = out-Line x in
     let rest = lines (drop (i + 1) all) in
-    let told = sym c.in_ok-binds_anew.ensures.told ∙ c.if-not-branch.true in
+    let told = subst (λ f. binds_anew keys (form_of f) ≡ false) c.deref.ensures (sym c.in_ok-binds_anew.ensures.told ∙ c.if-not-branch.true) in
     c.loop-place.invariant.0 s
     ∙ ap (λ ls. or_else (lines_fault s ls) (top_fault s keys (lines (drop i all)))) (lines_onto (map line_of (take i all)))
     ∙ ap (or_else (lines_fault s (lines (take i all))))
     (ap (λ d. top_fault s keys (lines d)) (drop_at all i x c.loop-place-test.true c.index-lines-place.is)
     ∙ ap (top_fault s keys) (line_is x rest)
-    ∙ top_rebound s keys l.number (form_of l.form) (lines l.block.items) rest told)
+    ∙ top_rebound s keys l.number (form_in l.form) (lines l.block.items) rest told)
 
 pub loop-place-preserved : goal.loop-place-preserved
 loop-place-preserved c =
@@ -37,11 +38,13 @@ loop-place-preserved c =
     let new = c.binds_anew.new.before.keys in
     let x = c.index-lines-place.result in
     let l = out-Line x in
-    let f = form_of l.form in
+    let f = form_in l.form in
     let inner = lines l.block.items in
     let behind = lines (drop (i + 1) all) in
     let chain : (Lines → Lines) → Lines → Lines = λ f r. f r in
-    let well = sym c.in_ok-binds_anew.ensures.told ∙ c.if-not-branch.false in
+    let well = subst (λ g. binds_anew keys (form_of g) ≡ true) c.deref.ensures (sym c.in_ok-binds_anew.ensures.told ∙ c.if-not-branch.false) in
+    let bound = subst (λ g. (n : List ℕ) → among n new ≡ among n (form_binds (form_of g) ++ keys)) c.deref.ensures
+    (c.in_ok-binds_anew.ensures.bound c.if-not-branch.false) in
     let taken : take (i + 1) all ≡ take i all ++ x ∷ [] = take-add i 1 all ∙ ap (λ d. take i all ++ take 1 d) (drop_at all i x c.loop-place-test.true c.index-lines-place.is) in
     let more : (rest : Lines) → onto chain (map line_of (take (i + 1) all)) rest ≡ onto chain (map line_of (take i all)) (a_line l.number f inner rest) =
     λ rest.
@@ -60,7 +63,7 @@ loop-place-preserved c =
           ∙ ap (or_else (before s))
           (ap (λ d. top_fault s keys (lines d)) (drop_at all i x c.loop-place-test.true c.index-lines-place.is)
           ∙ ap (top_fault s keys) (line_is x behind)
-          ∙ top_bound s keys new l.number f inner behind well (c.in_ok-binds_anew.ensures.bound c.if-not-branch.false))
+          ∙ top_bound s keys new l.number f inner behind well bound)
           ∙ joins s (top_fault s new behind),
       λ s rest. next s rest ∙ joins s (lines_fault s rest),
     )
