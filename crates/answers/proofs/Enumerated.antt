@@ -30,6 +30,13 @@ module _ {A B : Type 0} (f : A → List B) where
     | inr there ↦ let r = out_of_all xs y there in (r.0, tail_in z xs r.0 r.1, r.2)
   ]
 
+-- a walk, and one that goes on from its end
+pub lead_on : {L : Type 0} (needs : L → List L) (n : ℕ) (a b c : L) → Walk needs n a b → Leads needs b c → Leads needs a c
+lead_on needs zero a b c v on = subst (λ x. Leads needs x c) (sym v) on
+lead_on needs (suc n) a b c v on =
+    let r = lead_on needs n v.0 b c v.2 on in
+    (suc r.0, (v.0, v.1, r.1))
+
 module _ {L : Type 0} (same : L → L → Bool) (decides : (a b : L) → Decides (same a b) (a ≡ b)) (needs : L → List L) where
   -- a list, if the test holds
   abbrev only_if : Bool → List L → List L
@@ -45,12 +52,6 @@ module _ {L : Type 0} (same : L → L → Bool) (decides : (a b : L) → Decides
   abbrev Inside : List L → ℕ → L → L → Type 0
   Inside ds zero a b = a ≡ b
   Inside ds (suc n) a b = Contains ds a × ((c : L) × Contains (needs a) c × Inside ds n c b)
-
-  lead_on : (n : ℕ) (a b c : L) → Walk needs n a b → Leads needs b c → Leads needs a c
-  lead_on zero a b c v on = subst (λ x. Leads needs x c) (sym v) on
-  lead_on (suc n) a b c v on =
-      let r = lead_on n v.0 b c v.2 on in
-      (suc r.0, (v.0, v.1, r.1))
 
   in_only : (b : Bool) (xs : List L) (x : L) → Contains (only_if b xs) x → (b ≡ true) × Contains xs x
   in_only true xs x h = (refl, h)
@@ -72,7 +73,7 @@ module _ {L : Type 0} (same : L → L → Bool) (decides : (a b : L) → Decides
         let e = out_of_all (ends ds) (needs d) x r.1 in
         let to = ends_led ds a d (Contains-from_any (λ p q t. (decides p q).0 t) d (ends ds a) r.0) in
         let on = ends_led ds e.0 x e.2 in
-        lead_on to.0 a d x to.1 (suc on.0, (e.0, e.1, on.1))
+        lead_on needs to.0 a d x to.1 (suc on.0, (e.0, e.1, on.1))
   ]
 
   module _ (d : L) (ds : List L) where

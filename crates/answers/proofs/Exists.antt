@@ -1,16 +1,21 @@
--- Labels of a workspace have an answer, if those that are reached are legal: its files in the order of their paths, and the labels that are reached in the order of their
+-- Legal labels have an answer in each workspace: its files in the order of their paths, and the labels that are reached in the order of their
 -- texts, each with what becomes of it.
-use Rattle.std.proofs.Common.{◌≡◌, ◌∙◌, ◌<◌, ℕ, true, false, List, [], ◌∷◌, map, length, Contains, ap, sym, subst, refl}
+use Rattle.std.proofs.Common.{◌≡◌, ◌∙◌, ◌<◌, ◌≤◌, ℕ, zero, suc, true, false, List, [], ◌∷◌, map, length, Contains, ap, sym, subst, refl, arith}
 use Rattle.std.specs.List.{flat_map, AllByRecursion, IsDistinct}
 use Rattle.std.specs.Cmp.Lexicographic.{slice_cmp}
 use Rattle.std.specs.Ordering.{nat_cmp}
 use Rattle.std.specs.declared.cmp.Ordering.TheVariants.{Less, Equal}
 use Rattle.std.proofs.lemmas.Cmp.{nat_list_cmp_total, tied_itself}
 use Rattle.std.proofs.lemmas.List.{length-map}
+use Rattle.std.specs.Cmp.{decided}
+use Rattle.std.proofs.lemmas.List.Sorted.{IsPermutation-refl}
 use Rattle.std.proofs.lemmas.Map.Keys.{IsDistinct-cons}
+use Rattle.std.proofs.lemmas.Map.Made.{length-le_from_is_member}
+use Rattle.std.proofs.lemmas.Map.Views.{Contains-from_any, list_any-from_Contains}
 use Rattle.std.proofs.lemmas.List.Elements.{All-from_recursion}
 use Rattle.workspace.specs.Labels.{LabelParts, is_label, label_text, same_label}
 use Rattle.workspace.specs.Workspaces.{IsWorkspace, Pair, paths_of}
+use Rattle.edges.specs.Walks.{Walk}
 use Rattle.edges.proofs.Tests.{isnt}
 use Rattle.actions.specs.Ascending.{AreAscending, Each}
 use Rattle.graph.specs.Reached.{IsReached}
@@ -21,14 +26,16 @@ use Rattle.outcomes.proofs.Owners.{texts_apart}
 use Rattle.reporting.specs.Answers.{Node}
 use Rattle.loader.specs.Loaded.{AreFilesOf}
 use Rattle.workspace_laws.specs.Files.{faults}
+use Rattle.workspace_laws.specs.LabelLaws.{AreLegal}
 use Rattle.workspace_laws.specs.Workspaces.{plain_workspace}
-use Rattle.answers.specs.Answers.{Answer, IsAnswer, IsAnswerOf}
+use Rattle.workspace_laws.proofs.LegalFiles.{dependencies_are_legal}
+use Rattle.answers.specs.Answers.{Answer, IsAnswer, IsAnswerOf, labels_told}
 use Rattle.answers.specs.Reports.{IsTooMany, node_limit}
-use Rattle.answers.specs.Laws.{LabelsHaveAnAnswer}
+use Rattle.answers.specs.Laws.{LabelsHaveAnAnswer, TooManyAreCounted}
 use Rattle.answers.proofs.Alone.{plain_listed}
 use Rattle.answers.proofs.Enumerated.{into_all, out_of_all, led_to, led_to-is, led_to-all}
 use Rattle.answers.proofs.InOrder.{in_order, from_order, into_order, order_ascends, order_moved, ascending_sorted, ascending_distinct}
-use Rattle.answers.proofs.OneAnswer.{comes_to, source_of}
+use Rattle.answers.proofs.OneAnswer.{comes_to, files_same, source_of}
 
 -- the files of a workspace, in the order of their paths
 module _ (workspace : List Pair) (legal : IsWorkspace workspace) where
@@ -44,10 +51,17 @@ module _ (workspace : List Pair) (legal : IsWorkspace workspace) where
     };
   }
 
-module _ (files : List Pair) (labels : List LabelParts) (limit : ℕ)
-    (legal : (l : LabelParts) → IsReached (dependencies (plain_workspace files limit)) labels l → is_label l ≡ true) where
+module _ (files : List Pair) (labels : List LabelParts) (limit : ℕ) (given : AreLegal labels) where
   abbrev w : Workspace
   w = plain_workspace files limit
+
+  -- a walk from a legal label comes to legal ones alone
+  walked : (n : ℕ) (a b : LabelParts) → is_label a ≡ true → Walk (dependencies w) n a b → is_label b ≡ true
+  walked zero a b h e = subst (λ (l : LabelParts). is_label l ≡ true) e h
+  walked (suc n) a b h c = walked n c.0 b (dependencies_are_legal files limit a c.0 c.1) c.2
+
+  legal : (l : LabelParts) → IsReached (dependencies w) labels l → is_label l ≡ true
+  legal l r = walked r.2.0 r.0 l (given r.0 r.1) r.2.1
 
   abbrev from : LabelParts → List LabelParts
   from = led_to same_label same_label-decides (dependencies w) (declared w) (finite w (plain_listed files limit))
@@ -139,8 +153,29 @@ too_many workspace labels limit a this more = record {
   };
 }
 
+-- labels that stand once in a list are no more than those of another that has them all
+distinct_within : (xs ys : List LabelParts) → IsDistinct same_label xs → ((l : LabelParts) → Contains xs l → Contains ys l) → length xs ≤ length ys
+distinct_within xs ys once all =
+    let laws = decided same_label same_label-decides in
+    length-le_from_is_member laws xs ys once
+    (λ l m. list_any-from_Contains laws l ys (all l (Contains-from_any (λ a b t. (same_label-decides a b).0 t) l xs m)))
+
+-- and where too many are reached, each of them is told
+told_many : (workspace : List Pair) (labels : List LabelParts) (limit : ℕ) (a : Answer) → IsAnswer workspace labels limit a
+    → IsTooMany workspace labels limit → node_limit < length a.nodes
+told_many workspace labels limit a this that =
+    let same : this.files ≡ that.files =
+    files_same workspace workspace this.files that.files (IsPermutation-refl workspace) this.are_files that.are_files in
+    let here : IsAnswerOf that.files labels limit a = subst (λ fs. IsAnswerOf fs labels limit a) same this.answers in
+    let told : (l : LabelParts) → Contains that.many.nodes l → Contains (labels_told a) l = λ l h. (here.reached l).1 (that.many.reached l h) in
+    let long = distinct_within that.many.nodes (labels_told a) that.many.once told in
+    let count = length-map a.nodes (λ (n : Node). n.label) in
+    omega (arith, long, count, that.many.more)
+
 pub labels_have_an_answer : LabelsHaveAnAnswer
 labels_have_an_answer workspace labels limit is legal =
-    let a = answer (files workspace is) labels limit (legal (files workspace is) (are_files workspace is)) in
-    let this : IsAnswer workspace labels limit a.0 = record { files = files workspace is; are_files = are_files workspace is; answers = a.1 } in
-    record { answer = a.0; answers = this; many = too_many workspace labels limit a.0 this }
+    let a = answer (files workspace is) labels limit legal in
+    (a.0, record { files = files workspace is; are_files = are_files workspace is; answers = a.1 })
+
+pub too_many_are_counted : TooManyAreCounted
+too_many_are_counted workspace labels limit a this = (too_many workspace labels limit a this, told_many workspace labels limit a this)

@@ -6,4 +6,5 @@ pub mod InOrder
 pub mod Labelled
 pub mod OneAnswer
 pub mod Plainly
+pub mod SourceTexts
 pub mod Told

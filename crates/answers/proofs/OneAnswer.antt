@@ -1,18 +1,19 @@
--- What answers to labels of a workspace have in common: its files, in ascending order, are one list; whoever asks for more labels is told the same and more; and so there
--- is one answer.
-use Rattle.std.proofs.Common.{◌≡◌, ◌∙◌, ℕ, zero, suc, List, [], ◌∷◌, map, Contains, ap, sym, subst, arith}
+-- What answers to labels of a workspace have in common: its files, in ascending order, are one list; a label that two tell has one outcome; and whoever tells all that is
+-- asked for tells all that is reached. So there is one answer.
+use Rattle.std.proofs.Common.{◌≡◌, ◌∙◌, ℕ, zero, suc, List, [], ◌∷◌, map, Contains, ap, refl, sym, subst, arith}
 use Rattle.std.specs.List.Sorted.{IsPermutation}
 use Rattle.std.proofs.lemmas.List.Elements.{All-contains}
 use Rattle.std.proofs.lemmas.List.Sorted.{Contains-permutation, IsPermutation-sym}
 use Rattle.workspace.specs.Labels.{LabelParts, label_text}
 use Rattle.workspace.specs.Workspaces.{Pair, paths_of}
 use Rattle.actions.proofs.Ascending.{sorted_ascends, ascending_same, head_in, tail_in}
-use Rattle.outcomes.specs.Workspaces.{outcome_of}
+use Rattle.outcomes.specs.Workspaces.{dependencies, outcome_of}
 use Rattle.reporting.specs.Answers.{Node}
 use Rattle.loader.specs.Loaded.{AreFilesOf}
 use Rattle.workspace_laws.specs.Workspaces.{plain_workspace}
-use Rattle.answers.specs.Answers.{Answer, IsAnswer, IsAnswerOf}
-use Rattle.answers.specs.Laws.{AreAmong, MoreLabelsChangeNothing, WorkspacesHaveOneAnswer}
+use Rattle.answers.specs.Answers.{Answer, IsAnswer, IsAnswerOf, labels_told}
+use Rattle.answers.specs.Laws.{AreAmong, AskForTheSame, OthersChangeNothing, SayTheSame, WorkspacesHaveOneAnswer}
+use Rattle.answers.proofs.Enumerated.{lead_on}
 
 -- an element that a list of what elements come to has comes from one of them
 pub source_of : {A B : Type 0} (f : A → B) (xs : List A) (y : B) → Contains (map f xs) y → (x : A) × Contains xs x × (f x ≡ y)
@@ -30,7 +31,7 @@ comes_to f (y ∷ xs) x (suc k, low, is) = tail_in (f y) (map f xs) (f x) (comes
 
 -- the files of both in ascending order
 module _ (w v f g : List Pair) (moved : IsPermutation w v) (of_w : AreFilesOf w f) (of_v : AreFilesOf v g) where
-  files_same : f ≡ g
+  pub files_same : f ≡ g
   files_same =
       ascending_same (λ (p : Pair). p.0) f g (sorted_ascends (paths_of f) of_w.ascending.sorted of_w.ascending.distinct)
       (sorted_ascends (paths_of g) of_v.ascending.sorted of_v.ascending.distinct)
@@ -47,26 +48,33 @@ module _ (files : List Pair) (limit : ℕ) where
       let out : m.outcome ≡ n.outcome = p ∙ ap (outcome_of (plain_workspace files limit)) l ∙ sym q in
       λ i. record { label = l i; outcome = out i }
 
-  module _ (labels more : List LabelParts) (among : AreAmong labels more) (a b : Answer) (p : IsAnswerOf files labels limit a) (q : IsAnswerOf files more limit b) where
-    node_in : (n : Node) → Contains a.nodes n → Contains b.nodes n
-    node_in n h =
-        let reached = (p.reached n.label).0 (comes_to (λ (m : Node). m.label) a.nodes n h) in
-        let there =
-        source_of (λ (m : Node). m.label) b.nodes n.label
-        ((q.reached n.label).1 (reached.0, among reached.0 reached.1, reached.2)) in
-        subst (Contains b.nodes)
-        (one_node there.0 n there.2 (All-contains IsOf b.nodes there.0 q.outcomes there.1) (All-contains IsOf a.nodes n p.outcomes h)) there.1
+  module _ (labels others : List LabelParts) (a b : Answer) (p : IsAnswerOf files labels limit a) (q : IsAnswerOf files others limit b) where
+    one_told : (m n : Node) → Contains a.nodes m → Contains b.nodes n → m.label ≡ n.label → m ≡ n
+    one_told m n h i l = one_node m n l (All-contains IsOf a.nodes m p.outcomes h) (All-contains IsOf b.nodes n q.outcomes i)
 
-    faults_same : a.faults ≡ b.faults
-    faults_same = p.faults ∙ sym q.faults
+    told_too : AreAmong labels (labels_told b) → (n : Node) → Contains a.nodes n → Contains b.nodes n
+    told_too all n h =
+        let r = (p.reached n.label).0 (comes_to (λ (m : Node). m.label) a.nodes n h) in
+        let s = (q.reached r.0).0 (all r.0 r.1) in
+        let on = lead_on (dependencies (plain_workspace files limit)) s.2.0 s.0 r.0 n.label s.2.1 r.2 in
+        let there = source_of (λ (m : Node). m.label) b.nodes n.label ((q.reached n.label).1 (s.0, s.1, on)) in
+        subst (Contains b.nodes) (sym (one_told n there.0 h there.1 (sym there.2))) there.1
 
-  answer_same : (labels others : List LabelParts) → AreAmong labels others → AreAmong others labels → (a b : Answer)
-      → IsAnswerOf files labels limit a → IsAnswerOf files others limit b → a ≡ b
-  answer_same labels others there here a b p q =
-      let faults = faults_same labels others there a b p q in
+    say_the_same : SayTheSame labels a b
+    say_the_same = record { faults = p.faults ∙ sym q.faults; outcomes = one_told; more = told_too }
+
+    -- what is asked for is told
+    all_told : AreAmong labels others → AreAmong labels (labels_told b)
+    all_told among l h = (q.reached l).1 (l, among l h, (zero, refl))
+
+  answer_same : (labels others : List LabelParts) → AskForTheSame labels others → (a b : Answer) → IsAnswerOf files labels limit a
+      → IsAnswerOf files others limit b → a ≡ b
+  answer_same labels others same a b p q =
+      let faults : a.faults ≡ b.faults = p.faults ∙ sym q.faults in
       let nodes : a.nodes ≡ b.nodes =
-      ascending_same (λ (n : Node). label_text n.label) a.nodes b.nodes p.ordered q.ordered (node_in labels others there a b p q)
-      (node_in others labels here b a q p) in
+      ascending_same (λ (n : Node). label_text n.label) a.nodes b.nodes p.ordered q.ordered
+      (told_too labels others a b p q (all_told labels others a b p q same.0))
+      (told_too others labels b a q p (all_told others labels b a q p same.1)) in
       λ i. record { faults = faults i; nodes = nodes i }
 
 -- an answer over the files of one list is one over those of the other
@@ -77,9 +85,8 @@ module _ (w v : List Pair) (moved : IsPermutation w v) (labels others : List Lab
 
 pub workspaces_have_one_answer : WorkspacesHaveOneAnswer
 workspaces_have_one_answer w v labels others limit a b moved same p q =
-    answer_same q.files limit labels others same.0 same.1 a b (over_same w v moved labels others limit a b p q) q.answers
+    answer_same q.files limit labels others same a b (over_same w v moved labels others limit a b p q) q.answers
 
-pub more_labels_change_nothing : MoreLabelsChangeNothing
-more_labels_change_nothing w v labels more limit a b moved among p q =
-    let here = over_same w v moved labels more limit a b p q in
-    (faults_same q.files limit labels more among a b here q.answers, node_in q.files limit labels more among a b here q.answers)
+pub others_change_nothing : OthersChangeNothing
+others_change_nothing w v labels others limit a b moved p q =
+    say_the_same q.files limit labels others a b (over_same w v moved labels others limit a b p q) q.answers

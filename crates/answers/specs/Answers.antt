@@ -20,6 +20,10 @@ pub record Answer : Type 0 where
   pub faults : List (FileFault FaultKind Kind)
   pub nodes : List Node
 
+-- the labels that it tells
+abbrev pub labels_told : Answer → List LabelParts
+labels_told a = map (λ n. n.label) a.nodes
+
 -- whether it has a file that failed, a target that failed or a conflict
 abbrev pub is_loud_answer : Answer → Bool
 is_loud_answer a = is_loud flat a.faults a.nodes
@@ -37,7 +41,7 @@ pub record IsAnswerOf (files : List Pair) (labels : List LabelParts) (limit : �
     (a : Answer) : Type 0 where
   pub faults : a.faults ≡ faults files limit
   pub reached : (l : LabelParts)
-      → Contains (map (λ n. n.label) a.nodes) l
+      → Contains (labels_told a) l
       ↔ IsReached (dependencies (plain_workspace files limit)) labels l
   pub ordered : AreAscending (map (λ n. label_text n.label) a.nodes)
   pub outcomes : All (λ n. n.outcome ≡ outcome_of (plain_workspace files limit) n.label) a.nodes

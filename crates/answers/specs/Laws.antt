@@ -1,16 +1,20 @@
 -- What holds of a workspace as a whole, and of all answers. (This project's own.)
-use Rattle.std.specs.Prelude.{◌≡◌, ◌<◌, ℕ, true, List, map, length, Contains}
+use Rattle.std.specs.Prelude.{◌≡◌, ◌↔◌, ◌<◌, ℕ, List, [], map, length, Contains, if◌then◌else◌}
 use Rattle.std.specs.List.Sorted.{IsPermutation}
 use Rattle.edges.specs.Walks.{Cyclic}
 use Rattle.coherence.specs.Together.{AllCoherent}
-use Rattle.workspace.specs.Labels.{LabelParts, is_label}
+use Rattle.actions.specs.Ascending.{AreAscending}
+use Rattle.workspace.specs.Labels.{LabelParts, label_text}
 use Rattle.workspace.specs.Workspaces.{IsWorkspace, Pair}
 use Rattle.graph.specs.Reached.{IsReached}
-use Rattle.outcomes.specs.Workspaces.{Workspace, graph, dependencies, cycle_of, step_of}
+use Rattle.evaluation.specs.Workspaces.{is_starlark}
+use Rattle.outcomes.specs.Workspaces.{graph, dependencies, cycle_of, step_of}
 use Rattle.reporting.specs.Answers.{Node}
 use Rattle.loader.specs.Loaded.{AreFilesOf}
+use Rattle.workspace_laws.specs.Files.{faults}
+use Rattle.workspace_laws.specs.LabelLaws.{AreLegal}
 use Rattle.workspace_laws.specs.Workspaces.{plain_workspace}
-use Rattle.answers.specs.Answers.{Answer, IsAnswer}
+use Rattle.answers.specs.Answers.{Answer, IsAnswer, IsAnswerOf, labels_told}
 use Rattle.answers.specs.Reports.{IsTooMany, node_limit}
 
 -- Of the depsets in modules and of those in what becomes of labels, all together, any two with one
@@ -28,24 +32,18 @@ AreAmong labels others = (l : LabelParts) → Contains labels l → Contains oth
 abbrev pub AskForTheSame : List LabelParts → List LabelParts → Type 0
 AskForTheSame labels others = AreAmong labels others × AreAmong others labels
 
--- all labels that are reached from these are legal
-abbrev pub ReachLegal : List Pair → List LabelParts → ℕ → Type 0
-ReachLegal workspace labels limit =
-    (files : List Pair) → AreFilesOf workspace files → (l : LabelParts)
-    → IsReached (dependencies (plain_workspace files limit)) labels l → is_label l ≡ true
-
--- Labels of a workspace have an answer under each limit of steps, if those that are reached are
--- legal. Where it has more labels than a report may have, too many are reached.
-pub record HaveAnAnswer (workspace : List Pair) (labels : List LabelParts)
-    (limit : ℕ) : Type 0 where
-  pub answer : Answer
-  pub answers : IsAnswer workspace labels limit answer
-  pub many : node_limit < length answer.nodes → IsTooMany workspace labels limit
-
+-- Legal labels have an answer in each workspace, under each limit of steps.
 abbrev pub LabelsHaveAnAnswer : Type 0
 LabelsHaveAnAnswer =
     (workspace : List Pair) (labels : List LabelParts) (limit : ℕ) → IsWorkspace workspace
-    → ReachLegal workspace labels limit → HaveAnAnswer workspace labels limit
+    → AreLegal labels → (a : Answer) × IsAnswer workspace labels limit a
+
+-- An answer has more labels than a report may have exactly where too many are reached.
+abbrev pub TooManyAreCounted : Type 0
+TooManyAreCounted =
+    (workspace : List Pair) (labels : List LabelParts) (limit : ℕ) (a : Answer)
+    → IsAnswer workspace labels limit a
+    → node_limit < length a.nodes ↔ IsTooMany workspace labels limit
 
 -- Labels of a workspace have at most one answer under a limit, in whichever order the files stand,
 -- and in whichever order and however often the labels are asked for.
@@ -55,40 +53,61 @@ WorkspacesHaveOneAnswer =
     → IsPermutation workspace other → AskForTheSame labels others
     → IsAnswer workspace labels limit a → IsAnswer other others limit b → a ≡ b
 
--- Whoever asks for more labels is told the same and more: the same files fail, and each label that
--- was told is told again, with the same outcome.
-abbrev pub MoreLabelsChangeNothing : Type 0
-MoreLabelsChangeNothing =
-    (workspace other : List Pair) (labels more : List LabelParts) (limit : ℕ) (a b : Answer)
-    → IsPermutation workspace other → AreAmong labels more → IsAnswer workspace labels limit a
-    → IsAnswer other more limit b
-    → (a.faults ≡ b.faults) × ((n : Node) → Contains a.nodes n → Contains b.nodes n)
+-- What these two answers say is one: the same files fail, and a label that both tell has the same
+-- outcome. Where the second tells all that was asked for in the first, it tells all of the first.
+pub record SayTheSame (labels : List LabelParts) (a b : Answer) : Type 0 where
+  pub faults : a.faults ≡ b.faults
+  pub outcomes : (m n : Node) → Contains a.nodes m → Contains b.nodes n → m.label ≡ n.label → m ≡ n
+  pub more : AreAmong labels (labels_told b) → (n : Node) → Contains a.nodes n → Contains b.nodes n
 
--- the labels that an answer tells
-abbrev pub labels_told : Answer → List LabelParts
-labels_told a = map (λ n. n.label) a.nodes
+-- What becomes of a label doesn't depend on what else is asked for. (At which label a report prints
+-- an action that several share, and which paths conflict, does.)
+abbrev pub OthersChangeNothing : Type 0
+OthersChangeNothing =
+    (workspace other : List Pair) (labels others : List LabelParts) (limit : ℕ) (a b : Answer)
+    → IsPermutation workspace other → IsAnswer workspace labels limit a
+    → IsAnswer other others limit b → SayTheSame labels a b
 
--- these are told, in this order
+-- nodes of an answer, which have these labels in the labels' order
 abbrev pub AreTold : Answer → List LabelParts → List Node → Type 0
 AreTold a ls ns =
     (map (λ n. n.label) ns ≡ ls) × ((n : Node) → Contains ns n → Contains a.nodes n)
 
--- An answer stands on its own. Each label that is asked for is told, and so is each dependency of a
--- label that is told. The outcome of a label that isn't cyclic is the step over the outcomes that
--- are told of its dependencies, in their order; that of a cyclic one says so.
-pub record StandsAlone (w : Workspace) (labels : List LabelParts) (a : Answer) : Type 0 where
+-- What can be seen of an answer label by label. It tells the files that fail, and the labels once,
+-- in the order of their texts: each label that is asked for, each dependency of a label that is
+-- told, and none that isn't reached. Those that are cyclic say so, and no others do; the outcome of
+-- any other is the step over the outcomes that are told of its dependencies, in their order.
+pub record StandsAlone (files : List Pair) (labels : List LabelParts) (limit : ℕ)
+    (a : Answer) : Type 0 where
+  pub faults : a.faults ≡ faults files limit
+  pub ordered : AreAscending (map (λ n. label_text n.label) a.nodes)
   pub asked : AreAmong labels (labels_told a)
   pub needed : (l : LabelParts) → Contains (labels_told a) l
-      → AreAmong (dependencies w l) (labels_told a)
-  pub cyclic : (n : Node) → Contains a.nodes n → Cyclic (dependencies w) n.label
-      → n.outcome ≡ cycle_of w n.label
-  pub stepped : (n : Node) → Contains a.nodes n → (Cyclic (dependencies w) n.label → ⊥)
-      → (ds : List Node) × AreTold a (dependencies w n.label) ds
-      × (n.outcome ≡ step_of w n.label (map (λ d. d.outcome) ds))
+      → AreAmong (dependencies (plain_workspace files limit) l) (labels_told a)
+  pub reached : (l : LabelParts) → Contains (labels_told a) l
+      → IsReached (dependencies (plain_workspace files limit)) labels l
+  pub cyclic : (n : Node) → Contains a.nodes n
+      → Cyclic (dependencies (plain_workspace files limit)) n.label
+      ↔ (n.outcome ≡ cycle_of (plain_workspace files limit) n.label)
+  pub stepped : (n : Node) → Contains a.nodes n
+      → (n.outcome ≡ cycle_of (plain_workspace files limit) n.label → ⊥)
+      → (ds : List Node) × AreTold a (dependencies (plain_workspace files limit) n.label) ds
+      × (n.outcome ≡ step_of (plain_workspace files limit) n.label (map (λ d. d.outcome) ds))
 
--- each answer to labels of a workspace does
+-- This is so of each answer, and of nothing else.
 abbrev pub AnswersStandAlone : Type 0
 AnswersStandAlone =
-    (workspace : List Pair) (labels : List LabelParts) (limit : ℕ) (a : Answer)
-    (this : IsAnswer workspace labels limit a)
-    → StandsAlone (plain_workspace this.files limit) labels a
+    (files : List Pair) (labels : List LabelParts) (limit : ℕ) (a : Answer)
+    → IsAnswerOf files labels limit a ↔ StandsAlone files labels limit a
+
+-- a file as it is read: that of a source file counts as one without a text
+abbrev pub read_of : Pair → Pair
+read_of f = (f.0, if is_starlark f.0 then f.1 else [])
+
+-- The text of a source file isn't used: workspaces with the same paths, in which the modules and
+-- the `BUILD` files have the same texts, have the same answers.
+abbrev pub SourceTextsChangeNothing : Type 0
+SourceTextsChangeNothing =
+    (workspace other : List Pair) (labels : List LabelParts) (limit : ℕ) (a : Answer)
+    → map read_of workspace ≡ map read_of other → IsAnswer workspace labels limit a
+    → IsAnswer other labels limit a

@@ -1,7 +1,7 @@
 //! What holds of a workspace as a whole, and of all answers. These functions do nothing; their
 //! contracts hold of every workspace.
-ghost use Rattle.answers.specs.Laws.{AnswersStandAlone, LabelsHaveAnAnswer};
-ghost use Rattle.answers.specs.Laws.{MoreLabelsChangeNothing};
+ghost use Rattle.answers.specs.Laws.{AnswersStandAlone, LabelsHaveAnAnswer, OthersChangeNothing};
+ghost use Rattle.answers.specs.Laws.{SourceTextsChangeNothing, TooManyAreCounted};
 ghost use Rattle.answers.specs.Laws.{WorkspacesAreCoherent, WorkspacesHaveOneAnswer};
 
 /// All modules and all outcomes of a workspace are coherent together: an id has one tree.
@@ -9,10 +9,11 @@ pub fn workspaces_are_coherent()
     ensures { WorkspacesAreCoherent }
 {}
 
-/// Labels of a workspace have an answer under each limit of steps, if those that are reached are
-/// legal. Where it has more labels than a report may have, too many are reached.
+/// Legal labels have an answer in each workspace, under each limit of steps. An answer has more
+/// labels than a report may have exactly where too many are reached.
 pub fn labels_have_an_answer()
-    ensures { LabelsHaveAnAnswer }
+    ensures some { LabelsHaveAnAnswer }
+    ensures counted { TooManyAreCounted }
 {}
 
 /// Labels of a workspace have at most one answer under a limit of steps, in whichever order its
@@ -21,14 +22,19 @@ pub fn workspaces_have_one_answer()
     ensures { WorkspacesHaveOneAnswer }
 {}
 
-/// Whoever asks for more labels of a workspace is told the same files that fail, and each label
-/// with the same outcome.
-pub fn more_labels_change_nothing()
-    ensures { MoreLabelsChangeNothing }
+/// What becomes of a label doesn't depend on what else is asked for.
+pub fn others_change_nothing()
+    ensures { OthersChangeNothing }
 {}
 
-/// An answer tells each label that is asked for, and of each label that it tells all dependencies,
-/// from whose outcomes that of the label follows.
+/// An answer tells each label that is asked for, and of each label that it tells all dependencies.
+/// From their outcomes that of the label follows, if it isn't cyclic; a cyclic one says so. What is
+/// so of each label is an answer.
 pub fn answers_stand_alone()
     ensures { AnswersStandAlone }
+{}
+
+/// The texts of source files aren't used.
+pub fn source_texts_change_nothing()
+    ensures { SourceTextsChangeNothing }
 {}

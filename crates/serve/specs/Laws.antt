@@ -1,24 +1,39 @@
 -- What holds of all requests (docs/REPORT.md; this project's own).
 use Rattle.std.specs.Prelude.{◌≡◌, ◌⊎◌, ℕ, List}
+use Rattle.std.specs.List.Sorted.{IsPermutation}
 use Rattle.request.specs.Asked.{Asked}
 use Rattle.request.specs.Input.{Spells}
 use Rattle.workspace.specs.Workspaces.{Pair}
 use Rattle.answers.specs.Answers.{Answer}
-use Rattle.answers.specs.Laws.{AskForTheSame, ReachLegal}
+use Rattle.answers.specs.Laws.{AskForTheSame}
 use Rattle.serve.specs.Requests.{AsksFor, AsksTooMany, IsAnswered}
 
--- A request has an answer, or it asks for too much: words that ask for something of an input that
--- spells a workspace, in which only legal labels are reached.
+-- Words that ask for something and an input that spells a workspace make a request. Each request
+-- has an answer, or it asks for too many labels.
 abbrev pub RequestsHaveAnAnswer : Type 0
 RequestsHaveAnAnswer =
     (words : List (List ℕ)) (input : List ℕ) (asked : Asked) (workspace : List Pair)
-    → AsksFor words asked → Spells input workspace → ReachLegal workspace asked.labels asked.steps
+    → AsksFor words asked → Spells input workspace
     → ((answer : Answer) × IsAnswered words input answer) ⊎ AsksTooMany words input
 
--- Requests that ask for the same labels of the same input, in any order and any number of times,
--- under the same limit of steps, have at most one answer, by however many workers.
+-- No request has an answer and asks for too many labels.
+abbrev pub AnswersAreNotTooMany : Type 0
+AnswersAreNotTooMany =
+    (words : List (List ℕ)) (input : List ℕ) (answer : Answer)
+    → IsAnswered words input answer → AsksTooMany words input → ⊥
+
+-- Requests that ask for the same labels, in any order and any number of times, under the same limit
+-- of steps, of inputs with the same files in any order, have at most one answer.
 abbrev pub RequestsHaveOneAnswer : Type 0
 RequestsHaveOneAnswer =
-    (words others : List (List ℕ)) (input : List ℕ) (a b : Answer) (this : IsAnswered words input a)
-    (that : IsAnswered others input b) → AskForTheSame this.asked.labels that.asked.labels
-    → this.asked.steps ≡ that.asked.steps → a ≡ b
+    (words others : List (List ℕ)) (input other : List ℕ) (a b : Answer)
+    (this : IsAnswered words input a) (that : IsAnswered others other b)
+    → IsPermutation this.workspace that.workspace
+    → AskForTheSame this.asked.labels that.asked.labels → this.asked.steps ≡ that.asked.steps
+    → a ≡ b
+
+-- One request has at most one answer.
+abbrev pub AnswersAreOne : Type 0
+AnswersAreOne =
+    (words : List (List ℕ)) (input : List ℕ) (a b : Answer) → IsAnswered words input a
+    → IsAnswered words input b → a ≡ b

@@ -1,14 +1,17 @@
 //! What holds of all requests. These functions do nothing; their contracts hold of every request.
+ghost use Rattle.serve.specs.Laws.{AnswersAreNotTooMany, AnswersAreOne};
 ghost use Rattle.serve.specs.Laws.{RequestsHaveAnAnswer, RequestsHaveOneAnswer};
 
-/// A request has an answer, or more labels are reached than a report may have: words that ask for
-/// something of an input that spells a workspace, in which only legal labels are reached.
+/// Each request has exactly one answer, or more labels are reached than a report may have, and not
+/// both. Words that ask for something and an input that spells a workspace make a request.
 pub fn requests_have_an_answer()
-    ensures { RequestsHaveAnAnswer }
+    ensures some { RequestsHaveAnAnswer }
+    ensures one { AnswersAreOne }
+    ensures apart { AnswersAreNotTooMany }
 {}
 
-/// Requests that ask for the same labels of the same input, in any order and any number of times,
-/// under the same limit of steps, have at most one answer, by however many workers.
+/// Requests that ask for the same labels, in any order and any number of times, under the same
+/// limit of steps, of inputs with the same files in any order, have at most one answer.
 pub fn requests_have_one_answer()
     ensures { RequestsHaveOneAnswer }
 {}

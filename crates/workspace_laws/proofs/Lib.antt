@@ -22,6 +22,9 @@ pub mod Places
 pub mod Sound
 pub mod Targets
 pub mod Outcomes
+pub mod Working
+pub mod Legal
+pub mod LegalFiles
 pub mod Lines
 pub mod Reports
 pub mod Rows

@@ -8,3 +8,4 @@ pub mod Files
 pub mod Workspaces
 pub mod PlainLaws
 pub mod ReportLaws
+pub mod LabelLaws

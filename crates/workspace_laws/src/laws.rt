@@ -7,6 +7,7 @@ ghost use Rattle.workspace_laws.specs.TargetLaws.{CallsKeepCoherence};
 ghost use Rattle.workspace_laws.specs.PlainLaws.{ModulesAreTheSame, FaultsAreTheSame};
 ghost use Rattle.workspace_laws.specs.PlainLaws.{PackagesAreTheSame, CallsAreTheSame};
 ghost use Rattle.workspace_laws.specs.PlainLaws.{DependenciesAreTheSame, OutcomesAreTheSame};
+ghost use Rattle.workspace_laws.specs.LabelLaws.{DependenciesAreLegal};
 ghost use Rattle.workspace_laws.specs.ReportLaws.{TextsArePlain, WorkspacesAreToldPlainly};
 
 /// All modules of a workspace are coherent together: any two depsets that stand in them with one id
@@ -43,4 +44,9 @@ pub fn workspaces_are_plain()
 pub fn reports_are_plain()
     ensures texts { TextsArePlain }
     ensures workspaces { WorkspacesAreToldPlainly }
+{}
+
+/// Each label depends on legal labels alone, defaults of attributes included.
+pub fn dependencies_are_legal()
+    ensures { DependenciesAreLegal }
 {}
