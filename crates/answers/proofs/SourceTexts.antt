@@ -127,18 +127,23 @@ module _ (limit : ℕ) where
 
 -- ---- the files of the other workspace in their order
 
-module _ (workspace other files : List Pair) (same : reads workspace ≡ reads other) (of : AreFilesOf workspace files) where
+module _ (workspace other files : List Pair) (same : IsPermutation (reads workspace) (reads other)) (of : AreFilesOf workspace files) where
   abbrev key : Pair → Path
   key p = p.0
 
   abbrev others : List Pair
   others = in_order key other
 
+  -- files that are moved have each path once, if they had
+  once_moved : (xs ys : List Pair) → IsPermutation xs ys → IsDistinct bytes_eq (paths_of xs) → IsDistinct bytes_eq (paths_of ys)
+  once_moved xs ys by =
+      IsDistinct-IsPermutation bytes_eq (decided bytes_eq bytes_eq-Decides).symm (paths_of xs) (paths_of ys) (IsPermutation-map key xs ys by)
+
   once : IsDistinct bytes_eq (paths_of other)
   once =
-      subst (IsDistinct bytes_eq) (sym (paths_same workspace) ∙ ap paths_of same ∙ paths_same other)
-      (IsDistinct-IsPermutation bytes_eq (decided bytes_eq bytes_eq-Decides).symm (paths_of files) (paths_of workspace)
-      (IsPermutation-map key files workspace (IsPermutation-sym workspace files of.all)) of.ascending.distinct)
+      let here = once_moved files workspace (IsPermutation-sym workspace files of.all) of.ascending.distinct in
+      subst (IsDistinct bytes_eq) (paths_same other)
+      (once_moved (reads workspace) (reads other) same (subst (IsDistinct bytes_eq) (sym (paths_same workspace)) here))
 
   ascends : AreAscending (paths_of others)
   ascends = order_ascends key other
@@ -157,9 +162,11 @@ module _ (workspace other files : List Pair) (same : reads workspace ≡ reads o
       ascending_same key (reads files) (reads others)
       (subst AreAscending (sym (paths_same files)) (sorted_ascends (paths_of files) of.ascending.sorted of.ascending.distinct))
       (subst AreAscending (sym (paths_same others)) ascends)
-      (λ p h. moved other others are_files.all p (subst (λ ps. Contains ps p) same (moved files workspace (IsPermutation-sym workspace files of.all) p h)))
+      (λ p h. moved other others are_files.all p
+      (Contains-permutation (reads workspace) (reads other) p same (moved files workspace (IsPermutation-sym workspace files of.all) p h)))
       (λ p h. moved workspace files of.all p
-      (subst (λ ps. Contains ps p) (sym same) (moved others other (IsPermutation-sym other others are_files.all) p h)))
+      (Contains-permutation (reads other) (reads workspace) p (IsPermutation-sym (reads workspace) (reads other) same)
+      (moved others other (IsPermutation-sym other others are_files.all) p h)))
 
 pub source_texts_change_nothing : SourceTextsChangeNothing
 source_texts_change_nothing workspace other labels limit a same this =

@@ -60,8 +60,8 @@ pub record SayTheSame (labels : List LabelParts) (a b : Answer) : Type 0 where
   pub outcomes : (m n : Node) → Contains a.nodes m → Contains b.nodes n → m.label ≡ n.label → m ≡ n
   pub more : AreAmong labels (labels_told b) → (n : Node) → Contains a.nodes n → Contains b.nodes n
 
--- What becomes of a label doesn't depend on what else is asked for. (At which label a report prints
--- an action that several share, and which paths conflict, does.)
+-- What becomes of a label doesn't depend on what else is asked for. (Which labels share an action,
+-- at which of them a report prints it, which paths conflict and the exit status do.)
 abbrev pub OthersChangeNothing : Type 0
 OthersChangeNothing =
     (workspace other : List Pair) (labels others : List LabelParts) (limit : ℕ) (a b : Answer)
@@ -73,8 +73,8 @@ abbrev pub AreTold : Answer → List LabelParts → List Node → Type 0
 AreTold a ls ns =
     (map (λ n. n.label) ns ≡ ls) × ((n : Node) → Contains ns n → Contains a.nodes n)
 
--- What can be seen of an answer label by label. It tells the files that fail, and the labels once,
--- in the order of their texts: each label that is asked for, each dependency of a label that is
+-- What an answer is, by what it tells of each label. It tells the files that fail, and the labels
+-- once, in the order of their texts: each label that is asked for, each dependency of a label that is
 -- told, and none that isn't reached. Those that are cyclic say so, and no others do; the outcome of
 -- any other is the step over the outcomes that are told of its dependencies, in their order.
 pub record StandsAlone (files : List Pair) (labels : List LabelParts) (limit : ℕ)
@@ -104,10 +104,10 @@ AnswersStandAlone =
 abbrev pub read_of : Pair → Pair
 read_of f = (f.0, if is_starlark f.0 then f.1 else [])
 
--- The text of a source file isn't used: workspaces with the same paths, in which the modules and
--- the `BUILD` files have the same texts, have the same answers.
+-- The text of a source file isn't used: workspaces with the same paths, in any order, in which the
+-- modules and the `BUILD` files have the same texts, have the same answers.
 abbrev pub SourceTextsChangeNothing : Type 0
 SourceTextsChangeNothing =
     (workspace other : List Pair) (labels : List LabelParts) (limit : ℕ) (a : Answer)
-    → map read_of workspace ≡ map read_of other → IsAnswer workspace labels limit a
+    → IsPermutation (map read_of workspace) (map read_of other) → IsAnswer workspace labels limit a
     → IsAnswer other labels limit a

@@ -27,14 +27,15 @@ pub fn others_change_nothing()
     ensures { OthersChangeNothing }
 {}
 
-/// An answer tells each label that is asked for, and of each label that it tells all dependencies.
-/// From their outcomes that of the label follows, if it isn't cyclic; a cyclic one says so. What is
-/// so of each label is an answer.
+/// An answer tells the files that fail, each label that is asked for, and of each label that it
+/// tells all dependencies. From their outcomes that of the label follows, if it isn't cyclic; a
+/// cyclic one says so, and no other does. Whatever does all this, with labels that are reached alone
+/// and in the order of their texts, is an answer.
 pub fn answers_stand_alone()
     ensures { AnswersStandAlone }
 {}
 
-/// The texts of source files aren't used.
+/// The texts of source files aren't used, whichever order files stand in.
 pub fn source_texts_change_nothing()
     ensures { SourceTextsChangeNothing }
 {}

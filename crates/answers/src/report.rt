@@ -35,7 +35,7 @@ use targets::Outcome;
 use values::Kind;
 use workspace::{Label, Workspace};
 
-/// How many labels an answer has at most. (This project's own limit.)
+/// How many labels a report has at most. (This project's own limit.)
 pub const NODE_LIMIT: usize = 1_048_576;
 
 /// These labels, each with what was found of its node.

@@ -8,15 +8,15 @@ use Rattle.answers.specs.Answers.{Answer}
 use Rattle.answers.specs.Laws.{AskForTheSame}
 use Rattle.serve.specs.Requests.{AsksFor, AsksTooMany, IsAnswered}
 
--- Words that ask for something and an input that spells a workspace make a request. Each request
--- has an answer, or it asks for too many labels.
+-- Words that ask for something and an input that spells a workspace have an answer that a report may
+-- tell, or too many labels are reached.
 abbrev pub RequestsHaveAnAnswer : Type 0
 RequestsHaveAnAnswer =
     (words : List (List ℕ)) (input : List ℕ) (asked : Asked) (workspace : List Pair)
     → AsksFor words asked → Spells input workspace
     → ((answer : Answer) × IsAnswered words input answer) ⊎ AsksTooMany words input
 
--- No request has an answer and asks for too many labels.
+-- Never both.
 abbrev pub AnswersAreNotTooMany : Type 0
 AnswersAreNotTooMany =
     (words : List (List ℕ)) (input : List ℕ) (answer : Answer)
@@ -32,7 +32,7 @@ RequestsHaveOneAnswer =
     → AskForTheSame this.asked.labels that.asked.labels → this.asked.steps ≡ that.asked.steps
     → a ≡ b
 
--- One request has at most one answer.
+-- The same words and the same input have at most one answer.
 abbrev pub AnswersAreOne : Type 0
 AnswersAreOne =
     (words : List (List ℕ)) (input : List ℕ) (a b : Answer) → IsAnswered words input a

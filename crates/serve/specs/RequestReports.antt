@@ -13,7 +13,7 @@ abbrev pub ReportsInput : Asked → List ℕ → Report → Type 0
 ReportsInput a input r =
     (workspace : List Pair) × Spells input workspace × Reports workspace a.labels a.steps r
 
--- the input spells a workspace in which more labels are reached than an answer may have
+-- the input spells a workspace in which more labels are reached than a report may have
 abbrev pub TooManyInput : Asked → List ℕ → Type 0
 TooManyInput a input =
     (workspace : List Pair) × Spells input workspace × IsTooMany workspace a.labels a.steps

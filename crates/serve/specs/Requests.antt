@@ -17,7 +17,7 @@ AsksFor words a = asked words ≡ Some a
 abbrev pub AsksForOthers : List (List ℕ) → Type 0
 AsksForOthers words = (a : Asked) × AsksFor words a × (1 < a.workers)
 
--- words and input make a request, and this is the answer to it, with no more labels than an answer
+-- words and input make a request, and this is the answer to it, with no more labels than a report
 -- may have
 pub record IsAnswered (words : List (List ℕ)) (input : List ℕ) (answer : Answer) : Type 0 where
   pub asked : Asked
@@ -44,7 +44,7 @@ pub record BeginsAnswer (words : List (List ℕ)) (input : List ℕ)
   pub answered : IsAnswered words input answer
   pub written : WritesBeginning old new (answer_text answer)
 
--- words and input make a request, and more labels are reached than an answer may have
+-- words and input make a request, and more labels are reached than a report may have
 pub record AsksTooMany (words : List (List ℕ)) (input : List ℕ) : Type 0 where
   pub asked : Asked
   pub workspace : List Pair

@@ -2,8 +2,8 @@
 ghost use Rattle.serve.specs.Laws.{AnswersAreNotTooMany, AnswersAreOne};
 ghost use Rattle.serve.specs.Laws.{RequestsHaveAnAnswer, RequestsHaveOneAnswer};
 
-/// Each request has exactly one answer, or more labels are reached than a report may have, and not
-/// both. Words that ask for something and an input that spells a workspace make a request.
+/// Words that ask for something and an input that spells a workspace have exactly one answer that a
+/// report may tell, or more labels are reached than a report may have, and not both.
 pub fn requests_have_an_answer()
     ensures some { RequestsHaveAnAnswer }
     ensures one { AnswersAreOne }
