@@ -21,7 +21,7 @@ use Rattle.answers.specs.Reports.{IsTooMany, node_limit}
 use Rattle.answers.proofs.Exists.{labels_have_an_answer, too_many_are_counted}
 use Rattle.answers.proofs.OneAnswer.{workspaces_have_one_answer}
 use Rattle.serve.specs.Requests.{AsksFor}
-use Rattle.serve.specs.Laws.{AnswersAreNotTooMany, AnswersAreOne, RequestsHaveAnAnswer, RequestsHaveOneAnswer}
+use Rattle.serve.specs.Laws.{AnswersAreNotTooMany, AnswersAreOne, InputsHaveOneAnswer, RequestsHaveAnAnswer, RequestsHaveOneAnswer}
 
 one_workspace : (input : List ℕ) (w v : List Pair) → Spells input w → Spells input v → w ≡ v
 one_workspace input w v p q =
@@ -33,19 +33,23 @@ requests_have_one_answer words others input other a b this that files labels ste
     workspaces_have_one_answer this.workspace that.workspace this.asked.labels that.asked.labels this.asked.steps a b files labels this.answers
     (subst (λ n. IsAnswer that.workspace that.asked.labels n b) (sym steps) that.answers)
 
--- ---- of one request
+-- ---- of one input
 
 -- what words ask for is one
 one_asked : (words : List (List ℕ)) (a b : Asked) → AsksFor words a → AsksFor words b → a ≡ b
 one_asked words a b p q = same_Some a b (sym p ∙ q)
 
-pub answers_are_one : AnswersAreOne
-answers_are_one words input a b this that =
-    let asked = one_asked words this.asked that.asked this.words_part that.words_part in
+pub inputs_have_one_answer : InputsHaveOneAnswer
+inputs_have_one_answer words others input a b this that labels steps =
     let here = IsPermutation-refl this.workspace in
     let files : IsPermutation this.workspace that.workspace =
     subst (IsPermutation this.workspace) (one_workspace input this.workspace that.workspace this.input_part that.input_part) here in
-    requests_have_one_answer words words input input a b this that files
+    requests_have_one_answer words others input input a b this that files labels steps
+
+pub answers_are_one : AnswersAreOne
+answers_are_one words input a b this that =
+    let asked = one_asked words this.asked that.asked this.words_part that.words_part in
+    inputs_have_one_answer words words input a b this that
     (subst (λ (r : Asked). AskForTheSame this.asked.labels r.labels) asked (λ l h. h, λ l h. h)) (ap (λ (r : Asked). r.steps) asked)
 
 pub answers_are_not_too_many : AnswersAreNotTooMany

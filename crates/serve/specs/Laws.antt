@@ -32,6 +32,13 @@ RequestsHaveOneAnswer =
     → AskForTheSame this.asked.labels that.asked.labels → this.asked.steps ≡ that.asked.steps
     → a ≡ b
 
+-- The same is so of one input, without a word of its files.
+abbrev pub InputsHaveOneAnswer : Type 0
+InputsHaveOneAnswer =
+    (words others : List (List ℕ)) (input : List ℕ) (a b : Answer) (this : IsAnswered words input a)
+    (that : IsAnswered others input b) → AskForTheSame this.asked.labels that.asked.labels
+    → this.asked.steps ≡ that.asked.steps → a ≡ b
+
 -- The same words and the same input have at most one answer.
 abbrev pub AnswersAreOne : Type 0
 AnswersAreOne =

@@ -1,5 +1,5 @@
 //! What holds of all requests. These functions do nothing; their contracts hold of every request.
-ghost use Rattle.serve.specs.Laws.{AnswersAreNotTooMany, AnswersAreOne};
+ghost use Rattle.serve.specs.Laws.{AnswersAreNotTooMany, AnswersAreOne, InputsHaveOneAnswer};
 ghost use Rattle.serve.specs.Laws.{RequestsHaveAnAnswer, RequestsHaveOneAnswer};
 
 /// Words that ask for something and an input that spells a workspace have exactly one answer that a
@@ -11,7 +11,9 @@ pub fn requests_have_an_answer()
 {}
 
 /// Requests that ask for the same labels, in any order and any number of times, under the same
-/// limit of steps, of inputs with the same files in any order, have at most one answer.
+/// limit of steps, of one input or of inputs with the same files in any order, have at most one
+/// answer.
 pub fn requests_have_one_answer()
-    ensures { RequestsHaveOneAnswer }
+    ensures files { RequestsHaveOneAnswer }
+    ensures input { InputsHaveOneAnswer }
 {}
