@@ -33,7 +33,7 @@ use Rattle.holding.proofs.Steps.{IfSome, either}
 use Rattle.workspace_laws.specs.Workspaces.{plain_workspace}
 use Rattle.workspace_laws.proofs.Packages.{packages_same}
 use Rattle.answers.specs.Answers.{Answer, IsAnswerOf, labels_told}
-use Rattle.answers.specs.Laws.{AnswersStandAlone, AreTold, StandsAlone}
+use Rattle.answers.specs.Laws.{AnswersStandAlone, AreTold, StandsAlone, TellsEach}
 use Rattle.answers.proofs.Enumerated.{in_cases, lead_on}
 use Rattle.answers.proofs.OneAnswer.{comes_to, source_of}
 
@@ -163,9 +163,8 @@ module _ (files : List Pair) (limit : ℕ) where
             λ i. outcome i ∷ others.2 i,
           )
 
-      stands_alone : StandsAlone files labels limit a
-      stands_alone = record {
-        faults = p.faults;
+      tells_each : TellsEach w labels a
+      tells_each = record {
         ordered = p.ordered;
         asked = λ l h. (p.reached l).1 (l, h, (zero, refl));
         needed = λ l is d. needed l d is;
@@ -177,19 +176,22 @@ module _ (files : List Pair) (limit : ℕ) where
             (ds.0, ds.1, is_of n h ∙ is_step n.label apart ∙ ap (step_of w n.label) (sym ds.2));
       }
 
+      stands_alone : StandsAlone files labels limit a
+      stands_alone = record { faults = p.faults; each = tells_each }
+
     -- ---- of what is so of each label
 
     module _ (s : StandsAlone files labels limit a) where
       told_along : (n : ℕ) (x y : LabelParts) → Contains (labels_told a) x → Walk (dependencies w) n x y → Contains (labels_told a) y
       told_along zero x y h e = subst (Contains (labels_told a)) e h
-      told_along (suc n) x y h c = told_along n c.0 y (s.needed x h c.0 c.1) c.2
+      told_along (suc n) x y h c = told_along n c.0 y (s.each.needed x h c.0 c.1) c.2
 
       -- by the number of edges that no walk from the label has
       by_walks : (k : ℕ) (n : Node) → Contains a.nodes n → goes_on (dependencies w) k n.label ≡ false → n.outcome ≡ outcome_of w n.label
       by_walks zero n h ends = absurd (true≢false ends)
       by_walks (suc k) n h ends =
           let apart = ends_apart (dependencies w) (suc k) n.label ends in
-          let told = s.stepped n h (λ e. apart ((s.cyclic n h).1 e)) in
+          let told = s.each.stepped n h (λ e. apart ((s.each.cyclic n h).1 e)) in
           let ds = told.0 in
           let needs : (d : Node) → Contains ds d → Contains (dependencies w n.label) d.label =
           λ d i. subst (λ ls. Contains ls d.label) told.1.0 (comes_to (λ (m : Node). m.label) ds d i) in
@@ -204,7 +206,7 @@ module _ (files : List Pair) (limit : ℕ) where
 
       so_outcome : (n : Node) → Contains a.nodes n → n.outcome ≡ outcome_of w n.label
       so_outcome n h = elim (cases_of (is_cyclic (dependencies w) (length (declared w)) n.label)) [
-        | inl holds ↦ let c = cyclic_if n.label holds in (s.cyclic n h).0 c ∙ sym (is_cycle n.label c)
+        | inl holds ↦ let c = cyclic_if n.label holds in (s.each.cyclic n h).0 c ∙ sym (is_cycle n.label c)
         | inr ends ↦ by_walks (suc (length (declared w))) n h ends
       ]
 
@@ -215,8 +217,8 @@ module _ (files : List Pair) (limit : ℕ) where
       is_answer : IsAnswerOf files labels limit a
       is_answer = record {
         faults = s.faults;
-        reached = λ l. (s.reached l, λ r. told_along r.2.0 r.0 l (s.asked r.0 r.1) r.2.1);
-        ordered = s.ordered;
+        reached = λ l. (s.each.reached l, λ r. told_along r.2.0 r.0 l (s.each.asked r.0 r.1) r.2.1);
+        ordered = s.each.ordered;
         outcomes = All-from_recursion (λ (n : Node). n.outcome ≡ outcome_of w n.label) a.nodes (outcomes_of a.nodes (λ n h. h));
       }
 

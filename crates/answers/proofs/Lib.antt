@@ -4,6 +4,7 @@ pub mod Enumerated
 pub mod Exists
 pub mod InOrder
 pub mod Labelled
+pub mod More
 pub mod OneAnswer
 pub mod Plainly
 pub mod SourceTexts

@@ -52,7 +52,7 @@ module _ (files : List Pair) (limit : ℕ) where
     one_told : (m n : Node) → Contains a.nodes m → Contains b.nodes n → m.label ≡ n.label → m ≡ n
     one_told m n h i l = one_node m n l (All-contains IsOf a.nodes m p.outcomes h) (All-contains IsOf b.nodes n q.outcomes i)
 
-    told_too : AreAmong labels (labels_told b) → (n : Node) → Contains a.nodes n → Contains b.nodes n
+    pub told_too : AreAmong labels (labels_told b) → (n : Node) → Contains a.nodes n → Contains b.nodes n
     told_too all n h =
         let r = (p.reached n.label).0 (comes_to (λ (m : Node). m.label) a.nodes n h) in
         let s = (q.reached r.0).0 (all r.0 r.1) in
@@ -79,7 +79,7 @@ module _ (files : List Pair) (limit : ℕ) where
 
 -- an answer over the files of one list is one over those of the other
 module _ (w v : List Pair) (moved : IsPermutation w v) (labels others : List LabelParts) (limit : ℕ) (a b : Answer) (p : IsAnswer w labels limit a) (q : IsAnswer v others limit b) where
-  over_same : IsAnswerOf q.files labels limit a
+  pub over_same : IsAnswerOf q.files labels limit a
   over_same =
       subst (λ fs. IsAnswerOf fs labels limit a) (files_same w v p.files q.files moved p.are_files q.are_files) p.answers
 
@@ -90,3 +90,8 @@ workspaces_have_one_answer w v labels others limit a b moved same p q =
 pub others_change_nothing : OthersChangeNothing
 others_change_nothing w v labels others limit a b moved p q =
     say_the_same q.files limit labels others a b (over_same w v moved labels others limit a b p q) q.answers
+
+-- what is asked for is told
+pub all_asked : (w : List Pair) (others : List LabelParts) (limit : ℕ) (b : Answer) → IsAnswer w others limit b → (labels : List LabelParts)
+    → AreAmong labels others → AreAmong labels (labels_told b)
+all_asked w others limit b q labels among l h = (q.answers.reached l).1 (l, among l h, (zero, refl))

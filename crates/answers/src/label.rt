@@ -12,7 +12,7 @@ use workspace::Label;
 
 /// The analysis of the labels of a workspace, one at a time. It reads the targets alone, so workers
 /// share it.
-pub(crate) struct LabelAnalysis<'a> {
+pub struct LabelAnalysis<'a> {
     targets: &'a Targets,
     analysis: Analysis<'a>,
 }
@@ -43,7 +43,7 @@ impl<'a> LabelAnalysis<'a> {
     /// # Errors
     ///
     /// `AllocError` where memory was refused.
-    pub(crate) fn new(alloc: Global, targets: &'a Targets) -> Result<LabelAnalysis<'a>, AllocError>
+    pub fn new(alloc: Global, targets: &'a Targets) -> Result<LabelAnalysis<'a>, AllocError>
         ensures { IfOk result (λ a. a ≡ targets.now) }
     {
         let analysis = Analysis::new(alloc, targets.files())?;
@@ -55,7 +55,7 @@ impl<'a> LabelAnalysis<'a> {
     /// # Errors
     ///
     /// `AllocError` where memory was refused.
-    pub(crate) fn analyse_one(
+    pub fn analyse_one(
         &self,
         alloc: Global,
         label: &Label,

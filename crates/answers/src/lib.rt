@@ -3,8 +3,8 @@
 //!
 //! [`report_on`] reads and evaluates the files of a workspace ([`loader`], [`packages`]), finds the
 //! labels that are reached ([`graph`]), has workers analyse them ([`pool`]), each after its
-//! dependencies, and tells what they found ([`reporting`]). What the report says is defined in
-//! `specs/Answers` by no order of work: by the outcome of each label.
+//! dependencies ([`LabelAnalysis`]), and tells what they found ([`reporting`]). What the report
+//! says is defined in `specs/Answers` by no order of work: by the outcome of each label.
 #![tactic(auto)]
 
 mod found;
@@ -15,6 +15,7 @@ mod refused;
 mod report;
 mod team;
 
+pub use label::LabelAnalysis;
 pub use letting_go::Leftovers;
 pub use refused::NoReport;
 pub use report::{NODE_LIMIT, report_on, report_on_shelf};

@@ -24,6 +24,8 @@ pub trait NodeBrand {
     ghost node: { ℕ };
 }
 
+/// The type at which each step calls a function of any such type. The node of that call is picked
+/// in `proofs/` (`ghosts-..`), and what stands here isn't used.
 impl NodeBrand for Brand {
     ghost node = { 0 };
 }

@@ -1,7 +1,7 @@
 //! What parameters get of arguments.
 ghost use Rattle.std.specs.Prelude.{◌≡◌, ◌∷◌, [], Ok, Err, Some, None, MatchResult, MatchOption};
 ghost use Rattle.std.specs.Prelude.{option_copied};
-ghost use Rattle.operations.specs.Arguments.{given, wanted, optional, named_only};
+ghost use Rattle.operations.specs.Arguments.{given, wanted, wanted_by_name, optional, named_only};
 ghost use Rattle.operations.specs.Arguments.{all_known, given_for, positions};
 ghost use Rattle.operations.specs.BuiltIns.{argument};
 ghost use Rattle.calls.specs.Parameters.{taken, got_at, IsNotOne};
@@ -24,6 +24,28 @@ pub struct Parameter<'a> {
 }
 
 impl<'a> Parameter<'a> {
+    /// One that has to be given.
+    pub fn wanted(name: &'a str) -> Parameter<'a>
+        ensures { taken result ≡ wanted name.now }
+    {
+        Parameter {
+            name,
+            by_name: false,
+            may_miss: false,
+        }
+    }
+
+    /// One that has to be given, by name alone.
+    pub fn wanted_by_name(name: &'a str) -> Parameter<'a>
+        ensures { taken result ≡ wanted_by_name name.now }
+    {
+        Parameter {
+            name,
+            by_name: true,
+            may_miss: false,
+        }
+    }
+
     /// One that may be missing.
     pub fn optional(name: &'a str) -> Parameter<'a>
         ensures { taken result ≡ optional name.now }

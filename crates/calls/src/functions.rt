@@ -20,6 +20,11 @@ use std::alloc::Global;
 use values::{Broken, BuiltIn, Provider, Value};
 
 /// The call of a built-in function; None for `provider` and `rule`, which are those of one place.
+///
+/// # Errors
+///
+/// `arity` where the arguments don't fit, and then what the function refuses; `NoMemory` where
+/// memory was refused.
 pub fn call_built_in(
     alloc: Global,
     state: &mut State,

@@ -48,6 +48,10 @@ module _ (one other : Rose Own → List Element) where
   pub telling_same : (os : List Owned) → Each Agree os → (a : Owned) → Agree a → telling one os a ≡ telling other os a
   telling_same os h a g = ap (λ es. telling_of (map (λ p. p.label) es) a.label) (equals_same a g os h)
 
+  pub tellings_same : (os : List Owned) → Each Agree os → (xs : List Owned) → Each Agree xs → map (telling one os) xs ≡ map (telling other os) xs
+  tellings_same os h [] g = refl
+  tellings_same os h (x ∷ xs) g = λ i. telling_same os h x g.0 i ∷ tellings_same os h xs g.1 i
+
   -- ---- conflicts
 
   clash_same : (a b : Owned) → Agree a → Agree b → clash one a b ≡ clash other a b

@@ -50,6 +50,8 @@ pub fn tell(alloc: Global, owned: &[Owned<'_>]) -> Result<Told, AllocError>
     ensures conflicts { IfOk result (λ t. t.conflicts.items ≡ conflicts_of walked owned.now) }
     ensures tellings { IfOk result (λ t. t.tellings.items
         ≡ map (telling walked owned.now) owned.now) }
+    ensures plain_tellings { IfOk result (λ t. AreCoherent owned.now → t.tellings.items
+        ≡ map (telling flat owned.now) owned.now) }
 {
     let commons = commons(alloc, owned)?;
     let leaders = leaders_among(alloc, owned, &commons)?;

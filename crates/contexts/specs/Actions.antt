@@ -21,7 +21,8 @@ use Rattle.values.specs.declared.value.Value.TheVariants as value
 use Rattle.actions.specs.declared.action.Action.{Action}
 use Rattle.actions.specs.declared.action.Inputs.{Inputs}
 use Rattle.actions.specs.declared.action.Inputs.TheVariants as inputs
-use Rattle.operations.specs.Arguments.{Given, Parameter, Bound, wanted, named_only, bound}
+use Rattle.operations.specs.Arguments.{Given, Parameter, Bound, wanted, wanted_by_name, named_only}
+use Rattle.operations.specs.Arguments.{bound}
 use Rattle.operations.specs.BuiltIns.{argument}
 use Rattle.operations.specs.Depsets.{gathered, put_last, all_in}
 use Rattle.operations.specs.Instances.{only_files}
@@ -132,14 +133,10 @@ write h g w = then_give (bound write_parameters g) (write_with h w)
 -- ---- ctx.actions.run(*, outputs, executable, inputs = [], arguments = [], mnemonic = "Action"),
 -- and run_shell with a command
 
--- a parameter that is given by name alone, and has to be
-abbrev pub needed : List ℕ → Parameter
-needed x = record { name = x; by_name = true; may_miss = false }
-
 -- the parameters of both methods, which differ in one word: `executable` or `command`
 abbrev pub run_parameters : List ℕ → List Parameter
 run_parameters word =
-    needed (codes "outputs") ∷ needed word ∷ named_only (codes "inputs")
+    wanted_by_name (codes "outputs") ∷ wanted_by_name word ∷ named_only (codes "inputs")
     ∷ named_only (codes "arguments") ∷ named_only (codes "mnemonic") ∷ []
 
 -- no output is `arity`, before any `type`

@@ -19,6 +19,8 @@ pub trait FileLists {
     ghost list_at: { ℕ → Result Value Kind };
 }
 
+/// The type at which the call of an implementation goes to a function of any such type. The lists
+/// of that call are picked in `proofs/` (`ghosts-run`), and what stands here isn't used.
 impl FileLists for Brand {
     ghost use Rattle.std.specs.Prelude.{Err};
     ghost use Rattle.ticks.specs.declared.ticks.Kind.TheVariants.{Name};

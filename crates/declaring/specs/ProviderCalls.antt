@@ -15,7 +15,7 @@ use Rattle.ticks.specs.declared.ticks.Kind.{Kind}
 use Rattle.ticks.specs.declared.ticks.Kind.TheVariants.{Wrong, Arity}
 use Rattle.values.specs.declared.value.Value.{Value}
 use Rattle.values.specs.declared.value.Value.TheVariants as value
-use Rattle.operations.specs.Arguments.{Given, Parameter, Bound, optional, bound}
+use Rattle.operations.specs.Arguments.{Given, Parameter, Bound, optional, wanted_by_name, bound}
 use Rattle.operations.specs.Reading.{string_in}
 use Rattle.operations.specs.declared.state.State.{State}
 use Rattle.targets.specs.RuleCalls.{each_of}
@@ -24,8 +24,7 @@ use Rattle.declaring.specs.declared.table.Declarations.{Declarations}
 
 -- provider(doc = "", *, fields)
 abbrev pub provider_parameters : List Parameter
-provider_parameters =
-    optional (codes "doc") ∷ record { name = codes "fields"; by_name = true; may_miss = false } ∷ []
+provider_parameters = optional (codes "doc") ∷ wanted_by_name (codes "fields") ∷ []
 
 -- whether no name of a field stands twice
 abbrev pub are_distinct : List (List ℕ) → Bool

@@ -56,11 +56,7 @@ fn provider_parameters() -> [Parameter<'static>; 2]
 {
     [
         Parameter::optional("doc"),
-        Parameter {
-            name: "fields",
-            by_name: true,
-            may_miss: false,
-        },
+        Parameter::wanted_by_name("fields"),
     ]
 }
 

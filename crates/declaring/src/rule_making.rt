@@ -56,11 +56,7 @@ fn rule_parameters() -> [Parameter<'static>; 3]
     ensures { map taken result ≡ rule_parameters }
 {
     [
-        Parameter {
-            name: "implementation",
-            by_name: false,
-            may_miss: false,
-        },
+        Parameter::wanted("implementation"),
         Parameter::optional("attrs"),
         Parameter::named_only("doc"),
     ]

@@ -1,24 +1,11 @@
--- The methods of `attr`, which every file finds bound (Bazel documentation, "attr";
--- docs/PROFILE.md, "Calls for attributes"). Which of its calls are allowed is said of each place.
-use Rattle.std.specs.Prelude.{ℕ, Bool, List, Option, Some, None, is_some, codes, bytes_eq}
-use Rattle.std.specs.Prelude.{if◌then◌else◌}
+-- What has methods for a file: `attr` (Bazel documentation, "attr"; docs/PROFILE.md, "Calls for
+-- attributes"). Which of its calls are allowed is said of each place.
+use Rattle.std.specs.Prelude.{ℕ, Bool, List, Option, None, is_some}
 use Rattle.leaves.specs.declared.leaf.AttributeKind.{AttributeKind}
-use Rattle.leaves.specs.declared.leaf.AttributeKind.TheVariants as kind
 use Rattle.leaves.specs.declared.leaf.Leaf.{Leaf}
 use Rattle.leaves.specs.declared.leaf.Leaf.TheVariants as plain
 use Rattle.leaves.specs.declared.leaf.Object.TheVariants as object
-
--- the kind of attribute that a method of `attr` declares
-abbrev pub kind_named : List ℕ → Option AttributeKind
-kind_named x =
-    if bytes_eq x (codes "string") then Some kind.String else
-    if bytes_eq x (codes "int") then Some kind.Int else
-    if bytes_eq x (codes "bool") then Some kind.Bool else
-    if bytes_eq x (codes "string_list") then Some kind.StringList else
-    if bytes_eq x (codes "string_dict") then Some kind.StringDict else
-    if bytes_eq x (codes "label") then Some kind.Label else
-    if bytes_eq x (codes "label_list") then Some kind.LabelList else
-    None
+use Rattle.language.specs.Attr.{kind_named}
 
 -- files see `attr` alone of the objects that have methods: `ctx` is an implementation's
 abbrev pub declared_kind : Leaf → List ℕ → Option AttributeKind

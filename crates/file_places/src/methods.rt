@@ -1,8 +1,9 @@
 //! The methods of `attr`.
 ghost use Rattle.std.specs.Prelude.{◌≡◌};
-ghost use Rattle.file_places.specs.Methods.{kind_named, declared_kind, has_method};
+ghost use Rattle.file_places.specs.Methods.{declared_kind, has_method};
 
-use field_names::{FieldName, KnownName};
+use field_names::FieldName;
+use language::kind_named;
 use values::{AttributeKind, Leaf, Object};
 
 /// Whether an object has a method of this name.
@@ -19,28 +20,5 @@ pub(crate) fn declared_kind(owner: &Leaf, name: &FieldName) -> Option<AttributeK
     match owner {
         Leaf::Object(Object::Attr) => kind_named(name),
         _ => None,
-    }
-}
-
-/// The kind of attribute that a method of `attr` declares.
-fn kind_named(name: &FieldName) -> Option<AttributeKind>
-    ensures { result ≡ kind_named name.now }
-{
-    if name.is(KnownName::String) {
-        Some(AttributeKind::String)
-    } else if name.is(KnownName::Int) {
-        Some(AttributeKind::Int)
-    } else if name.is(KnownName::Bool) {
-        Some(AttributeKind::Bool)
-    } else if name.is(KnownName::StringList) {
-        Some(AttributeKind::StringList)
-    } else if name.is(KnownName::StringDict) {
-        Some(AttributeKind::StringDict)
-    } else if name.is(KnownName::Label) {
-        Some(AttributeKind::Label)
-    } else if name.is(KnownName::LabelList) {
-        Some(AttributeKind::LabelList)
-    } else {
-        None
     }
 }

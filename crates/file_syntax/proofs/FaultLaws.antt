@@ -17,6 +17,7 @@ use Rattle.lexer.proofs.ReadingLaws.{reading_is, reading_as}
 use Rattle.grammar.proofs.FilesRead.{file_sound, file_complete}
 use Rattle.grammar.proofs.StatementFaults.{first_fault, fault_refused}
 use Rattle.grammar.proofs.ColonLaws.{last_shut}
+use Rattle.file_syntax.proofs.LineFaults.{line_fault_is, line_fault_as}
 
 -- the pass that finds a fault
 scope_found : (tree : Block) (r : Option ℕ) (f : SyntaxFault) → with_scopes tree r ≡ Err f → (r ≡ Some f.line) × (f.kind ≡ pass.Scope)
@@ -39,14 +40,14 @@ pub fault_is : (text : List ℕ) (kind : FileKind) (f : SyntaxFault) → syntax 
 fault_is text kind f e = by_lines (reading text) refl e
   where
     by_lines : (r : Result (List (List Placed)) SyntaxFault) → reading text ≡ r → with_lines kind r ≡ Err f → IsFault text kind f
-    by_lines (Err g) h e = let same : g ≡ f = cc in below_lines (h ∙ ap Err same)
+    by_lines (Err g) h e = let same : g ≡ f = cc in below_lines (line_fault_is text f (h ∙ ap Err same))
     by_lines (Ok lines) h e = behind_lines text kind lines f h (file_reads (top_of kind) (map laid lines)) refl e
 
 same_fault : (k : FaultKind) (f : SyntaxFault) → f.kind ≡ k → Path (Result Block SyntaxFault) (fault k f.line) (Err f)
 same_fault k f e = ap (λ (k : FaultKind). Err (record { line = f.line; kind = k })) (sym e)
 
 pub fault_as : (text : List ℕ) (kind : FileKind) (f : SyntaxFault) → IsFault text kind f → syntax text kind ≡ Err f
-fault_as text kind f (below_lines e) = ap (with_lines kind) e
+fault_as text kind f (below_lines e) = ap (with_lines kind) (line_fault_as text f e)
 fault_as text kind f (in_statements lines r k h) =
     ap (with_lines kind) (reading_as text lines r)
     ∙ ap with_statements (fault_refused (top_of kind) (map laid lines) f.line (last_shut lines _ _ r.laid_out.nested) h)

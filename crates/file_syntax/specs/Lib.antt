@@ -3,3 +3,7 @@ pub mod Files
 pub mod FirstFault
 pub mod ProgramDepth
 pub mod IsProgram
+pub mod CharacterFault
+pub mod TokenFault
+pub mod IndentFault
+pub mod LineFault

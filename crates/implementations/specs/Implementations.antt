@@ -1,9 +1,8 @@
 -- What an implementation has while it runs: the fields and items of the targets that it depends on,
 -- `ctx` and its parts, and the methods of `ctx.actions` (docs/PROFILE.md, "Rules of all calls" and
 -- "Fields").
-use Rattle.std.specs.Prelude.{ℕ, Bool, false, List, [], ◌∷◌, Option, Some, None, is_some}
-use Rattle.std.specs.Prelude.{Err, codes, bytes_eq, if◌then◌else◌}
-use Rattle.std.specs.List.{list_any}
+use Rattle.std.specs.Prelude.{ℕ, Bool, false, List, [], Option, Some, None, is_some}
+use Rattle.std.specs.Prelude.{Err, if◌then◌else◌}
 use Rattle.depsets.specs.Listed.{walked}
 use Rattle.leaves.specs.declared.leaf.BuiltIn.{BuiltIn}
 use Rattle.leaves.specs.declared.leaf.BuiltIn.TheVariants as built_in
@@ -15,6 +14,7 @@ use Rattle.ticks.specs.declared.ticks.Kind.{Kind}
 use Rattle.ticks.specs.declared.ticks.Kind.TheVariants as fault
 use Rattle.values.specs.declared.value.Value.{Value}
 use Rattle.operations.specs.Arguments.{Given}
+use Rattle.language.specs.Attr.{kind_named}
 use Rattle.language.specs.Place.{Does, Place, with_state}
 use Rattle.workspace.specs.Labels.{LabelParts}
 use Rattle.targets.specs.Checks.{Dependency}
@@ -39,12 +39,9 @@ refused (plain.BuiltIn b) = built_in_refused b
 refused (plain.Rule r) = fault.Place
 refused _ = fault.Wrong
 
--- whether `attr` has a method of this name (Bazel documentation, "attr")
+-- whether `attr` has a method of this name
 abbrev pub is_attr_method : List ℕ → Bool
-is_attr_method x =
-    list_any (bytes_eq x)
-    (codes "string" ∷ codes "int" ∷ codes "bool" ∷ codes "string_list"
-    ∷ codes "string_dict" ∷ codes "label" ∷ codes "label_list" ∷ [])
+is_attr_method x = is_some (kind_named x)
 
 -- whether an object has a method of this name: `attr` and `ctx.actions` have some
 abbrev pub object_has_method : Object → List ℕ → Bool

@@ -1,11 +1,11 @@
 //! Which calls an implementation may make, and which methods its objects have.
-ghost use Rattle.std.specs.Prelude.{◌≡◌, is_some};
+ghost use Rattle.std.specs.Prelude.{◌≡◌};
 ghost use Rattle.contexts.specs.Actions.{method_named};
-ghost use Rattle.implementations.specs.Implementations.{refused, is_attr_method};
-ghost use Rattle.implementations.specs.Implementations.{attr_refused, has_method};
+ghost use Rattle.implementations.specs.Implementations.{refused, attr_refused, has_method};
 
 use contexts::ActionMethod;
 use field_names::{FieldName, KnownName};
+use language::kind_named;
 use values::{BuiltIn, Kind, Leaf, Object};
 
 /// The fault of a call that an implementation may not make: `place` for `provider`, `rule` and
@@ -19,24 +19,11 @@ pub(crate) fn refused(callee: &Leaf) -> Kind
     }
 }
 
-/// Whether `attr` has a method of this name.
-fn is_attr_method(name: &FieldName) -> bool
-    ensures { result ≡ is_attr_method name.now }
-{
-    name.is(KnownName::String)
-        || name.is(KnownName::Int)
-        || name.is(KnownName::Bool)
-        || name.is(KnownName::StringList)
-        || name.is(KnownName::StringDict)
-        || name.is(KnownName::Label)
-        || name.is(KnownName::LabelList)
-}
-
 /// The fault of a call of a method of `attr`: these are a module's.
 pub(crate) fn attr_refused(name: &FieldName) -> Kind
     ensures { result ≡ attr_refused name.now }
 {
-    if is_attr_method(name) {
+    if kind_named(name).is_some() {
         Kind::Place
     } else {
         Kind::Name
@@ -65,7 +52,7 @@ pub(crate) fn has_method(owner: &Leaf, name: &FieldName) -> bool
     ensures { result ≡ has_method owner.now name.now }
 {
     match owner {
-        Leaf::Object(Object::Attr) => is_attr_method(name),
+        Leaf::Object(Object::Attr) => kind_named(name).is_some(),
         Leaf::Object(Object::ContextActions) => action_named(name).is_some(),
         _ => false,
     }

@@ -105,18 +105,7 @@ pub(crate) fn write(
 fn write_parameters() -> [Parameter<'static>; 2]
     ensures { map taken result ≡ write_parameters }
 {
-    [
-        Parameter {
-            name: "output",
-            by_name: false,
-            may_miss: false,
-        },
-        Parameter {
-            name: "content",
-            by_name: false,
-            may_miss: false,
-        },
-    ]
+    [Parameter::wanted("output"), Parameter::wanted("content")]
 }
 
 /// The action that writes a content to an output.

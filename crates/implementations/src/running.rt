@@ -8,7 +8,6 @@ ghost use Rattle.operations.specs.Reading.{sequence_in};
 ghost use Rattle.operations.specs.States.{Gives};
 ghost use Rattle.calls.specs.Parameters.{taken, got_at};
 ghost use Rattle.contexts.specs.Actions.{run_of, run_with, run_parameters, some_outputs, action_of};
-ghost use Rattle.contexts.specs.Actions.{needed};
 ghost use Rattle.implementations.specs.Programs.{parameter, program_in, given_parts};
 
 use crate::inputs::{inputs_in, mnemonic_in, words_in};
@@ -102,23 +101,12 @@ fn run_parameters(word: &str) -> [Parameter<'_>; 5]
     ensures { map taken result ≡ run_parameters word.now }
 {
     [
-        needed("outputs"),
-        needed(word),
+        Parameter::wanted_by_name("outputs"),
+        Parameter::wanted_by_name(word),
         Parameter::named_only("inputs"),
         Parameter::named_only("arguments"),
         Parameter::named_only("mnemonic"),
     ]
-}
-
-/// A parameter that is given by name alone, and has to be.
-fn needed(name: &str) -> Parameter<'_>
-    ensures { taken result ≡ needed name.now }
-{
-    Parameter {
-        name,
-        by_name: true,
-        may_miss: false,
-    }
 }
 
 /// The outputs of an argument: the items of a sequence, or `type`; `arity`, where there are none.

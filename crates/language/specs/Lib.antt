@@ -1,3 +1,4 @@
+pub mod Attr
 pub mod Place
 pub mod Nothing
 pub mod Language

@@ -80,10 +80,8 @@ fn compared(
     ensures { Does (as_truth (compare operator (item_value left.entry) (item_value right.entry)))
         state.now result state.now }
 {
-    match state::compare(state, operator, left, right) {
-        Ok(holds) => Ok(Value::Key(Key::Truth(holds))),
-        Err(kind) => Err(Broken::Kind(kind)),
-    }
+    let holds = state::compare(state, operator, left, right)?;
+    Ok(Value::Key(Key::Truth(holds)))
 }
 
 /// `left in right`.
@@ -117,8 +115,6 @@ fn calculated(
     ensures { Does (calculate operator (item_value left.entry) (item_value right.entry)) state.now
         result state.now }
 {
-    match state::calculate(state, operator, left, right) {
-        Ok(value) => Ok(value),
-        Err(kind) => Err(Broken::Kind(kind)),
-    }
+    let value = state::calculate(state, operator, left, right)?;
+    Ok(value)
 }

@@ -1,5 +1,5 @@
 -- A module comes from those that are lower.
-use Rattle.std.proofs.Common.{◌≡◌, ℕ, zero, suc, ◌<◌, Bool, true, false, ◌&&◌, Option, Some, None, Result, refl, ap, arith}
+use Rattle.std.proofs.Common.{◌≡◌, ℕ, zero, suc, ◌<◌, Bool, true, false, ◌&&◌, Option, Some, None, Result, refl, sym, ap, ◌∙◌, arith}
 use Rattle.std.specs.Prelude.{nat_lt}
 use Rattle.std.proofs.lemmas.Bool.Decides.{nat_tests}
 use Rattle.edges.proofs.Tests.{both_and}
@@ -32,3 +32,15 @@ module _ {T M S K : Type 0} (w : Sources T M S K) where
   pub by_loads : (p : Path) → module_of w p ≡ loaded w p (file w p) (lower w (height_of w p) (module_of w))
   by_loads p =
       ap (loaded w p (file w p)) (lower_same (height_of w p) (module_within w (height_of w p)) (module_of w) (λ q l. steady (height_of w p) (suc (height_of w q)) q l (omega arith)))
+
+  -- ---- and nothing else does
+
+  only_within : (f : Path → R) → ((p : Path) → f p ≡ loaded w p (file w p) (lower w (height_of w p) f)) → (n : ℕ) (p : Path) → height_of w p < n → f p ≡ module_of w p
+  only_within f is zero p low = absurd (omega (arith, low))
+  only_within f is (suc n) p low =
+      is p
+      ∙ ap (loaded w p (file w p)) (lower_same (height_of w p) f (module_of w) (λ q l. only_within f is n q (omega (arith, l, low))))
+      ∙ sym (by_loads p)
+
+  pub only_by_loads : (f : Path → R) → ((p : Path) → f p ≡ loaded w p (file w p) (lower w (height_of w p) f)) → (p : Path) → f p ≡ module_of w p
+  only_by_loads f is p = only_within f is (suc (height_of w p)) p (omega arith)

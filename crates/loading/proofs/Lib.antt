@@ -3,4 +3,5 @@ pub mod Trails
 pub mod Heights
 pub mod ByLoads
 pub mod Sources
+pub mod CycleLines
 pub mod Kept

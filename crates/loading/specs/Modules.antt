@@ -127,17 +127,21 @@ module _ {T M S K : Type 0} (w : Sources T M S K) where
   abbrev pub is_lower : ℕ → Path → Bool
   is_lower h q = is_module q && nat_lt (height_of q) h
 
-  -- the modules that are lower than a height
+  -- The modules that stand lower than a height, with what each comes to. All modules that a file on
+  -- no cycle loads stand lower than the file (`LoadsAreLower`, in Laws): it is handed these, and
+  -- all others that stand lower, among them those whose functions these may call.
   abbrev pub lower : ℕ → (Path → Result M Fault) → Path → Option (Result M Fault)
   lower h f q = elim (is_lower h q) [ true ↦ Some (f q) | false ↦ None ]
 
-  -- What the module at a path comes to, where loads are followed at most n files deep. `module_of`
-  -- asks for so many that the bottom is never come to.
+  -- What the module at a path comes to, from what the modules below it come to. A chain of loads is
+  -- followed through at most n modules, so that the definition ends; `module_of` asks for so many
+  -- that no chain is cut (`ComeFromLower`, in Laws).
   abbrev pub module_within : ℕ → Path → Result M Fault
   module_within zero p = Err (record { kind = LoadCycle; path = p; line = 0 })
   module_within (suc n) p = loaded p (file p) (lower (height_of p) (module_within n))
 
-  -- What the module at a path comes to, once all modules that are lower have.
+  -- What the module at a path comes to. It is taken after all modules that it loads: a file on no
+  -- cycle stands above them (`LoadsAreLower`, in Laws), and one on a cycle fails whatever they are.
   abbrev pub module_of : Path → Result M Fault
   module_of p = module_within (suc (height_of p)) p
 

@@ -20,8 +20,8 @@ use values::{Kind, Value};
 /// What is run.
 #[derive(Drop)]
 pub enum Start<'a> {
-    /// A value, or a method of one, is called at a line of a file, with these arguments.
-    Call(usize, usize, Callee<'a>, Arguments<'a>),
+    /// A value, or a method of one, is called at a place of a file, with these arguments.
+    Call(Place, Callee<'a>, Arguments<'a>),
     /// A function is called at the line of its `def`, whatever value it has: so an implementation
     /// is called.
     Function(FunctionId, Arguments<'a>),
@@ -143,15 +143,8 @@ fn begin<'a, W: Operate<'a>>(
         state.old) result state.new }
 {
     match start {
-        Start::Call(file, line, callee, arguments) => {
-            begin_call(
-                world,
-                linked,
-                Place { file, line },
-                &callee,
-                arguments,
-                state,
-            )
+        Start::Call(place, callee, arguments) => {
+            begin_call(world, linked, place, &callee, arguments, state)
         }
         Start::Function(function, arguments) => {
             begin_function(world, linked, function, arguments, state)

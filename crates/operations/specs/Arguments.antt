@@ -69,6 +69,10 @@ bound ps g =
 abbrev pub wanted : List ℕ → Parameter
 wanted x = record { name = x; by_name = false; may_miss = false }
 
+-- one that is given by name alone, and has to be
+abbrev pub wanted_by_name : List ℕ → Parameter
+wanted_by_name x = record { name = x; by_name = true; may_miss = false }
+
 -- one that may be missing
 abbrev pub optional : List ℕ → Parameter
 optional x = record { name = x; by_name = false; may_miss = true }

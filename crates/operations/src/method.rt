@@ -1,4 +1,4 @@
-//! The methods of values, by number.
+//! The methods of values.
 
 /// A method of a list, a dict, a string or a depset.
 #[derive(Clone, Copy, PartialEq, Eq, Debug)]

@@ -35,11 +35,14 @@ impl Reason {
             Reason::IllegalPath => {
                 "isn't a legal path: name it with A-Z a-z 0-9 _ . - and /, in at most 200 bytes"
             }
-            Reason::BazelFile => "isn't served: rename a BUILD.bazel to BUILD",
+            Reason::BazelFile => {
+                "isn't served: rename a BUILD.bazel to BUILD, and do without a MODULE.bazel"
+            }
             Reason::NotUtf8 => "isn't UTF-8: convert it",
             Reason::TooLong => "has more than 1048576 bytes: split it",
             Reason::Special => "is neither a file, a folder nor a link: move it away",
-            Reason::NamesNotUtf8 => "has names in it that aren't UTF-8: rename those files",
+            Reason::NamesNotUtf8 =>
+                "has names in it that aren't UTF-8, which are left out: rename them",
             Reason::Gone => "went away while it was read: run again",
             Reason::Denied => "may not be read: change its permissions",
             Reason::NameTooLong => "has too long a path for the system: move it up",

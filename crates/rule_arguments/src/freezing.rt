@@ -12,8 +12,8 @@ use targets::NamedAttribute;
 use values::{Broken, Ticks};
 use visits::freeze;
 
-/// Freezes what is given for attributes, in their order. Nothing is kept of it: the target has what
-/// was read of it, so that it costs ticks alone.
+/// Freezes what is given for attributes, in their order, for the ticks and the faults of it. The
+/// trees are let go: the target has what was read of the arguments.
 ///
 /// # Errors
 ///

@@ -19,9 +19,10 @@ use Rattle.answers.specs.Answers.{IsAnswer}
 use Rattle.answers.specs.Laws.{AskForTheSame}
 use Rattle.answers.specs.Reports.{IsTooMany, node_limit}
 use Rattle.answers.proofs.Exists.{labels_have_an_answer, too_many_are_counted}
-use Rattle.answers.proofs.OneAnswer.{workspaces_have_one_answer}
+use Rattle.answers.proofs.More.{more_hides_nothing}
+use Rattle.answers.proofs.OneAnswer.{all_asked, workspaces_have_one_answer}
 use Rattle.serve.specs.Requests.{AsksFor}
-use Rattle.serve.specs.Laws.{AnswersAreNotTooMany, AnswersAreOne, InputsHaveOneAnswer, RequestsHaveAnAnswer, RequestsHaveOneAnswer}
+use Rattle.serve.specs.Laws.{AnswersAreNotTooMany, AnswersAreOne, InputsHaveOneAnswer, RequestsForMoreHideNothing, RequestsHaveAnAnswer, RequestsHaveOneAnswer}
 
 one_workspace : (input : List ℕ) (w v : List Pair) → Spells input w → Spells input v → w ≡ v
 one_workspace input w v p q =
@@ -32,6 +33,12 @@ pub requests_have_one_answer : RequestsHaveOneAnswer
 requests_have_one_answer words others input other a b this that files labels steps =
     workspaces_have_one_answer this.workspace that.workspace this.asked.labels that.asked.labels this.asked.steps a b files labels this.answers
     (subst (λ n. IsAnswer that.workspace that.asked.labels n b) (sym steps) that.answers)
+
+pub requests_for_more_hide_nothing : RequestsForMoreHideNothing
+requests_for_more_hide_nothing words others input other a b this that files more steps =
+    let there : IsAnswer that.workspace that.asked.labels this.asked.steps b = subst (λ n. IsAnswer that.workspace that.asked.labels n b) (sym steps) that.answers in
+    more_hides_nothing this.workspace that.workspace this.asked.labels that.asked.labels this.asked.steps a b files this.answers there
+    (all_asked that.workspace that.asked.labels this.asked.steps b there this.asked.labels more)
 
 -- ---- of one input
 

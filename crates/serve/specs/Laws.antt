@@ -5,11 +5,11 @@ use Rattle.request.specs.Asked.{Asked}
 use Rattle.request.specs.Input.{Spells}
 use Rattle.workspace.specs.Workspaces.{Pair}
 use Rattle.answers.specs.Answers.{Answer}
-use Rattle.answers.specs.Laws.{AskForTheSame}
+use Rattle.answers.specs.Laws.{AreAmong, AskForTheSame, HidesNothing}
 use Rattle.serve.specs.Requests.{AsksFor, AsksTooMany, IsAnswered}
 
--- Words that ask for something and an input that spells a workspace have an answer that a report may
--- tell, or too many labels are reached.
+-- Words that ask for something and an input that spells a workspace have an answer that a report
+-- may tell, or too many labels are reached.
 abbrev pub RequestsHaveAnAnswer : Type 0
 RequestsHaveAnAnswer =
     (words : List (List ℕ)) (input : List ℕ) (asked : Asked) (workspace : List Pair)
@@ -44,3 +44,13 @@ abbrev pub AnswersAreOne : Type 0
 AnswersAreOne =
     (words : List (List ℕ)) (input : List ℕ) (a b : Answer) → IsAnswered words input a
     → IsAnswered words input b → a ≡ b
+
+-- Who asks for the same labels and for more, of the same files under the same limit, is hidden
+-- nothing that is wrong, where both requests have an answer.
+abbrev pub RequestsForMoreHideNothing : Type 0
+RequestsForMoreHideNothing =
+    (words others : List (List ℕ)) (input other : List ℕ) (a b : Answer)
+    (this : IsAnswered words input a) (that : IsAnswered others other b)
+    → IsPermutation this.workspace that.workspace
+    → AreAmong this.asked.labels that.asked.labels → this.asked.steps ≡ that.asked.steps
+    → HidesNothing a b

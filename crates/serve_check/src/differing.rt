@@ -1,15 +1,11 @@
 //! What of an answer isn't as wanted.
 
 use crate::cases::Case;
-use fakes::tapes::{Failing, Page, Tape};
-use pool::NoGate;
-use serve::{Leftovers, closing, serve};
+use crate::serving::answered;
+use serve::closing;
 use std::alloc::{AllocError, Global};
 use std::sync::Wait;
 use std::thread::Threads;
-
-/// How many bytes a call reads or writes at most.
-const PIECE: usize = 65_536;
 
 /// The numbers of workers that a request is served by besides its own, as words ask for them.
 const NUMBERS: [&str; 3] = ["--workers=1", "--workers=2", "--workers=64"];
@@ -19,8 +15,8 @@ const NUMBERS: [&str; 3] = ["--workers=1", "--workers=2", "--workers=64"];
 pub struct Difference {
     /// What differs: the report, the status or the line.
     pub part: &'static str,
-    /// The word that the number of workers was asked for by; empty for the words as they stand.
-    pub workers: &'static str,
+    /// The word that the number of workers was asked for by; none for the words as they stand.
+    pub workers: Option<&'static str>,
 }
 
 /// What of the answer to words differs from what a case wants.
@@ -30,19 +26,9 @@ fn differing<R: Threads + Wait + Sync>(
     case: &Case<'_>,
     words: &[&str],
 ) -> Option<&'static str> {
-    let mut tape = Tape::new(case.input.as_slice(), PIECE, None);
-    let mut page = Page::new(alloc, PIECE, None, Failing::Interrupted);
-    let served = serve(
-        rt,
-        alloc,
-        &mut tape,
-        &mut page,
-        words,
-        &NoGate,
-        Leftovers::Free,
-    );
-    let (status, line) = closing(&served);
-    if page.bytes.as_slice() != case.report.as_bytes() {
+    let served = answered(rt, alloc, words, case.input.as_slice());
+    let (status, line) = closing(&served.ending);
+    if served.report.as_slice() != case.report.as_bytes() {
         Some("report")
     } else if status as u64 != case.status {
         Some("status")
@@ -88,7 +74,10 @@ pub fn first_difference<R: Threads + Wait + Sync>(
     case: &Case<'_>,
 ) -> Result<Option<Difference>, AllocError> {
     if let Some(part) = differing(rt, alloc, case, case.words.as_slice()) {
-        return Ok(Some(Difference { part, workers: "" }));
+        return Ok(Some(Difference {
+            part,
+            workers: None,
+        }));
     }
     if case.line == "bzlan: words refused" {
         return Ok(None);
@@ -96,7 +85,10 @@ pub fn first_difference<R: Threads + Wait + Sync>(
     for workers in NUMBERS {
         let words = with_workers(alloc, case.words.as_slice(), workers)?;
         if let Some(part) = differing(rt, alloc, case, words.as_slice()) {
-            return Ok(Some(Difference { part, workers }));
+            return Ok(Some(Difference {
+                part,
+                workers: Some(workers),
+            }));
         }
     }
     Ok(None)

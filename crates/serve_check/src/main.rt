@@ -26,6 +26,7 @@ mod cases;
 mod differing;
 mod made;
 mod requests;
+mod serving;
 mod stored;
 mod timing;
 mod workloads;

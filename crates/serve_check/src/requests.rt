@@ -1,18 +1,15 @@
 //! Requests over memory.
 
-use fakes::tapes::{Failing, Page, Tape};
+use crate::serving::{Served, answered};
 use made_workspaces::random_workspace;
 use pool::{LockShelf, NoGate};
 use reporting::Report;
 use request::read_workspace;
-use serve::{Leftovers, OneQueue, ServeStop, Team, Workers, report_on_shelf, serve};
+use serve::{Leftovers, OneQueue, Team, Workers, report_on_shelf};
 use std::alloc::{AllocError, Global};
 use std::sync::Wait;
 use std::thread::Threads;
 use workspace::Label;
-
-/// How many bytes a call reads or writes at most.
-const PIECE: usize = 65_536;
 
 /// The label that reaches every target of a made workspace.
 const ALL: &str = "//top:all";
@@ -22,15 +19,6 @@ const STEPS: u64 = 1_000_000_000;
 
 const STEPS_WORD: &str = "--steps=1000000000";
 
-/// What came of a request.
-#[derive(Drop)]
-pub struct Served {
-    /// How it ended.
-    pub ending: Result<bool, ServeStop>,
-    /// What was written.
-    pub report: Vec<u8>,
-}
-
 /// Asks for all targets of a workspace, to be analysed by so many workers as a word says.
 pub fn request<R: Threads + Wait + Sync>(
     rt: &R,
@@ -39,21 +27,7 @@ pub fn request<R: Threads + Wait + Sync>(
     workers: &str,
 ) -> Served {
     let words = ["bzlan", STEPS_WORD, workers, ALL];
-    let mut tape = Tape::new(input.as_bytes(), PIECE, None);
-    let mut page = Page::new(alloc, PIECE, None, Failing::Interrupted);
-    let ending = serve(
-        rt,
-        alloc,
-        &mut tape,
-        &mut page,
-        &words,
-        &NoGate,
-        Leftovers::Free,
-    );
-    Served {
-        ending,
-        report: page.bytes,
-    }
+    answered(rt, alloc, &words, input.as_bytes())
 }
 
 /// The report on all targets of a workspace, by 8 workers at one queue; `None` where there is none.

@@ -22,8 +22,11 @@ fn check<R: Threads + Wait + Sync, W: Write>(
     match first_difference(rt, alloc, &case)? {
         None => Ok(true),
         Some(difference) => {
-            let (part, workers) = (difference.part, difference.workers);
-            writeln!(out, "{}: {part} {workers}", case.name)?;
+            let part = difference.part;
+            match difference.workers {
+                None => writeln!(out, "{}: {part}", case.name)?,
+                Some(workers) => writeln!(out, "{}: {part} {workers}", case.name)?,
+            }
             Ok(false)
         }
     }

@@ -1,5 +1,6 @@
-//! The language's texts: bytes below 128, shared by all who name them, and what the language does
-//! with them.
+//! What the language does with texts: [`split`], [`join`] and [`search`], which evaluations call on
+//! texts of any bytes. And a type of the language's texts alone, [`AsciiText`]: bytes below 128,
+//! shared by all who name them.
 //!
 //! What each call gives is a definition over lists of bytes (`specs/`). Each looks at a byte a
 //! fixed number of times, no test of where a character begins is made, and nothing is built whose

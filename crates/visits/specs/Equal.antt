@@ -45,7 +45,7 @@ leaf_equal (plain.Target x) (plain.Target y) = Err Wrong
 leaf_equal (plain.Object x) (plain.Object y) = if same_object x y then Err Wrong else Ok false
 leaf_equal _ _ = Ok false
 
--- pair by pair until a pair differs
+-- pair by pair until a pair differs; what has no partner in the other list isn't looked at
 abbrev pub pairs_equal : {X : Type 0} → (X → X → Count → Ticking Bool) → List X → List X → Count
     → Ticking Bool
 pairs_equal eq [] ys c = Ok (true, c)
