@@ -46,10 +46,8 @@ pub(crate) fn inputs_in(
 fn file_inputs(alloc: Global, heap: &Heap, items: Group<'_>) -> Result<Inputs, Broken>
     ensures { Gives (files_from (all_in file_in heap.now (group_items items.entry))) result }
 {
-    match files(alloc, heap, items) {
-        Ok(files) => Ok(Inputs::Files(files)),
-        Err(broken) => Err(broken),
-    }
+    let files = files(alloc, heap, items)?;
+    Ok(Inputs::Files(files))
 }
 
 /// A depset that is empty or of Files, or `type`.
@@ -89,10 +87,8 @@ pub(crate) fn words_in(
     let Some(items) = sequence_of(&heap.see_item(arguments.item())) else {
         return Err(Broken::Kind(Kind::Wrong));
     };
-    match put_strings(heap, items, &mut words) {
-        Ok(()) => Ok(words),
-        Err(broken) => Err(broken),
-    }
+    put_strings(heap, items, &mut words)?;
+    Ok(words)
 }
 
 /// The mnemonic of an argument, which may be missing; or `type`.

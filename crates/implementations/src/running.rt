@@ -80,21 +80,10 @@ fn run_word(
         (λ e. FaultOr (run_with (program_in program) heap.now work.old
         (given_parts outputs.now word.now (given arguments.now))) e) }
 {
-    let outputs = match some_outputs(&heap.see_item(outputs.item())) {
-        Ok(outputs) => outputs,
-        Err(broken) => return Err(broken),
-    };
-    match action_for(
-        alloc,
-        mnemonics,
-        heap,
-        outputs,
-        program.word(&heap.see_item(word.item())),
-        arguments,
-    ) {
-        Ok(action) => registered(alloc, action, work),
-        Err(broken) => Err(broken),
-    }
+    let outputs = some_outputs(&heap.see_item(outputs.item()))?;
+    let word = program.word(&heap.see_item(word.item()));
+    let action = action_for(alloc, mnemonics, heap, outputs, word, arguments)?;
+    registered(alloc, action, work)
 }
 
 fn run_parameters(word: &str) -> [Parameter<'_>; 5]
@@ -171,29 +160,18 @@ fn action_of(
         (option_copied inputs.entry) (option_copied arguments.entry)
         (option_copied mnemonic.entry)) result }
 {
-    let outputs = match files(alloc, heap, outputs) {
-        Ok(outputs) => outputs,
-        Err(broken) => return Err(broken),
-    };
+    let outputs = files(alloc, heap, outputs)?;
     let Some(word) = word else {
         return Err(Broken::Kind(Kind::Wrong));
     };
-    let inputs = match inputs_in(alloc, heap, inputs) {
-        Ok(inputs) => inputs,
-        Err(broken) => return Err(broken),
-    };
-    let words = match words_in(alloc, heap, word, arguments) {
-        Ok(words) => words,
-        Err(broken) => return Err(broken),
-    };
-    match mnemonic_in(mnemonics, heap, mnemonic) {
-        Ok(mnemonic) => Ok(Action {
-            mnemonic,
-            outputs,
-            inputs,
-            words,
-            content: None,
-        }),
-        Err(broken) => Err(broken),
-    }
+    let inputs = inputs_in(alloc, heap, inputs)?;
+    let words = words_in(alloc, heap, word, arguments)?;
+    let mnemonic = mnemonic_in(mnemonics, heap, mnemonic)?;
+    Ok(Action {
+        mnemonic,
+        outputs,
+        inputs,
+        words,
+        content: None,
+    })
 }
