@@ -269,6 +269,7 @@ impl Leaf {
     /// # Errors
     ///
     /// `AllocError` where the count of its names is at its greatest.
+    #[inline(always)]
     pub fn share(&self) -> Result<Leaf, AllocError>
         ensures { IfOk result (λ l. l ≡ self.now) }
     {

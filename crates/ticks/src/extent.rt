@@ -47,18 +47,11 @@ impl Extent {
         ensures { (m n : Measure) → IsExtent self m → IsExtent others n
             → IsExtent result (beside m n) }
     {
-        let levels = self.levels.max(others.levels);
-        match self.values.checked_add(others.values) {
-            Some(values) => Extent {
-                values,
-                levels,
-                is_whole: self.is_whole && others.is_whole,
-            },
-            None => Extent {
-                values: 0,
-                levels,
-                is_whole: false,
-            },
+        let values = self.values.checked_add(others.values);
+        Extent {
+            values: values.unwrap_or(0),
+            levels: self.levels.max(others.levels),
+            is_whole: self.is_whole && others.is_whole && values.is_some(),
         }
     }
 
@@ -72,18 +65,11 @@ impl Extent {
         if u32::from(self.levels) >= VISITED_LEVELS {
             return None;
         }
-        let levels = self.levels + 1;
-        match self.values.checked_add(1) {
-            Some(values) => Some(Extent {
-                values,
-                levels,
-                is_whole: self.is_whole,
-            }),
-            None => Some(Extent {
-                values: 0,
-                levels,
-                is_whole: false,
-            }),
-        }
+        let values = self.values.checked_add(1);
+        Some(Extent {
+            values: values.unwrap_or(0),
+            levels: self.levels + 1,
+            is_whole: self.is_whole && values.is_some(),
+        })
     }
 }
