@@ -1,6 +1,5 @@
 -- A value that is put last, where one is read.
-use Rattle.std.proofs.Common.{◌≡◌, ◌∙◌, List, [], ◌∷◌, ◌++◌, Option, Some, None, Result, Ok, Err, ap, sym}
-use Rattle.std.specs.Prelude.{OnOk, is_err, false}
+use Rattle.std.proofs.Common.{◌≡◌, ◌∙◌, List, [], ◌∷◌, ◌++◌, Option, Some, None, Ok, Err, ap, sym}
 use Rattle.ticks.specs.Ticking.{FaultOr}
 use Rattle.ticks.specs.declared.ticks.Broken.{Broken}
 use Rattle.ticks.specs.declared.ticks.Broken.TheVariants as broken
@@ -17,7 +16,3 @@ put_err ys (Some y) (broken.Kind k) h = let e : Ok y ≡ Err k = h in cc
 put_err ys (Some y) broken.NoMemory h = tt
 put_err ys None (broken.Kind k) h = let e : Wrong ≡ k = cc in ap Err e
 put_err ys None broken.NoMemory h = tt
-
-pub on_ok : {A E : Type 0} {P : Type 0} (r : Result A E) → OnOk r P → is_err r ≡ false → P
-on_ok (Ok a) h e = h
-on_ok (Err x) h e = cc

@@ -54,10 +54,7 @@ fn declare_by_name(
     if !fits(rule.get(), arguments) {
         return Err(Broken::Kind(Kind::Arity));
     }
-    let target = match read_target(alloc, &state.heap, declared, rule, arguments) {
-        Ok(target) => target,
-        Err(broken) => return Err(broken),
-    };
+    let target = read_target(alloc, &state.heap, declared, rule, arguments)?;
     let attributes = rule.get().attributes.as_slice();
     match freeze_given(alloc, attributes, arguments, &state.heap, &mut state.ticks) {
         Ok(()) => Ok(target),
@@ -103,15 +100,10 @@ fn read_target(
 {
     let package = declared.package();
     let name = arguments.given_as("name");
-    let label = match label_from(alloc, heap, package, name) {
-        Ok(label) => label,
-        Err(broken) => return Err(broken),
-    };
+    let label = label_from(alloc, heap, package, name)?;
     let here = Here::new(declared);
-    match values_for(alloc, heap, &here, arguments, &rule.get().attributes) {
-        Ok(values) => new_target(alloc, declared, rule, arguments, label, values),
-        Err(broken) => Err(broken),
-    }
+    let values = values_for(alloc, heap, &here, arguments, &rule.get().attributes)?;
+    new_target(alloc, declared, rule, arguments, label, values)
 }
 
 /// The target of a label and of values, or `key`.

@@ -52,13 +52,7 @@ fn put_label(
     let Some(text) = text_of(value) else {
         return Err(Broken::Kind(Kind::Wrong));
     };
-    match package.label(alloc, text.as_str()) {
-        Ok(label) => {
-            if labels.push(label).is_err() {
-                return Err(Broken::NoMemory);
-            }
-            Ok(())
-        }
-        Err(broken) => Err(broken),
-    }
+    let label = package.label(alloc, text.as_str())?;
+    labels.push(label)?;
+    Ok(())
 }

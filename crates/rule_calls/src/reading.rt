@@ -98,15 +98,9 @@ fn put_value(
         (λ e. FaultOr (put_read values.old
         (value_for heap.now «package».now arguments.now attribute.now)) e) }
 {
-    match value_for(alloc, heap, package, arguments, attribute, default) {
-        Ok(value) => {
-            if values.push(value).is_err() {
-                return Err(Broken::NoMemory);
-            }
-            Ok(())
-        }
-        Err(broken) => Err(broken),
-    }
+    let value = value_for(alloc, heap, package, arguments, attribute, default)?;
+    values.push(value)?;
+    Ok(())
 }
 
 /// What a target has for an attribute: what is given, or else the default, which is shared; or

@@ -150,10 +150,8 @@ fn label_value(
     let Seen::Key(Key::Text(text)) = value else {
         return Err(Broken::Kind(Kind::Wrong));
     };
-    match package.label(alloc, text.as_str()) {
-        Ok(label) => Ok(AttributeValue::Label(Some(label))),
-        Err(broken) => Err(broken),
-    }
+    let label = package.label(alloc, text.as_str())?;
+    Ok(AttributeValue::Label(Some(label)))
 }
 
 /// The labels that a list of strings is.
@@ -169,11 +167,7 @@ fn labels_value(
     let Seen::List(items) = value else {
         return Err(Broken::Kind(Kind::Wrong));
     };
-    match labels(alloc, heap, package, *items) {
-        Ok(labels) => {
-            let labels = Shared::new(alloc, labels)?;
-            Ok(AttributeValue::Labels(labels))
-        }
-        Err(broken) => Err(broken),
-    }
+    let read = labels(alloc, heap, package, *items)?;
+    let labels = Shared::new(alloc, read)?;
+    Ok(AttributeValue::Labels(labels))
 }

@@ -1,13 +1,14 @@
-use Rattle.std.proofs.Common.{◌∙◌, sym}
+use Rattle.std.proofs.lemmas.Result.{err_from_is_err_and}
 use Rattle.targets.specs.RuleCalls.{value_for}
-use Rattle.rule_calls.proofs.Puts.{put_ok, put_err, on_ok}
+use Rattle.rule_calls.proofs.Puts.{put_ok, put_err}
 use Rattle.rule_calls.proofs.reading.put_value.Goals as goal
 
-pub returns-else-is_err : goal.returns-else-is_err
-returns-else-is_err c =
-    put_ok c.args.values.now c.push.new.self (value_for c.args.heap.now c.args.package.now c.args.arguments.now c.args.attribute.now) c.in-Ok.value
-    c.in-Ok.ensures (on_ok c.push.result c.push.ensures.ok (sym c.is_err.ensures.value ∙ c.if-is_err.false))
+pub returns : goal.returns
+returns c =
+    put_ok c.args.values.now c.push.new.self (value_for c.args.heap.now c.args.package.now c.args.arguments.now c.args.attribute.now) c.in_ok-value.value
+    c.in_ok-value.ensures c.in_ok-push.ensures.ok
 
-pub returns-in-Err : goal.returns-in-Err
-returns-in-Err c =
-    put_err c.args.values.now (value_for c.args.heap.now c.args.package.now c.args.arguments.now c.args.attribute.now) c.in-Err.broken c.in-Err.ensures
+pub returns-in_err-value : goal.returns-in_err-value
+returns-in_err-value c =
+    let same = err_from_is_err_and c.from_residual.result c.from_residual.ensures.1 in
+    rw (same.1, same.2) (put_err c.args.values.now (value_for c.args.heap.now c.args.package.now c.args.arguments.now c.args.attribute.now) c.in_err-value.field-0.0 c.in_err-value.ensures)
