@@ -31,7 +31,7 @@ use Rattle.targets.specs.declared.attributes.NamedAttribute.{NamedAttribute}
 use Rattle.declaring.specs.AttributeCalls.{attribute_value, new_attribute}
 use Rattle.declaring.specs.ProviderCalls.{new_provider}
 use Rattle.declaring.specs.RuleMaking.{next_rule, new_rule}
-use Rattle.declaring.specs.declared.table.Declarations.{Declarations}
+use Rattle.targets.specs.declared.declarations.Declarations.{Declarations}
 
 -- a module's evaluation with these cells
 abbrev evaluation : List Cell → State

@@ -20,7 +20,7 @@ use Rattle.operations.specs.Reading.{string_in}
 use Rattle.operations.specs.declared.state.State.{State}
 use Rattle.targets.specs.RuleCalls.{each_of}
 use Rattle.declaring.specs.NewNames.{name_in, may_be_doc}
-use Rattle.declaring.specs.declared.table.Declarations.{Declarations}
+use Rattle.targets.specs.declared.declarations.Declarations.{Declarations}
 
 -- provider(doc = "", *, fields)
 abbrev pub provider_parameters : List Parameter

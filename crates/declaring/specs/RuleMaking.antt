@@ -22,7 +22,7 @@ use Rattle.targets.specs.declared.attributes.Attribute.{Attribute}
 use Rattle.targets.specs.declared.attributes.NamedAttribute.{NamedAttribute}
 use Rattle.targets.specs.declared.attributes.Rule.{Rule}
 use Rattle.declaring.specs.NewNames.{name_in, may_be_doc}
-use Rattle.declaring.specs.declared.table.Declarations.{Declarations}
+use Rattle.targets.specs.declared.declarations.Declarations.{Declarations}
 
 -- rule(implementation, attrs = {}, *, doc = "")
 abbrev pub rule_parameters : List Parameter

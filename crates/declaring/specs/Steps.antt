@@ -9,7 +9,7 @@ use Rattle.values.specs.declared.value.Value.{Value}
 use Rattle.values.specs.declared.value.Value.TheVariants as value
 use Rattle.operations.specs.declared.state.State.{State}
 use Rattle.targets.specs.declared.attributes.Rule.{Rule}
-use Rattle.declaring.specs.declared.table.Declarations.{Declarations}
+use Rattle.targets.specs.declared.declarations.Declarations.{Declarations}
 
 -- the provider of a number of the module that is evaluated
 abbrev pub provider_numbered : State → ℕ → List (List ℕ) → Provider

@@ -8,7 +8,6 @@ ghost use Rattle.declaring.specs.AttributeCalls.{attribute_parameters, named, at
 ghost use Rattle.declaring.specs.AttributeCalls.{attribute_value};
 ghost use Rattle.declaring.specs.AttributeCalls.{attribute_declared, new_attribute};
 
-use crate::Declarations;
 use crate::defaults::default_in;
 use crate::names::may_be_doc;
 use crate::restrictions::{allow_files_in, mandatory_in, providers_in, values_in};
@@ -19,7 +18,7 @@ use operands::Operand;
 use operations::{Arguments, State};
 use plain::Shared;
 use std::alloc::{AllocError, Global};
-use targets::{Attribute, Choices};
+use targets::{Attribute, Choices, Declarations};
 use values::{AttributeKind, AttributeRef, Broken, Kind, Leaf, Value};
 
 /// A call of the method of `attr` that declares attributes of a kind.

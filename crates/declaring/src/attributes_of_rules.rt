@@ -7,14 +7,13 @@ ghost use Rattle.declaring.specs.RuleMaking.{declaration, declaration_in};
 ghost use Rattle.declaring.specs.RuleMaking.{attribute_entry};
 ghost use Rattle.declaring.specs.RuleMaking.{attributes_shown, attributes_in, if_attributes};
 
-use crate::Declarations;
 use crate::known::Attributes;
 use crate::names::name_of;
 use operands::Operand;
 use operations::State;
 use plain::{Shared, Text};
 use std::alloc::{AllocError, Global};
-use targets::{Attribute, NamedAttribute, Sequence, is_private};
+use targets::{Attribute, Declarations, NamedAttribute, Sequence, is_private};
 use values::{AttributeRef, Item, Key, Leaf, Seen, Table, Value};
 
 /// What a module sees of declarations while it is evaluated: its own, and those of the modules

@@ -4,7 +4,7 @@
 //! `specs/` has one definition a call, of what it declares or refuses: `AttributeCalls`,
 //! `ProviderCalls` and `RuleMaking`. [`new_attribute`], [`new_provider`] and [`new_rule`] do so,
 //! for every state of the evaluation, which they only read. What a module has declared stands in
-//! its [`Declarations`], by numbers; the values of the language that name it have these numbers.
+//! its [`targets::Declarations`], by numbers; the values of the language that name it have these numbers.
 //! After an error the module has declared what it had. What other modules declared is
 //! [`Attributes`].
 #![tactic(auto)]
@@ -19,10 +19,8 @@ mod names;
 mod provider_calls;
 mod restrictions;
 mod rule_making;
-mod table;
 
 pub use attribute_calls::new_attribute;
 pub use known::Attributes;
 pub use provider_calls::new_provider;
 pub use rule_making::new_rule;
-pub use table::Declarations;

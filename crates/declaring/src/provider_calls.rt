@@ -11,7 +11,6 @@ ghost use Rattle.declaring.specs.ProviderCalls.{provider_with};
 ghost use Rattle.declaring.specs.ProviderCalls.{new_provider, fields_in};
 ghost use Rattle.declaring.specs.Steps.{provider_numbered};
 
-use crate::Declarations;
 use crate::fields::fields_in;
 use crate::names::may_be_doc;
 use calls::{Parameter, check_arguments, got};
@@ -20,6 +19,7 @@ use operands::Operand;
 use operations::{Arguments, State};
 use plain::Shared;
 use std::alloc::{AllocError, Global};
+use targets::Declarations;
 use values::{
     Broken, ExportName, Exported, Kind, Leaf, MadeId, Names, Provider, ProviderRef, Value,
 };

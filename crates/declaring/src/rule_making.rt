@@ -10,7 +10,6 @@ ghost use Rattle.declaring.specs.RuleMaking.{rule_parameters, function_in, attri
 ghost use Rattle.declaring.specs.RuleMaking.{rule_declared, rule_with, new_rule};
 ghost use Rattle.declaring.specs.Steps.{rule_named, rule_put};
 
-use crate::Declarations;
 use crate::attributes_of_rules::attributes_in;
 use crate::known::Attributes;
 use crate::names::may_be_doc;
@@ -19,7 +18,7 @@ use operands::Operand;
 use operations::{Arguments, State};
 use plain::Shared;
 use std::alloc::{AllocError, Global};
-use targets::{Rule, RuleAttributes};
+use targets::{Declarations, Rule, RuleAttributes};
 use values::{Broken, ExportName, Exported, FunctionRef, Kind, Leaf, MadeId, RuleRef, Seen, Value};
 
 /// A call of `rule`, which makes a rule of a function and of attributes. Those may be of this

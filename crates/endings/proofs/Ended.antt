@@ -18,7 +18,7 @@ use Rattle.loading.specs.Loads.{Path, Name}
 use Rattle.loading.specs.declared.faults.Ending.{Ending}
 use Rattle.loading.specs.declared.faults.Ending.TheVariants.{Unnamed}
 use Rattle.evaluation.specs.declared.handed.Module.{Module}
-use Rattle.evaluation.specs.declared.made.Made.{Made}
+use Rattle.targets.specs.declared.declarations.Declarations.{Declarations}
 use Rattle.evaluation.specs.Naming.{Naming, all_named, with_provider_name, with_rule_name, provider_made_by, provider_named, rule_named, leaf_named, slot_named}
 use Rattle.evaluation.specs.Runs.{naming_of, module_named, module_of_frozen, all_frozen, module_ended}
 use Rattle.endings.specs.Called.{IsProvider, IsRule, provider_value, rule_value, IsFirstName, exported, MadeIsCalled}
@@ -136,7 +136,7 @@ abbrev value_or : Module → Result Module (Ending Kind) → Module
 value_or m (Ok k) = k
 value_or m (Err k) = m
 
-module _ (path : Path) (n : ℕ) (names : List Name) (made : Made) where
+module _ (path : Path) (n : ℕ) (names : List Name) (made : Declarations) where
   module _ (globals : List (Option FrozenTree)) (loaded : List (Option Value)) (ds : List (List FrozenTree)) where
     abbrev given : Naming
     given = naming_of path n names globals made

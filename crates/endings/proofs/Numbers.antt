@@ -10,7 +10,7 @@ use Rattle.leaves.specs.declared.leaf.MadeId.{MadeId}
 use Rattle.leaves.specs.declared.leaf.Provider.{Provider}
 use Rattle.leaves.specs.declared.leaf.RuleRef.{RuleRef}
 use Rattle.loading.specs.Loads.{Path, Name}
-use Rattle.evaluation.specs.declared.made.Made.{Made}
+use Rattle.targets.specs.declared.declarations.Declarations.{Declarations}
 use Rattle.evaluation.specs.Naming.{Naming, unnamed, given_once, provider_given, rule_given, leaf_given, global_given, names_given}
 use Rattle.evaluation.specs.Runs.{naming_of}
 use Rattle.endings.specs.Called.{made_id, IsProvider, IsRule, provider_value, rule_value, IsFirstName, IsCalled, ProvidersAreCalled, RulesAreCalled, EverythingIsNamed}
@@ -154,7 +154,7 @@ all_after ns (x ∷ xs) (t ∷ ts) =
 
 -- ---- a module
 
-module _ (path : Path) (n : ℕ) (names : List Name) (globals : List (Option FrozenTree)) (made : Made) where
+module _ (path : Path) (n : ℕ) (names : List Name) (globals : List (Option FrozenTree)) (made : Declarations) where
   abbrev pub given : Naming
   given = naming_of path n names globals made
 

@@ -6,7 +6,7 @@ use Rattle.std.proofs.lemmas.Slice.Eq.{bytes_eq-Decides}
 use Rattle.program_tree.specs.Names.{among, distinct}
 use Rattle.values.specs.View.{FrozenTree}
 use Rattle.loading.specs.Loads.{Path, Name}
-use Rattle.evaluation.specs.declared.made.Made.{Made}
+use Rattle.targets.specs.declared.declarations.Declarations.{Declarations}
 use Rattle.evaluation.specs.Runs.{naming_of}
 use Rattle.endings.specs.Called.{IsProvider, IsRule, provider_value, rule_value, IsFirstName, NamesAreOwn}
 use Rattle.endings.proofs.GivenNames.{both, one_number}
@@ -40,7 +40,7 @@ apart_at n i j xs ts x y f g same =
     sym f.here ∙ ap (slice_get ts) same ∙ g.here in
     cc
 
-module _ (path : Path) (n : ℕ) (names : List Name) (globals : List (Option FrozenTree)) (made : Made) where
+module _ (path : Path) (n : ℕ) (names : List Name) (globals : List (Option FrozenTree)) (made : Declarations) where
   pub names_are_own : distinct names ≡ true → NamesAreOwn (naming_of path n names globals made)
   names_are_own d = record {
     providers = λ i j x a b.

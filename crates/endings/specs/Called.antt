@@ -13,7 +13,7 @@ use Rattle.leaves.specs.declared.leaf.ProviderRef.TheVariants as provider
 use Rattle.leaves.specs.declared.leaf.RuleRef.{RuleRef}
 use Rattle.loading.specs.Loads.{Path, Name}
 use Rattle.evaluation.specs.declared.handed.Module.{Module}
-use Rattle.evaluation.specs.declared.made.Made.{Made}
+use Rattle.targets.specs.declared.declarations.Declarations.{Declarations}
 use Rattle.evaluation.specs.Naming.{Naming, all_named}
 use Rattle.evaluation.specs.Runs.{naming_of}
 
@@ -63,7 +63,7 @@ IsCalled value Is names globals given =
 -- the path and the number of a module; the names of its top level, and the values of its globals;
 -- what it made
 module _ (path : Path) (n : ℕ) (names : List Name) (globals : List (Option FrozenTree))
-    (made : Made) where
+    (made : Declarations) where
   -- the names that the module's globals give to what it made
   abbrev given_names : Naming
   given_names = naming_of path n names globals made

@@ -4,12 +4,13 @@ ghost use Rattle.evaluation.specs.Runs.{if_named, module_ended, naming_of};
 
 use crate::handing::{named_defaults, named_globals};
 use crate::naming::Naming;
-use evaluation::{Made, Module, TopNames};
+use evaluation::{Module, TopNames};
 use frozen_modules::{Left, freeze_all};
 use loading::{Ending, Placed};
 use operations::State;
 use plain::{Shared, Text};
 use std::alloc::{AllocError, Global};
+use targets::Declarations;
 use values::{Broken, Fields, Frozen, Kind};
 
 /// The names that globals give.
@@ -19,7 +20,7 @@ fn naming_of(
     file: u32,
     names: &TopNames,
     globals: &[Option<Frozen>],
-    made: &Made,
+    made: &Declarations,
 ) -> Result<Naming, AllocError>
     ensures { IfOk result (λ n. n ≡ naming_of path.now file names.now globals.now made.now) }
 {
@@ -35,7 +36,7 @@ fn module_named(
     names: Shared<TopNames>,
     left: &Left,
     loaded: Fields,
-    made: Made,
+    made: Declarations,
 ) -> Result<Option<Module>, AllocError>
     ensures { IfOk result (λ o. MatchOption o
         (if_named naming.now names left.now.globals.items loaded left.now.defaults made
@@ -65,7 +66,7 @@ fn named_module(
     names: Shared<TopNames>,
     left: &Left,
     loaded: Fields,
-    made: Made,
+    made: Declarations,
 ) -> Result<Option<Module>, AllocError>
     ensures { let naming = naming_of path.now file names left.now.globals.items made in
         IfOk result (λ o. MatchOption o
@@ -110,7 +111,7 @@ pub fn end_module(
     path: &Text,
     names: Shared<TopNames>,
     state: State<'_>,
-    made: Made,
+    made: Declarations,
 ) -> Result<Result<Module, Ending<Kind>>, AllocError>
     ensures { IfOk result
         (λ r. r ≡ module_ended path.now state.entry.file names state.entry made) }

@@ -6,7 +6,7 @@ ghost use Rattle.values.specs.View.{FrozenTree};
 ghost use Rattle.operations.specs.declared.state.State.{State};
 ghost use Rattle.loading.specs.Loads.{Path, Name};
 ghost use Rattle.evaluation.specs.declared.handed.Module.{Module};
-ghost use Rattle.evaluation.specs.declared.made.Made.{Made};
+ghost use Rattle.targets.specs.declared.declarations.Declarations.{Declarations};
 ghost use Rattle.evaluation.specs.Runs.{naming_of, module_ended};
 ghost use Rattle.endings.specs.Called.{ProvidersAreCalled, RulesAreCalled, EverythingIsNamed};
 ghost use Rattle.endings.specs.Called.{NamesAreOwn, MadeIsCalled};
@@ -18,17 +18,17 @@ ghost use Rattle.endings.specs.Called.{NamesAreOwn, MadeIsCalled};
 /// made is the value of the global that it is called by.
 pub fn numbers_and_names_agree()
     ensures providers { (path : Path) (n : ℕ) (names : List Name)
-        (globals : List (Option FrozenTree)) (made : Made)
+        (globals : List (Option FrozenTree)) (made : Declarations)
         → ProvidersAreCalled path n names globals made }
     ensures rules { (path : Path) (n : ℕ) (names : List Name)
-        (globals : List (Option FrozenTree)) (made : Made)
+        (globals : List (Option FrozenTree)) (made : Declarations)
         → RulesAreCalled path n names globals made }
     ensures everything { (path : Path) (n : ℕ) (names : List Name)
-        (globals : List (Option FrozenTree)) (made : Made)
+        (globals : List (Option FrozenTree)) (made : Declarations)
         → EverythingIsNamed path n names globals made }
     ensures once { (path : Path) (n : ℕ) (names : List Name)
-        (globals : List (Option FrozenTree)) (made : Made) → distinct names ≡ true
+        (globals : List (Option FrozenTree)) (made : Declarations) → distinct names ≡ true
         → NamesAreOwn (naming_of path n names globals made) }
-    ensures ended { (path : Path) (n : ℕ) (names : List Name) (s : State) (made : Made)
+    ensures ended { (path : Path) (n : ℕ) (names : List Name) (s : State) (made : Declarations)
         (m : Module) → module_ended path n names s made ≡ Ok m → MadeIsCalled path n m }
 {}

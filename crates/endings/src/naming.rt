@@ -4,10 +4,11 @@ ghost use Rattle.std.specs.List.{list_all};
 ghost use Rattle.evaluation.specs.Naming.{unnamed, given_once, leaf_given, global_given};
 ghost use Rattle.evaluation.specs.Naming.{names_given, all_named};
 
-use evaluation::{Made, TopNames};
+use evaluation::TopNames;
 use plain::Text;
 use std::alloc::{AllocError, Global};
 use std::marker::Model;
+use targets::Declarations;
 use values::{Frozen, Held, Leaf};
 
 /// The names that a module gives to the providers and the rules that it made, by their numbers.
@@ -66,7 +67,7 @@ impl Naming {
         alloc: Global,
         path: &Text,
         file: u32,
-        made: &Made,
+        made: &Declarations,
     ) -> Result<Naming, AllocError>
         ensures { IfOk result (λ n. n ≡ unnamed path.now file made.now) }
     {

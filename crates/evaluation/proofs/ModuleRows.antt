@@ -23,7 +23,7 @@ use Rattle.visits.specs.Freeze.{freeze_at}
 use Rattle.loading.specs.declared.faults.Ending.{Ending}
 use Rattle.loading.specs.declared.faults.Ending.TheVariants.{Faulted, Unnamed}
 use Rattle.evaluation.specs.Evaluated.{Module}
-use Rattle.evaluation.specs.declared.made.Made.{Made}
+use Rattle.targets.specs.declared.declarations.Declarations.{Declarations}
 use Rattle.evaluation.specs.Runs.{run_module}
 use Rattle.evaluation.proofs.Small.{small_module, lines, terms, outer, local, list, sets, calls}
 
@@ -40,7 +40,7 @@ fault_at k n = Err (Faulted (record { kind = k; path = path; line = n }))
 abbrev one_two : FrozenTree
 one_two = branch (tree.list (more (key (index.Number (pos 1))) (more (key (index.Number (pos 2))) none)))
 
-abbrev nothing : Made
+abbrev nothing : Declarations
 nothing = record { providers = 0; rules = []; attributes = [] }
 
 -- x = [1, 2]

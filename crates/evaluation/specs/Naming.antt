@@ -17,7 +17,7 @@ use Rattle.leaves.specs.declared.leaf.Provider.{Provider}
 use Rattle.leaves.specs.declared.leaf.ProviderRef.TheVariants as provider
 use Rattle.leaves.specs.declared.leaf.RuleRef.{RuleRef}
 use Rattle.loading.specs.Loads.{Path, Name}
-use Rattle.evaluation.specs.declared.made.Made.{Made}
+use Rattle.targets.specs.declared.declarations.Declarations.{Declarations}
 
 -- The names that the module of a path and a number gives, by the numbers of the providers and of
 -- the rules that it made.
@@ -28,7 +28,7 @@ pub record Naming : Type 0 where
   pub rules : List (Option Name)
 
 -- nothing has a name yet
-abbrev pub unnamed : Path → ℕ → Made → Naming
+abbrev pub unnamed : Path → ℕ → Declarations → Naming
 unnamed path file made =
     record {
       path = path;

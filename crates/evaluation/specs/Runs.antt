@@ -38,7 +38,7 @@ use Rattle.targets.specs.Steps as outcome
 use Rattle.targets.specs.declared.target.Target.{Target}
 use Rattle.evaluation.specs.Evaluated.{Module, Known}
 use Rattle.evaluation.specs.Naming.{Naming, unnamed, names_given, all_named, named, slot_named}
-use Rattle.evaluation.specs.declared.made.Made.{Made}
+use Rattle.targets.specs.declared.declarations.Declarations.{Declarations}
 use Rattle.evaluation.specs.Worlds.{world}
 
 -- ---- What each place brings: its calls, fields and methods, with the modules that are known; its
@@ -48,7 +48,7 @@ use Rattle.evaluation.specs.Worlds.{world}
 pub record OfModule (W : Type 0) : Type 0 where
   pub place : Known → Place W
   pub first : W
-  pub made : W → Made
+  pub made : W → Declarations
 
 -- of the BUILD file at a path: the targets that it declared, in order
 pub record OfBuild (W : Type 0) : Type 0 where
@@ -129,12 +129,12 @@ all_frozen h globals defaults c =
 -- ---- What a module comes to.
 
 -- the names that a module's globals give to what the module made
-abbrev pub naming_of : Path → ℕ → List Name → List (Option FrozenTree) → Made → Naming
+abbrev pub naming_of : Path → ℕ → List Name → List (Option FrozenTree) → Declarations → Naming
 naming_of path n names gs made = names_given (unnamed path n made) names gs
 
 -- what a module is: each provider and each rule in its globals and defaults bears its name
 abbrev pub module_named : Naming → List Name → List (Option FrozenTree) → List (Option Value) →
-    List (List FrozenTree) → Made → Module
+    List (List FrozenTree) → Declarations → Module
 module_named ns names gs loaded ds made =
     record {
       names = names;
@@ -146,12 +146,12 @@ module_named ns names gs loaded ds made =
 
 -- what a module is, if everything that it made has a name
 abbrev pub if_named : Naming → List Name → List (Option FrozenTree) → List (Option Value)
-    → List (List FrozenTree) → Made → Result Module (Ending Kind)
+    → List (List FrozenTree) → Declarations → Result Module (Ending Kind)
 if_named ns names gs loaded ds made =
     if all_named ns then Ok (module_named ns names gs loaded ds made) else Err Unnamed
 
 -- the module, if freezing ended without a fault; such a fault stands at line 0
-abbrev pub module_of_frozen : Path → ℕ → List Name → List (Option Value) → Made →
+abbrev pub module_of_frozen : Path → ℕ → List Name → List (Option Value) → Declarations →
     Ticking (List (Option FrozenTree) × List (List FrozenTree)) → Result Module (Ending Kind)
 module_of_frozen path n names loaded made (Err k) =
     Err (Faulted (record { kind = k; path = path; line = 0 }))
@@ -161,7 +161,7 @@ module_of_frozen path n names loaded made (Ok r) =
 -- What a module comes to whose top level ended in this state, and made this: its globals and its
 -- defaults are frozen, and what it made gets its names. The first that applies: the fault of
 -- freezing, at line 0; a provider or a rule that no global names.
-abbrev pub module_ended : Path → ℕ → List Name → State → Made → Result Module (Ending Kind)
+abbrev pub module_ended : Path → ℕ → List Name → State → Declarations → Result Module (Ending Kind)
 module_ended path n names s made =
     module_of_frozen path n names s.loaded made (all_frozen s.heap s.globals s.defaults s.ticks)
 

@@ -7,11 +7,11 @@ ghost use Rattle.operations.specs.Names.{listed};
 ghost use Rattle.evaluation.specs.Evaluated.{frozen_value, global_names, global_named};
 ghost use Rattle.evaluation.specs.Evaluated.{name_value};
 
-use crate::made::Made;
 use crate::names::TopNames;
 use operations::Defaults;
 use plain::{Shared, Text};
 use std::marker::Model;
+use targets::Declarations;
 use values::{Fields, Frozen, Item, Value};
 
 /// The frozen values of the globals of a module, by the numbers of their names.
@@ -61,7 +61,7 @@ pub struct Module {
     /// The frozen defaults of its functions, by the function's number and by parameter.
     pub defaults: Defaults,
     /// The providers, rules and attributes that it made.
-    pub made: Made,
+    pub made: Declarations,
 }
 
 /// The frozen value at a place, if there is one.
@@ -123,7 +123,7 @@ impl Module {
     }
 
     /// What it made, with the names that it gave.
-    pub fn made(&self) -> &Made
+    pub fn made(&self) -> &Declarations
         ensures { result.now ≡ self.now.made }
     {
         &self.made

@@ -9,10 +9,8 @@
 
 mod beginning;
 mod handed;
-mod made;
 mod names;
 
 pub use beginning::{first_state, state_of_target};
 pub use handed::{Globals, Module};
-pub use made::Made;
 pub use names::TopNames;

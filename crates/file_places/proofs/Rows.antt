@@ -18,7 +18,7 @@ use Rattle.targets.specs.declared.attributes.AllowFiles.TheVariants as allowed
 use Rattle.targets.specs.declared.attributes.Attribute.{Attribute}
 use Rattle.targets.specs.declared.attributes.Rule.{Rule}
 use Rattle.declaring.specs.AttributeCalls.{attribute_value}
-use Rattle.declaring.specs.declared.table.Declarations.{Declarations}
+use Rattle.targets.specs.declared.declarations.Declarations.{Declarations}
 use Rattle.rule_calls.specs.Packages.{Declared}
 use Rattle.file_places.specs.ModulePlace.{module_place}
 use Rattle.file_places.specs.BuildPlace.{build_place}

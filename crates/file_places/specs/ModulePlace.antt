@@ -11,8 +11,7 @@ use Rattle.values.specs.declared.value.Value.{Value}
 use Rattle.operations.specs.Arguments.{Given}
 use Rattle.language.specs.Place.{Does, Place, with_state}
 use Rattle.targets.specs.declared.attributes.Attribute.{Attribute}
-use Rattle.evaluation.specs.declared.made.Made.{Made}
-use Rattle.declaring.specs.declared.table.Declarations.{Declarations}
+use Rattle.targets.specs.declared.declarations.Declarations.{Declarations}
 use Rattle.declaring.specs.AttributeCalls.{new_attribute}
 use Rattle.declaring.specs.ProviderCalls.{new_provider}
 use Rattle.declaring.specs.RuleMaking.{new_rule}
@@ -48,7 +47,3 @@ module _ (linked : List ℕ → ℕ → Option Attribute) where
     item = λ n v w. Err fault.Wrong;
     offers = λ n v w. Err fault.Wrong;
   }
-
--- what a module made, once its top level has ended: what it declared, by the same numbers
-abbrev pub made_of : Declarations → Made
-made_of d = record { providers = d.providers; rules = d.rules; attributes = d.attributes }

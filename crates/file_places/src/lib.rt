@@ -3,14 +3,12 @@
 //! A module declares providers, rules and attributes, and a `BUILD` file targets, by calls of
 //! rules. `specs/ModulePlace` and `specs/BuildPlace` make of these the records over which the
 //! language has its meaning (`language`); [`ModulePlace`] and [`BuildPlace`] are the places
-//! ([`language::Place`]) that have these. [`made_of`] is what a module leaves at its end.
+//! ([`language::Place`]) that have these.
 #![tactic(auto)]
 
 mod build_place;
-mod made;
 mod methods;
 mod module_place;
 
 pub use build_place::{BuildPlace, Rules};
-pub use made::made_of;
 pub use module_place::ModulePlace;

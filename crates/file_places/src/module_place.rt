@@ -5,12 +5,13 @@ ghost use Rattle.ticks.specs.Ticking.{Says};
 ghost use Rattle.file_places.specs.ModulePlace.{attribute_call, built_in_call};
 
 use crate::methods::{declared_kind, has_method};
-use declaring::{Attributes, Declarations, new_attribute, new_provider, new_rule};
+use declaring::{Attributes, new_attribute, new_provider, new_rule};
 use field_names::FieldName;
 use language::{Place, Whole, Works};
 use operands::Operand;
 use operations::Arguments;
 use std::alloc::Global;
+use targets::Declarations;
 use values::{AttributeKind, Broken, BuiltIn, Item, Kind, Leaf, Value};
 
 /// The place of a module, beside those that were evaluated before: calls of `provider`, `rule` and

@@ -16,7 +16,7 @@ use Rattle.operations.specs.contracts.state.Defaults as Defaults
 use Rattle.targets.proofs.Crossing.{attribute_send, attribute_sync, rule_send, rule_sync}
 use Rattle.evaluation.specs.contracts.handed.Globals as Globals
 use Rattle.evaluation.specs.contracts.handed.Module as Module
-use Rattle.evaluation.specs.contracts.made.Made as Made
+use Rattle.targets.specs.contracts.declarations.Declarations as Declarations
 use Rattle.evaluation.proofs.names.TopNames.TheSendSync as names
 use Rattle.modules.proofs.loaded.Modules.TheSendSync as modules
 use Rattle.sources.proofs.sources.Sources.TheSendSync as sources
@@ -46,7 +46,7 @@ defaults_sync = search (items_sync, std.crosses, sendable) depth 60 fits 20000
 pub globals_sync : IsSync Globals.the_row
 globals_sync = search (frozen_sync, std.crosses, sendable) depth 60 fits 20000
 
-pub made_sync : IsSync (Made.the_field).row
+pub made_sync : IsSync (Declarations.the_field).row
 made_sync = search (rule_send, rule_sync, attribute_send, attribute_sync, std.crosses, sendable) depth 60 fits 20000
 
 pub module_sync : IsSync (Module.the_field).row

@@ -4,9 +4,9 @@
 use Rattle.std.specs.Prelude.{List, []}
 use Rattle.workspace.specs.FileKinds.{package_of}
 use Rattle.loading.specs.Loads.{Path}
-use Rattle.declaring.specs.declared.table.Declarations.{Declarations}
+use Rattle.targets.specs.declared.declarations.Declarations.{Declarations}
 use Rattle.rule_calls.specs.Packages.{Declared}
-use Rattle.file_places.specs.ModulePlace.{module_place, made_of}
+use Rattle.file_places.specs.ModulePlace.{module_place}
 use Rattle.file_places.specs.BuildPlace.{build_place}
 use Rattle.evaluation.specs.Runs.{OfModule, OfBuild}
 use Rattle.loader.specs.MadeBefore.{attribute_at, rule_of}
@@ -21,7 +21,7 @@ nothing_declared = record { providers = 0; rules = []; attributes = [] }
 -- attributes
 abbrev pub of_module : OfModule Declarations
 of_module = record
-    { place = λ known. module_place (attribute_at known); first = nothing_declared; made = made_of }
+    { place = λ known. module_place (attribute_at known); first = nothing_declared; made = λ d. d }
 
 -- ---- BUILD files
 

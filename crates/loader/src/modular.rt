@@ -3,21 +3,20 @@ ghost use Rattle.std.specs.Prelude.{◌≡◌, IfOk};
 ghost use Rattle.workspace.specs.Workspaces.{paths_of};
 ghost use Rattle.evaluation.specs.Runs.{run_module, module_ended};
 ghost use Rattle.evaluation.specs.Workspaces.{linked_files};
-ghost use Rattle.file_places.specs.ModulePlace.{made_of};
 ghost use Rattle.loader.specs.Places.{of_module};
 
 use crate::evaluating::Evaluator;
 use crate::made::KnownMade;
 use crate::top::Top;
 use crate::{Files, KnownModules};
-use declaring::Declarations;
 use evaluation::Module;
-use file_places::{ModulePlace, made_of};
+use file_places::ModulePlace;
 use language::Whole;
 use loading::Ending;
 use plain::Text;
 use running::{Setting, TopFile, end_run, run_top};
 use std::alloc::{AllocError, Global};
+use targets::Declarations;
 use values::Kind;
 
 /// What a module comes to whose top level has ended.
@@ -27,10 +26,10 @@ fn ended(
     whole: Box<Whole<'_, Declarations>>,
 ) -> Result<Result<Module, Ending<Kind>>, AllocError>
     ensures { IfOk result (λ r. r ≡ module_ended file.now.path.now file.now.number
-        file.now.names.now whole.entry.value.state (made_of whole.entry.value.work)) }
+        file.now.names.now whole.entry.value.state whole.entry.value.work) }
 {
     let Whole { state, work } = Box::into_inner(whole);
-    end_run(alloc, file, state, made_of(work))
+    end_run(alloc, file, state, work)
 }
 
 /// What the module of a number comes to, at a path, with the modules that are known: the fault of

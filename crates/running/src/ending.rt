@@ -4,10 +4,11 @@ ghost use Rattle.evaluation.specs.Runs.{module_ended};
 
 use crate::setting::TopFile;
 use endings::end_module;
-use evaluation::{Made, Module};
+use evaluation::Module;
 use loading::Ending;
 use operations::State;
 use std::alloc::{AllocError, Global};
+use targets::Declarations;
 use values::Kind;
 
 /// What a module comes to whose top level ended in this state, and that made this: what it hands
@@ -21,7 +22,7 @@ pub fn end_run(
     alloc: Global,
     file: &TopFile<'_>,
     state: State<'_>,
-    made: Made,
+    made: Declarations,
 ) -> Result<Result<Module, Ending<Kind>>, AllocError>
     ensures { IfOk result (λ r. r ≡ module_ended file.now.path.now file.now.number
         file.now.names.now state.entry made) }

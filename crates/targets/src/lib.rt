@@ -11,6 +11,7 @@
 
 mod attributes;
 mod choices;
+mod declarations;
 mod defaults;
 pub mod laws;
 mod outcome;
@@ -23,6 +24,7 @@ mod text_list;
 
 pub use attributes::{AllowFiles, Attribute, AttributeValue, NamedAttribute, Rule, is_private};
 pub use choices::Choices;
+pub use declarations::Declarations;
 pub use outcome::{Actions, Outcome, Providers, TargetFault};
 pub use rule_attributes::RuleAttributes;
 pub use sequence::Sequence;

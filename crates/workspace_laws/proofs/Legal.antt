@@ -35,7 +35,7 @@ use Rattle.declaring.specs.AttributeCalls.{allow_files_in, attribute_declared, a
 use Rattle.declaring.specs.NewNames.{may_be_doc, name_in}
 use Rattle.declaring.specs.ProviderCalls.{fields_in, provider_declared, provider_with}
 use Rattle.declaring.specs.RuleMaking.{attribute_entry, attributes_in, attributes_shown, declaration, declaration_in, function_in, if_attributes, named_attribute, reference_in, rule_declared, rule_with}
-use Rattle.declaring.specs.declared.table.Declarations.{Declarations}
+use Rattle.targets.specs.declared.declarations.Declarations.{Declarations}
 use Rattle.holding.proofs.Steps.{IfGiven, IfSome, either}
 
 -- ---- what is there, if something is

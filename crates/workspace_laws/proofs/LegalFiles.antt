@@ -44,14 +44,13 @@ use Rattle.targets.proofs.Facts.{none_in, in_split}
 use Rattle.declaring.specs.AttributeCalls.{new_attribute}
 use Rattle.declaring.specs.ProviderCalls.{new_provider, provider_parameters}
 use Rattle.declaring.specs.RuleMaking.{new_rule, rule_parameters}
-use Rattle.declaring.specs.declared.table.Declarations.{Declarations}
+use Rattle.targets.specs.declared.declarations.Declarations.{Declarations}
 use Rattle.rule_calls.specs.Called.{then_declared}
 use Rattle.rule_calls.specs.Packages.{Declared}
 use Rattle.file_places.specs.BuildPlace.{build_call, build_place, giving_none, refused_call, refused_method, rule_called}
 use Rattle.file_places.specs.Methods.{declared_kind}
-use Rattle.file_places.specs.ModulePlace.{attribute_call, built_in_call, made_of, module_call, module_place}
+use Rattle.file_places.specs.ModulePlace.{attribute_call, built_in_call, module_call, module_place}
 use Rattle.evaluation.specs.declared.handed.Module.{Module}
-use Rattle.evaluation.specs.declared.made.Made.{Made}
 use Rattle.evaluation.specs.Evaluated.{Known}
 use Rattle.evaluation.specs.Naming.{Naming, all_named}
 use Rattle.evaluation.specs.Runs.{all_frozen, module_after, module_named, module_of_frozen, naming_of, program_at, run_build, run_module, state_of_file, targets_after}
@@ -176,7 +175,7 @@ module _ (rules : MadeId → Option Rule) (legal : (id : MadeId) → IfSome Rule
 -- ---- one evaluation
 
 module _ (limit : ℕ) (files : Files) (paths : List Path) (before : Known) (legal : KnownLegal before) where
-  named : (b : Bool) (ns : Naming) (names : List Name) (s : State) (x : List (Option FrozenTree) × List (List FrozenTree)) (made : Made)
+  named : (b : Bool) (ns : Naming) (names : List Name) (s : State) (x : List (Option FrozenTree) × List (List FrozenTree)) (made : Declarations)
       → ModuleLegal (module_named ns names x.0 s.loaded x.1 made)
       → IfMade {E = Ending Kind} (if b then Ok (module_named ns names x.0 s.loaded x.1 made) else Err Unnamed)
   named true ns names s x made h = h
@@ -185,11 +184,11 @@ module _ (limit : ℕ) (files : Files) (paths : List Path) (before : Known) (leg
   module _ (p : Path) (n : ℕ) where
     frozen : (names : List Name) (s : State) (d : Declarations) → DeclarationsLegal d
         → (r : Ticking (List (Option FrozenTree) × List (List FrozenTree)))
-        → IfMade (module_of_frozen p n names s.loaded (made_of d) r)
+        → IfMade (module_of_frozen p n names s.loaded d r)
     frozen names s d h (Err e) = tt
     frozen names s d h (Ok x) =
-        let ns = naming_of p n names x.0.0 (made_of d) in
-        named (all_named ns) ns names s x.0 (made_of d) h
+        let ns = naming_of p n names x.0.0 d in
+        named (all_named ns) ns names s x.0 d h
 
     after : (r : Final (Whole Declarations) Value Kind) → Gives (working DeclarationsLegal) (working DeclarationsLegal).good tt r
         → IfMade (module_after limit files paths of_module p n r)

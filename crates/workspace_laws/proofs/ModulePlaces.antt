@@ -16,7 +16,7 @@ use Rattle.operations.specs.declared.state.State.{State}
 use Rattle.language.specs.declared.whole.Whole.{Whole}
 use Rattle.targets.specs.declared.attributes.Attribute.{Attribute}
 use Rattle.targets.specs.declared.attributes.NamedAttribute.{NamedAttribute}
-use Rattle.declaring.specs.declared.table.Declarations.{Declarations}
+use Rattle.targets.specs.declared.declarations.Declarations.{Declarations}
 use Rattle.declaring.specs.AttributeCalls.{attribute_parameters, attribute_in, attribute_declared, new_attribute}
 use Rattle.declaring.specs.NewNames.{may_be_doc}
 use Rattle.declaring.specs.ProviderCalls.{provider_parameters, fields_in, provider_declared, provider_with, new_provider}

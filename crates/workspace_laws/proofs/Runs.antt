@@ -17,7 +17,7 @@ use Rattle.loading.specs.Loads.{Path, Name}
 use Rattle.loading.specs.declared.faults.Ending.{Ending}
 use Rattle.loading.specs.declared.faults.Ending.TheVariants.{Unnamed}
 use Rattle.evaluation.specs.declared.handed.Module.{Module}
-use Rattle.evaluation.specs.declared.made.Made.{Made}
+use Rattle.targets.specs.declared.declarations.Declarations.{Declarations}
 use Rattle.evaluation.specs.Evaluated.{Known}
 use Rattle.evaluation.specs.Naming.{Naming, all_named, named, slot_named}
 use Rattle.evaluation.specs.Runs.{OfModule, program_at, state_of_file, frozen_globals, frozen_defaults, all_frozen, naming_of, module_named, module_of_frozen, module_ended, module_after, run_module}
@@ -75,7 +75,7 @@ module _ (owner : Path) (base : List Set) (one : IsOneTree base) (fresh : IsFres
         )
 
     module _ (ns : Naming) (names : List Name) (gs : List (Option FrozenTree)) (ds : List (List FrozenTree))
-        (made : Made) (seen : AreSeen gs ds) where
+        (made : Declarations) (seen : AreSeen gs ds) where
       abbrev globals : List Set
       globals = flat_map in_global (map (slot_named ns) gs)
 
@@ -93,7 +93,7 @@ module _ (owner : Path) (base : List Set) (one : IsOneTree base) (fresh : IsFres
       named_in true = (k, s.depsets, h.numbered, all_in)
       named_in false = tt
 
-    module _ (n : ℕ) (names : List Name) (made : Made) where
+    module _ (n : ℕ) (names : List Name) (made : Declarations) where
       frozen_made : (r : Ticking (List (Option FrozenTree) × List (List FrozenTree)))
           → all_frozen s.heap s.globals s.defaults s.ticks ≡ r
           → IfMadeBy (module_of_frozen owner n names s.loaded made r)

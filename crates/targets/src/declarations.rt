@@ -1,15 +1,15 @@
-//! What a module has declared.
+//! What a module declares.
 ghost use Rattle.std.specs.Prelude.{◌≡◌, []};
 
+use crate::{Attribute, Rule, Sequence};
 use plain::Shared;
 use std::alloc::Global;
-use targets::{Attribute, Rule, Sequence};
 
-/// What a module has declared so far: its providers, which are told by their numbers alone, and its
-/// rules and the declarations of attributes, each by its number.
+/// What calls of `provider`, `rule` and `attr` declare while a module is evaluated, each by the
+/// number in its value.
 #[derive(Drop)]
 pub struct Declarations {
-    /// How many providers.
+    /// How many providers. Their fields stand in their values.
     pub providers: u32,
     /// The rules, by number.
     pub rules: Sequence<Shared<Rule>>,
