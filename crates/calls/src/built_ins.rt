@@ -67,10 +67,8 @@ fn size_value(size: usize) -> Result<Value, Broken>
 pub fn str(alloc: Global, state: &mut State, value: &Operand<'_>) -> Result<Value, Broken>
     ensures { Does (str value.now) state.old result state.new }
 {
-    match text_of_item(alloc, value.item(), &state.heap, &mut state.ticks) {
-        Ok(text) => Ok(Value::Key(Key::Text(text))),
-        Err(broken) => Err(broken),
-    }
+    let text = text_of_item(alloc, value.item(), &state.heap, &mut state.ticks)?;
+    Ok(Value::Key(Key::Text(text)))
 }
 
 /// The text that `str` gives.
@@ -114,10 +112,8 @@ fn printed_text(
 ) -> Result<Text, Broken>
     ensures { Says (repr_of heap.now (item_value item.entry) ticks.old) result ticks.new }
 {
-    match repr(alloc, item, heap, ticks) {
-        Ok(text) => Ok(Text::from_string(text)?),
-        Err(broken) => Err(broken),
-    }
+    let text = repr(alloc, item, heap, ticks)?;
+    Ok(Text::from_string(text)?)
 }
 
 /// `list(value)`: a new list of the items of a list or a tuple, or of the keys of a dict.
@@ -128,10 +124,7 @@ fn printed_text(
 pub fn list(alloc: Global, state: &mut State, value: &Operand<'_>) -> Result<Value, Broken>
     ensures { Does (list value.now) state.old result state.new }
 {
-    let made = match listed(alloc, &state.heap.see_item(value.item())) {
-        Ok(made) => made,
-        Err(broken) => return Err(broken),
-    };
+    let made = listed(alloc, &state.heap.see_item(value.item()))?;
     place(state, made)
 }
 

@@ -61,10 +61,9 @@ fn got<'a>(
     ensures { Gives (got (entries_in (shape heap.now dict.now)) default.now
         (shape heap.now key.now)) result }
 {
-    match found(heap, dict, key) {
-        Ok(Some(value)) => Ok(value),
-        Ok(None) => Ok(default.share()?),
-        Err(broken) => Err(broken),
+    match found(heap, dict, key)? {
+        Some(value) => Ok(value),
+        None => Ok(default.share()?),
     }
 }
 

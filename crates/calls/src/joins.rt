@@ -49,10 +49,8 @@ fn join_items(
     ensures { Gives (then_give (all_in string_in heap.now (group_items items.entry))
         (λ ts. then_give (or_string_fault (join_of separator.now ts)) (λ u. Ok (text u)))) result }
 {
-    match texts(alloc, heap, items) {
-        Ok(texts) => join_texts(alloc, separator, &texts),
-        Err(broken) => Err(broken),
-    }
+    let texts = texts(alloc, heap, items)?;
+    join_texts(alloc, separator, &texts)
 }
 
 /// Texts joined, as a value.

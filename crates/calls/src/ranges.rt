@@ -29,10 +29,7 @@ pub fn range(
 ) -> Result<Value, Broken>
     ensures { Does (range (given arguments.now)) state.old result state.new }
 {
-    let made = match range_of(alloc, &state.heap, arguments) {
-        Ok(made) => made,
-        Err(broken) => return Err(broken),
-    };
+    let made = range_of(alloc, &state.heap, arguments)?;
     place(state, made)
 }
 

@@ -30,10 +30,7 @@ pub fn split(
 ) -> Result<Value, Broken>
     ensures { Does (split text.now separator.now) state.old result state.new }
 {
-    let made = match parts_of(alloc, text, &state.heap.see_item(separator.item())) {
-        Ok(made) => made,
-        Err(broken) => return Err(broken),
-    };
+    let made = parts_of(alloc, text, &state.heap.see_item(separator.item()))?;
     place(state, made)
 }
 

@@ -54,13 +54,8 @@ fn files_of_labels<'a>(
 ) -> Result<Value, Broken>
     ensures { Gives (unless_large (files_listed walked dependencies.now labels.now)) result }
 {
-    match listed(alloc, dependencies, labels) {
-        Ok(trees) => {
-            let list = frozen_list(alloc, trees)?;
-            Ok(list)
-        }
-        Err(broken) => Err(broken),
-    }
+    let trees = listed(alloc, dependencies, labels)?;
+    Ok(frozen_list(alloc, trees)?)
 }
 
 /// The listings of the targets of labels, one after the other, or `large` as soon as they are.

@@ -142,10 +142,8 @@ pub fn write_all<K: Sink>(sink: &mut K, text: &[u8]) -> Result<(), WriteFailed>
     ensures failed { OnErr result (Failed (K.failures sink.old) (K.failures sink.new)) }
     ensures unflushed { OnErr result (K.flushed sink.new ≡ false) }
 {
-    match write_whole(sink, text) {
-        Ok(()) => flush(sink),
-        Err(failed) => Err(failed),
-    }
+    write_whole(sink, text)?;
+    flush(sink)
 }
 
 /// Writes texts, one after the other.
@@ -182,8 +180,6 @@ pub fn write_parts<K: Sink>(sink: &mut K, texts: &[String]) -> Result<(), WriteF
     ensures failed { OnErr result (Failed (K.failures sink.old) (K.failures sink.new)) }
     ensures unflushed { OnErr result (K.flushed sink.new ≡ false) }
 {
-    match write_each(sink, texts) {
-        Ok(()) => flush(sink),
-        Err(failed) => Err(failed),
-    }
+    write_each(sink, texts)?;
+    flush(sink)
 }

@@ -25,10 +25,9 @@ pub(crate) fn find<'a, L: Link<'a>, P: Place<'a>>(
         (P.place world.now.place.now) owner.entry name.now (of_place owner.entry) whole.now) result
         whole.now }
 {
-    match found(world, whole, &owner, name) {
-        Ok(Some(value)) => Ok(Callee::Plain(value)),
-        Ok(None) => Ok(Callee::Method(owner, name)),
-        Err(broken) => Err(broken),
+    match found(world, whole, &owner, name)? {
+        Some(value) => Ok(Callee::Plain(value)),
+        None => Ok(Callee::Method(owner, name)),
     }
 }
 
@@ -64,10 +63,7 @@ fn found_at_place<'a, L: Link<'a>, P: Place<'a>>(
     if world.place.has_method(leaf, name) {
         return Ok(None);
     }
-    match world.place.field(world.alloc, whole, leaf, name) {
-        Ok(value) => Ok(Some(value)),
-        Err(broken) => Err(broken),
-    }
+    Ok(Some(world.place.field(world.alloc, whole, leaf, name)?))
 }
 
 /// The same, of another value.
@@ -81,9 +77,8 @@ fn found_in_value<'a, L: Link<'a>, P: Place<'a>>(
         (find_of (L.linked world.now.linked.now) (P.place world.now.place.now)
         owner.now name.now None whole.now) result whole.now }
 {
-    match finding::find(world.alloc, &whole.state, owner, name) {
-        Ok(Found::Value(found)) => Ok(Some(found)),
-        Ok(Found::Method(_)) => Ok(None),
-        Err(broken) => Err(broken),
+    match finding::find(world.alloc, &whole.state, owner, name)? {
+        Found::Value(found) => Ok(Some(found)),
+        Found::Method(_) => Ok(None),
     }
 }

@@ -44,14 +44,14 @@ fn binary_with<'a, L: Link<'a>, P: Place<'a>>(
         whole.old) result whole.new }
 {
     match operator {
-        Operator::In => match world.place.offers(whole, target, left) {
-            Ok(offered) => Ok(Value::Key(Key::Truth(offered))),
-            Err(broken) => Err(broken),
-        },
-        Operator::NotIn => match world.place.offers(whole, target, left) {
-            Ok(offered) => Ok(Value::Key(Key::Truth(!offered))),
-            Err(broken) => Err(broken),
-        },
+        Operator::In => {
+            let offered = world.place.offers(whole, target, left)?;
+            Ok(Value::Key(Key::Truth(offered)))
+        }
+        Operator::NotIn => {
+            let offered = world.place.offers(whole, target, left)?;
+            Ok(Value::Key(Key::Truth(!offered)))
+        }
         _ => language_calls::binary(world.alloc, &mut whole.state, operator, left, right),
     }
 }

@@ -24,10 +24,8 @@ pub(crate) fn begin<'a, W>(
     ensures { SaysAs left_seen (of_state (begin walked.now) whole.old) result whole.new }
 {
     let left = left_of(&mut whole.state.heap, walked)?;
-    match state::begin(&mut whole.state, walked.item()) {
-        Ok(()) => Ok(left),
-        Err(broken) => Err(broken),
-    }
+    state::begin(&mut whole.state, walked.item())?;
+    Ok(left)
 }
 
 /// What a walk over a value goes over. The heap stays as it was.

@@ -143,8 +143,6 @@ fn declare(
 ) -> Result<Value, Broken>
     ensures { Says (rule_called (Some rule.now) (given arguments.now) whole.old) result whole.new }
 {
-    match call_rule(alloc, &mut whole.state, &mut whole.work, rule, arguments) {
-        Ok(()) => Ok(Value::Leaf(Leaf::None)),
-        Err(broken) => Err(broken),
-    }
+    call_rule(alloc, &mut whole.state, &mut whole.work, rule, arguments)?;
+    Ok(Value::Leaf(Leaf::None))
 }

@@ -28,10 +28,9 @@ pub fn field<'a>(
 ) -> Result<Operand<'a>, Broken>
     ensures { Does (field value.now name.now) state.now result state.now }
 {
-    match field_of(alloc, state, value, name) {
-        Ok(Some(value)) => Ok(value),
-        Ok(None) => Err(Broken::Kind(Kind::Name)),
-        Err(broken) => Err(broken),
+    match field_of(alloc, state, value, name)? {
+        Some(value) => Ok(value),
+        None => Err(Broken::Kind(Kind::Name)),
     }
 }
 
@@ -47,10 +46,9 @@ pub(crate) fn field_of<'a>(
     if let Some(value) = value.lent_seen() {
         return seen_field(alloc, &value, name);
     }
-    match seen_field(alloc, &state.heap.see_item(value.item()), name) {
-        Ok(Some(value)) => Ok(Some(value.into_own()?)),
-        Ok(None) => Ok(None),
-        Err(broken) => Err(broken),
+    match seen_field(alloc, &state.heap.see_item(value.item()), name)? {
+        Some(value) => Ok(Some(value.into_own()?)),
+        None => Ok(None),
     }
 }
 
@@ -107,10 +105,8 @@ fn label_field<'a>(
     ensures { Gives (Ok (label_field label.now field.now)) result }
 {
     if field.is(KnownName::Package) {
-        match package(alloc, label) {
-            Ok(package) => Ok(Some(string(package))),
-            Err(broken) => Err(broken),
-        }
+        let package = package(alloc, label)?;
+        Ok(Some(string(package)))
     } else if field.is(KnownName::Name) {
         Ok(Some(string(name(alloc, label)?)))
     } else {

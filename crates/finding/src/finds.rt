@@ -36,12 +36,11 @@ pub fn find<'a>(
     ensures { MatchResult result (λ f. find value.now name.now state.now
         ≡ Ok (finding f, state.now)) (λ e. FaultOr (find value.now name.now state.now) e) }
 {
-    match field_of(alloc, state, value, name) {
-        Ok(Some(value)) => Ok(Found::Value(value)),
-        Ok(None) => match method_named(&state.heap.see_item(value.item()), name) {
+    match field_of(alloc, state, value, name)? {
+        Some(value) => Ok(Found::Value(value)),
+        None => match method_named(&state.heap.see_item(value.item()), name) {
             Some(method) => Ok(Found::Method(method)),
             None => Err(Broken::Kind(Kind::Name)),
         },
-        Err(broken) => Err(broken),
     }
 }

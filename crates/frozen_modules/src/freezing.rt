@@ -22,10 +22,7 @@ fn freeze_slot(
         ticks.new }
 {
     match slot {
-        Some(value) => match freeze(alloc, Item::Value(value), heap, ticks) {
-            Ok(tree) => Ok(Some(tree)),
-            Err(broken) => Err(broken),
-        },
+        Some(value) => Ok(Some(freeze(alloc, Item::Value(value), heap, ticks)?)),
         None => Ok(None),
     }
 }

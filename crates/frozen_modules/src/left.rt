@@ -37,12 +37,7 @@ pub fn freeze_all(
         ≡ Ok ((l.globals.items, l.defaults), ticks.new))
         (λ e. FaultOr (all_frozen heap.now globals.now defaults.now ticks.old) e) }
 {
-    let globals = match freeze_globals(alloc, globals, heap, ticks) {
-        Ok(globals) => globals,
-        Err(broken) => return Err(broken),
-    };
-    match freeze_defaults(alloc, defaults, heap, ticks) {
-        Ok(defaults) => Ok(Left { globals, defaults }),
-        Err(broken) => Err(broken),
-    }
+    let globals = freeze_globals(alloc, globals, heap, ticks)?;
+    let defaults = freeze_defaults(alloc, defaults, heap, ticks)?;
+    Ok(Left { globals, defaults })
 }

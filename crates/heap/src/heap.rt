@@ -168,14 +168,9 @@ impl Heap {
             ≡ Ok self.new) (λ e. (self.new ≡ self.old)
             × FaultOr (list_changed (pushed item) self.old list.now) e) }
     {
-        let changed = match self.list_cell(list) {
-            Ok(number) => number,
-            Err(refused) => return Err(refused),
-        };
+        let changed = self.list_cell(list)?;
         let cell = &mut self.cells[changed];
-        if let Err(broken) = push_to(cell, item) {
-            return Err(broken);
-        }
+        push_to(cell, item)?;
         Ok(())
     }
 
@@ -189,14 +184,9 @@ impl Heap {
             ≡ Ok self.new) (λ e. (self.new ≡ self.old)
             × FaultOr (list_changed (joined items) self.old list.now) e) }
     {
-        let number = match self.list_cell(list) {
-            Ok(number) => number,
-            Err(refused) => return Err(refused),
-        };
+        let number = self.list_cell(list)?;
         let cell = &mut self.cells[number];
-        if let Err(broken) = join_to(cell, items) {
-            return Err(broken);
-        }
+        join_to(cell, items)?;
         Ok(())
     }
 
@@ -213,14 +203,9 @@ impl Heap {
             ≡ Ok self.new) (λ e. (self.new ≡ self.old)
             × FaultOr (list_changed (indexed index item) self.old list.now) e) }
     {
-        let number = match self.list_cell(list) {
-            Ok(number) => number,
-            Err(refused) => return Err(refused),
-        };
+        let number = self.list_cell(list)?;
         let cell = &mut self.cells[number];
-        if let Err(broken) = set_in(cell, index, item) {
-            return Err(broken);
-        }
+        set_in(cell, index, item)?;
         Ok(())
     }
 
@@ -237,14 +222,9 @@ impl Heap {
             ≡ Ok self.new) (λ e. (self.new ≡ self.old)
             × FaultOr (dict_changed (keyed key item) self.old dict.now) e) }
     {
-        let number = match self.dict_cell(dict) {
-            Ok(number) => number,
-            Err(refused) => return Err(refused),
-        };
+        let number = self.dict_cell(dict)?;
         let cell = &mut self.cells[number];
-        if let Err(broken) = put_in(cell, key, item) {
-            return Err(broken);
-        }
+        put_in(cell, key, item)?;
         Ok(())
     }
 
@@ -287,9 +267,7 @@ impl Heap {
             Err(kind) => return Err(Broken::Kind(kind)),
         };
         let cell = &mut self.cells[number];
-        if let Err(broken) = begin_in(cell) {
-            return Err(broken);
-        }
+        begin_in(cell)?;
         Ok(Some(number))
     }
 

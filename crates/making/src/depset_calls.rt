@@ -146,22 +146,14 @@ fn read_parts(
         (λ e. FaultOr (parts_of heap.now (option_copied direct.entry) (option_copied order.entry)
         (option_copied transitive.entry)) e) }
 {
-    let direct = match elements_in(alloc, heap, direct) {
-        Ok(direct) => direct,
-        Err(broken) => return Err(broken),
-    };
-    let order = match order_in(heap, order) {
-        Ok(order) => order,
-        Err(broken) => return Err(broken),
-    };
-    match children_in(alloc, heap, transitive) {
-        Ok(transitive) => Ok(Parts {
-            direct,
-            order,
-            transitive,
-        }),
-        Err(broken) => Err(broken),
-    }
+    let direct = elements_in(alloc, heap, direct)?;
+    let order = order_in(heap, order)?;
+    let transitive = children_in(alloc, heap, transitive)?;
+    Ok(Parts {
+        direct,
+        order,
+        transitive,
+    })
 }
 
 /// `depset(direct, order, transitive = transitive)`, of the arguments that were given.

@@ -238,10 +238,7 @@ fn info_without_files(
 {
     let made = state.depsets;
     let direct = Vec::new(alloc);
-    let files = match new_depset(alloc, state, Order::Default, direct, Vec::new(alloc)) {
-        Ok(files) => files,
-        Err(broken) => return Err(broken),
-    };
+    let files = new_depset(alloc, state, Order::Default, direct, Vec::new(alloc))?;
     match with_files(alloc, state, provider, files) {
         Ok(instance) => Ok(instance),
         Err(broken) => {

@@ -142,10 +142,7 @@ impl<'a> Operand<'a> {
 pub fn owned<'a>(made: Result<Value, Broken>) -> Result<Operand<'a>, Broken>
     ensures { result ≡ made }
 {
-    match made {
-        Ok(value) => Ok(Operand::own(value)),
-        Err(broken) => Err(broken),
-    }
+    Ok(Operand::own(made?))
 }
 
 /// What an item shows in every heap, if it is no cell.

@@ -219,10 +219,7 @@ pub fn read_words<S: AsStr>(alloc: Global, words: &[S]) -> Result<Request, Words
     ensures steps { IfOk result (λ r. (1 ≤ r.steps) × (r.steps ≤ 1000000000)) }
     ensures words_only { result ≡ Err WordsStop.Words → asked (map S.text words.now) ≡ None }
 {
-    let taken = match take_words(alloc, words) {
-        Ok(taken) => taken,
-        Err(stop) => return Err(stop),
-    };
+    let taken = take_words(alloc, words)?;
     match read_labels(alloc, taken.labels.as_slice()) {
         Ok(labels) => Ok(Request {
             workers: taken.workers,

@@ -50,8 +50,6 @@ fn freeze_option(
     let Some(value) = value else {
         return Ok(());
     };
-    match freeze(alloc, value.item(), heap, ticks) {
-        Ok(_) => Ok(()),
-        Err(broken) => Err(broken),
-    }
+    let _ = freeze(alloc, value.item(), heap, ticks)?;
+    Ok(())
 }

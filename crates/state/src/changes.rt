@@ -113,10 +113,7 @@ fn set_index(state: &mut State, list: &Value, index: Item<'_>, value: Value) -> 
         (λ n. list_changed (indexed n value) s.heap list.now))) state.old result state.new }
 {
     match number_of(&state.heap.see_item(index)) {
-        Some(number) => match state.heap.set_index(list, number, value) {
-            Ok(()) => Ok(()),
-            Err(broken) => Err(broken),
-        },
+        Some(number) => state.heap.set_index(list, number, value),
         None => Err(Broken::Kind(Kind::Wrong)),
     }
 }

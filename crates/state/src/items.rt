@@ -35,10 +35,8 @@ pub fn item<'a>(
     if let Some(base) = base.lent_seen() {
         return item_in(alloc, &base, &index);
     }
-    match item_in(alloc, &state.heap.see_item(base.item()), &index) {
-        Ok(item) => Ok(item.into_own()?),
-        Err(broken) => Err(broken),
-    }
+    let item = item_in(alloc, &state.heap.see_item(base.item()), &index)?;
+    Ok(item.into_own()?)
 }
 
 /// The item of what a base shows.

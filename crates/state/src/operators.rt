@@ -59,14 +59,8 @@ fn added(alloc: Global, a: &Seen<'_>, b: &Seen<'_>) -> Result<Made, Broken>
 {
     match (a, b) {
         (Seen::Key(x), Seen::Key(y)) => key_sum(alloc, x, y),
-        (Seen::List(xs), Seen::List(ys)) => match both(alloc, *xs, *ys) {
-            Ok(items) => Ok(Made::List(items)),
-            Err(broken) => Err(broken),
-        },
-        (Seen::Tuple(xs), Seen::Tuple(ys)) => match both(alloc, *xs, *ys) {
-            Ok(items) => Ok(Made::Tuple(items)),
-            Err(broken) => Err(broken),
-        },
+        (Seen::List(xs), Seen::List(ys)) => Ok(Made::List(both(alloc, *xs, *ys)?)),
+        (Seen::Tuple(xs), Seen::Tuple(ys)) => Ok(Made::Tuple(both(alloc, *xs, *ys)?)),
         _ => Err(Broken::Kind(Kind::Wrong)),
     }
 }
@@ -78,10 +72,7 @@ fn key_sum(alloc: Global, a: &Key, b: &Key) -> Result<Made, Broken>
 {
     match (a, b) {
         (Key::Number(x), Key::Number(y)) => new_number(sum(*x, *y)),
-        (Key::Text(x), Key::Text(y)) => match behind(alloc, x, y) {
-            Ok(text) => Ok(Made::Key(Key::Text(text))),
-            Err(broken) => Err(broken),
-        },
+        (Key::Text(x), Key::Text(y)) => Ok(Made::Key(Key::Text(behind(alloc, x, y)?))),
         _ => Err(Broken::Kind(Kind::Wrong)),
     }
 }
@@ -211,10 +202,8 @@ fn extended(state: &mut State, list: Operand<'_>, items: Items) -> Result<Value,
     ensures { Does (extended items list.entry) state.old result state.new }
 {
     let list = list.into_value()?;
-    match state.heap.extend(&list, items) {
-        Ok(()) => Ok(list),
-        Err(broken) => Err(broken),
-    }
+    state.heap.extend(&list, items)?;
+    Ok(list)
 }
 
 /// `a - b`, `a * b`, `a // b` or `a % b`, of two whole numbers.
@@ -290,10 +279,8 @@ pub fn compare(state: &State, operator: Comparison, a: Item<'_>, b: Item<'_>) ->
     ensures { DoesKind (compare operator (item_value a.entry) (item_value b.entry)) state.now result
         state.now }
 {
-    match order_of(&state.heap.see_item(a), &state.heap.see_item(b)) {
-        Ok(order) => Ok(operator.holds(order)),
-        Err(kind) => Err(kind),
-    }
+    let order = order_of(&state.heap.see_item(a), &state.heap.see_item(b))?;
+    Ok(operator.holds(order))
 }
 
 /// The order of two values.

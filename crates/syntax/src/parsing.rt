@@ -40,14 +40,8 @@ fn read(alloc: Global, text: &str, kind: FileKind) -> Result<Parsed, ParseStop>
     ensures fault { (f : SyntaxFault) → result ≡ Err (ParseStop.Fault f)
         → syntax text.now kind ≡ Err f }
 {
-    let read = match logical_lines(alloc, text) {
-        Ok(read) => read,
-        Err(stop) => return Err(stop),
-    };
-    let lines = match read_file(alloc, read, kind) {
-        Ok(lines) => lines,
-        Err(stop) => return Err(stop),
-    };
+    let read = logical_lines(alloc, text)?;
+    let lines = read_file(alloc, read, kind)?;
     let Ok(mut scope) = file_scope(alloc, lines.as_slice()) else {
         return Err(ParseStop::NoMemory);
     };
