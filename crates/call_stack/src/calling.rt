@@ -262,10 +262,8 @@ pub(crate) fn call_known<'a, W: Operate<'a>>(
         (ids_seen active.new) state.new }
 {
     if let Some(function) = known {
-        return match call_function(world, linked, place, function, arguments, active, state) {
-            Ok(frame) => Ok(Called::Frame(frame)),
-            Err(stop) => Err(stop),
-        };
+        let frame = call_function(world, linked, place, function, arguments, active, state)?;
+        return Ok(Called::Frame(frame));
     }
     let Arguments {
         items,

@@ -22,4 +22,6 @@ pub use active::Active;
 pub use calling::{Arguments, Called, Place, call, call_function, frame_at_entry};
 pub use filling::unset;
 pub use linked::Linked;
-pub use running::{Running, again, call_with, define, give_back, stop_walk};
+pub use running::{
+    Running, again, again_into, call_with, define, give_back, give_back_from, stop_walk,
+};

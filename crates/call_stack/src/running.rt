@@ -2,6 +2,7 @@
 
 ghost use Rattle.std.specs.Prelude.{◌≡◌, ◌<◌, ◌≤◌, ◌^◌, [], ◌∷◌, List, Some, drop, suc, length};
 ghost use Rattle.std.specs.Prelude.{map, option_map, IfOk, IfSome};
+ghost use Rattle.code.specs.View.{source_seen};
 ghost use Rattle.meaning.specs.Entry.{called, paired};
 ghost use Rattle.meaning.specs.Instructions as instr;
 ghost use Rattle.meaning.specs.Instructions.{code_at};
@@ -18,8 +19,11 @@ ghost use Rattle.call_stack.specs.RunView.{Calling, Does, Moves, asked};
 use crate::active::Active;
 use crate::calling::{Arguments, Called, Place, call_by_position, call_known, function_of};
 use crate::linked::Linked;
-use code::{Defined, FunctionCode};
-use frames::{Callee, Frame, FunctionId, Operate, Stack, Step, Stop, Walk, stop_at, take};
+use code::{Defined, FunctionCode, Source};
+use frames::{
+    Callee, Frame, FunctionId, Operate, Refusal, Stack, Step, Stop, Walk, refused, stop_at, take,
+    taken_from,
+};
 use operands::Operand;
 use plain::Text;
 use std::alloc::AllocError;
@@ -193,19 +197,11 @@ pub(crate) fn call_asked<'a, W: Operate<'a>>(
         file: r.top.function.file,
         line,
     };
-    match call_known(
-        world,
-        linked,
-        place,
-        &callee,
-        known,
-        arguments,
-        &mut r.active,
-        state,
-    ) {
-        Ok(called) => go_on(world, called, r),
-        Err(stop) => Err(stop),
-    }
+    let active = &mut r.active;
+    let called = call_known(
+        world, linked, place, &callee, known, arguments, active, state,
+    )?;
+    go_on(world, called, r)
 }
 
 /// A call of something with so many values by position, and those of these names behind them.
@@ -295,22 +291,11 @@ fn go_into<'a, W: Operate<'a>>(
         file: top.function.file,
         line,
     };
-    match call_by_position(
-        world,
-        place,
-        function,
-        code,
-        count,
-        &mut top.values,
-        &mut r.active,
-        state,
-    ) {
-        Ok(frame) => {
-            top.place += 1;
-            go_on(world, Called::Frame(frame), r)
-        }
-        Err(stop) => Err(stop),
-    }
+    let values = &mut top.values;
+    let active = &mut r.active;
+    let frame = call_by_position(world, place, function, code, count, values, active, state)?;
+    top.place += 1;
+    go_on(world, Called::Frame(frame), r)
 }
 
 /// A call with so many values by position, and those of these names behind them.
@@ -369,6 +354,32 @@ pub fn give_back<'a, W: Operate<'a>>(
     leave_with(world, value, r)
 }
 
+/// A function gives back what a source is, when its walks have ended.
+///
+/// # Errors
+///
+/// [`Stop::Fault`] at this line where the source is a slot in which nothing is set.
+/// [`Stop::NoMemory`] where memory is refused.
+#[inline(never)]
+pub fn give_back_from<'a, W: Operate<'a>>(
+    world: &W,
+    line: usize,
+    source: Source,
+    r: &mut Running<'a, W::Walk>,
+    state: &mut W::State,
+) -> Result<Step, Stop>
+    ensures { (codes : instr.Codes) → Does W.rest (W.operations world.now) codes line
+        (instr.give_back_from (source_seen source)) r.old state.old result
+        r.new state.new }
+{
+    let top = &mut *r.top;
+    let Some(value) = taken_from(world, source, &mut top.slots)? else {
+        return Err(refused(world, Refusal::Unset, top.function.file, line));
+    };
+    end_walks(world, &top.walk, &mut top.outer, state);
+    leave_with(world, value, r)
+}
+
 /// To the next turn of the innermost walk; without a walk the function ends.
 ///
 /// # Errors
@@ -388,6 +399,32 @@ pub fn again<'a, W: Operate<'a>>(
         leave_with(world, Operand::own(world.none()), r)
     } else {
         frames::again(world, line, &mut *r.top)
+    }
+}
+
+/// To the next turn of the innermost walk, which begins at once, with its item in a slot; without a
+/// walk the function ends.
+///
+/// # Errors
+///
+/// [`Stop::Fault`] at this line where the tick of the turn is one too many. [`Stop::NoMemory`]
+/// where memory is refused.
+#[inline(always)]
+pub fn again_into<'a, W: Operate<'a>>(
+    world: &W,
+    line: usize,
+    slot: usize,
+    r: &mut Running<'a, W::Walk>,
+    state: &mut W::State,
+) -> Result<Step, Stop>
+    ensures { (codes : instr.Codes) → Does W.rest (W.operations world.now) codes line
+        (instr.again_into slot) r.old state.old result
+        r.new state.new }
+{
+    if r.top.walk.is_none() {
+        leave_with(world, Operand::own(world.none()), r)
+    } else {
+        frames::again_into(world, line, slot, &mut *r.top, state)
     }
 }
 

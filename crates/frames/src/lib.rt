@@ -27,7 +27,7 @@ mod taking;
 mod walking;
 mod world;
 
-pub use calling::{find, import, take_callee, unpack};
+pub use calling::{callee_global, find, import, take_callee, unpack};
 pub use defaults::Defaults;
 pub use displays::{collect, enter, keep, make_list, make_tuple, new_dict};
 pub use frame::{Callee, Frame, FunctionId, Walk};
@@ -35,6 +35,7 @@ pub use items::{field, item, item_above, set_added, set_item};
 pub use jumps::{keep_if, keep_unless, skip, skip_unless};
 pub use names::{
     clear_slots, drop_top, load_global, load_slot, store_global, store_loaded, store_slot,
+    taken_from,
 };
 pub use operators::{increase, operate, operate_both, operate_on, signed};
 pub use pushes::{push_builtin, push_none, push_number, push_text};
@@ -42,5 +43,5 @@ pub use slots::Slots;
 pub use stack::Stack;
 pub use stop::{Fault, Step, Stop, refused, stop_at};
 pub use taking::take;
-pub use walking::{again, begin_walk, next_into, next_turn, stop_walk};
+pub use walking::{again, again_into, begin_walk, next_into, next_turn, stop_walk};
 pub use world::{Operate, Refusal};

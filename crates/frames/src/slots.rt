@@ -1,7 +1,7 @@
 //! The slots of a function.
 
 ghost use Rattle.std.specs.Prelude.{◌≡◌, ◌<◌, ◌-◌, [], ◌∷◌, ◌++◌, length, slice_get, slice_set};
-ghost use Rattle.std.specs.Prelude.{option_copied, IfOk, Option};
+ghost use Rattle.std.specs.Prelude.{option_and_then, option_copied, IfOk, Option};
 ghost use Rattle.meaning.specs.Outcome.{put, cleared};
 ghost use Rattle.values.specs.declared.value.Value as held;
 
@@ -65,6 +65,18 @@ impl<'a> Slots<'a> {
         ensures { option_copied result ≡ slice_get self.now slot }
     {
         self.items.get(slot)
+    }
+
+    /// What is set in a slot, taken out of it, if anything is.
+    #[inline(always)]
+    pub fn take(&mut self, slot: usize) -> Option<Operand<'a>>
+        ensures { result ≡ option_and_then (λ o. o) (slice_get self.old slot) }
+    {
+        if slot < self.items.len() {
+            self.items[slot].take()
+        } else {
+            None
+        }
     }
 
     /// How many slots there are.

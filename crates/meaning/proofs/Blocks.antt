@@ -1,22 +1,22 @@
 -- The code of a statement ends as it means.
-use Rattle.std.proofs.Common.{◌≡◌, ℕ, suc, ◌+◌, List, [], ◌∷◌, ◌++◌, length, Option, Some, None, refl, ap, ◌∙◌, arith}
+use Rattle.std.proofs.Common.{◌≡◌, ℕ, suc, ◌+◌, List, [], ◌∷◌, ◌++◌, length, Option, Some, None, refl, sym, ap, ◌∙◌, subst, arith}
 use Rattle.meaning.specs.Instructions as instr
 use Rattle.program_tree.specs.Resolved.{Term, Statement, load, assign, assign_item, add_to, add_to_item, evaluate, pass, break_loop, continue_loop, give_back, branch, loop, define, Branches, no_branches, a_branch, Steps, no_steps, step}
 use Rattle.meaning.specs.Names.{Binding, Loaded}
 use Rattle.meaning.specs.Operations.{FunctionId}
-use Rattle.meaning.specs.Outcome.{Slots, Outcome, ◌>>=◌, pure, act, change, Here}
+use Rattle.meaning.specs.Outcome.{Slots, Outcome, Effect, ◌>>=◌, pure, act, change, Here}
 use Rattle.meaning.specs.Functions.{Files, function_name}
 use Rattle.meaning.specs.Expressions.{Invoke, set, read, assigned, eval, evals}
 use Rattle.meaning.specs.Statements.{Doing, End, next, after_step, loop_turns, imports, given_back, exec, branches, block}
-use Rattle.meaning.specs.Instructions.{Instruction, code_name}
+use Rattle.meaning.specs.Instructions.{Source, Instruction, code_name}
 use Rattle.meaning.specs.Machine.{Walk, Next, doing, returning, outer, all_ended}
 use Rattle.meaning.specs.Performing.{performs}
-use Rattle.meaning.specs.ExpressionCode.{Lines, turn_code, count, set_code, expr_code, exprs_code}
-use Rattle.meaning.specs.StatementCode.{imports_code, back_code, stmt_code, branches_code, block_code}
+use Rattle.meaning.specs.ExpressionCode.{Lines, source_of, turn_code, count, set_code, expr_code, exprs_code}
+use Rattle.meaning.specs.StatementCode.{imports_code, given_code, back_code, stmt_code, branches_code, block_code}
 use Rattle.meaning.proofs.Leads.{Gives, stays, same, stepped, gives_then, gives_all, gives_as}
 use Rattle.meaning.proofs.OneStep.{Site, config, onto, taken, Calls, here_at, frame, now, At, cut, one, op, arrived, read_runs, set_runs, assign_runs}
-use Rattle.meaning.proofs.Forms.{either_runs, length_of}
-use Rattle.meaning.proofs.Terms.{expr_runs, exprs_run}
+use Rattle.meaning.proofs.Forms.{IsFrom, either_runs, length_of}
+use Rattle.meaning.proofs.Terms.{expr_runs, exprs_run, is_from}
 use Rattle.meaning.proofs.Counts.{items_counted}
 use Rattle.meaning.proofs.Loops.{ending, to_next, to_left, skips_ending, loops_run, step_ends}
 
@@ -66,16 +66,24 @@ module _ {S V K : Type 0} (site : Site S V K) (invoke : Invoke S V K) (calls : C
       gives_then (change (site.ops.set_loaded site.fn.file i.binds v) l s) (acts at (instr.store_loaded i.binds) (suc pc) (suc (suc pc)) l (v ∷ []) ws s (λ _. []) (change (site.ops.set_loaded site.fn.file i.binds v) l s) (h.1.0, refl) refl) (λ _ l s.
       imports_run at m is (suc (suc pc)) pc' l ws s h.1.1))
 
+  given_runs : (at : ℕ) (e : Term) (q : Option Source) → IsFrom site at q (eval site.ops invoke e (here at)) →
+      (pc pc' : ℕ) (l : Slots V) (ws : List (Walk V)) (s : S) → Stood pc (given_code at q (expr_code at e)) pc' →
+      Goes (at_now pc l [] ws s) (eval site.ops invoke e (here at) l s) (λ v _ s. returning v site.below (outer site.active) (all_ended site.ops ws s))
+  given_runs at e None m pc pc' l ws s h =
+      let p = split pc pc' (expr_code at e) _ h in
+      gives_as (eval site.ops invoke e (here at) l s) (value_runs at e pc p.0 l [] ws s p.1) (λ v l s.
+      stepped (config site p.0 l (v ∷ []) [] ws s) at instr.give_back p.2.0)
+  given_runs at e (Some q) m pc pc' l ws s h =
+      subst (λ (n : Effect S V K V). Goes (at_now pc l [] ws s) (n l s) (λ v _ s. returning v site.below (outer site.active) (all_ended site.ops ws s))) (sym m) (
+      record { by = stepped (config site pc l [] [] ws s) at (instr.give_back_from q) h.0 })
+
   back_runs : (at : ℕ) (o : Option Term) (pc pc' : ℕ) (l : Slots V) (ws : List (Walk V)) (s : S) →
       Stood pc (back_code at o) pc' →
       Goes (at_now pc l [] ws s) (given_back site.ops invoke o (here at) l s) (λ v _ s. returning v site.below (outer site.active) (all_ended site.ops ws s))
   back_runs at None pc pc' l ws s h =
       one site at instr.push_none pc l [] [] ws s h.0 refl (
       one site at instr.give_back (suc pc) l (site.ops.none ∷ []) [] ws s h.1.0 refl (record { by = stays }))
-  back_runs at (Some e) pc pc' l ws s h =
-      let p = split pc pc' (expr_code at e) _ h in
-      gives_as (eval site.ops invoke e (here at) l s) (value_runs at e pc p.0 l [] ws s p.1) (λ v l s.
-      stepped (config site p.0 l (v ∷ []) [] ws s) at instr.give_back p.2.0)
+  back_runs at (Some e) pc pc' l ws s h = given_runs at e (source_of e) (is_from site invoke calls at e) pc pc' l ws s h
 
   mutual
     unfolding exec

@@ -1,5 +1,5 @@
 -- The code of forms made of others: `and` and `or`, one of two, and turns.
-use Rattle.std.proofs.Common.{◌≡◌, ℕ, suc, ◌+◌, if◌then◌else◌, List, [], ◌∷◌, ◌++◌, length, Option, Some, None, refl, sym, subst, arith}
+use Rattle.std.proofs.Common.{◌≡◌, ℕ, suc, ◌+◌, if◌then◌else◌, List, [], ◌∷◌, ◌++◌, length, Option, Some, None, refl, sym, ap, ◌∙◌, subst, arith}
 use Rattle.meaning.specs.Instructions as instr
 use Rattle.grammar.specs.Tree.{Operator}
 use Rattle.meaning.specs.Names.{Binding, slot, global, builtin}
@@ -8,9 +8,9 @@ use Rattle.meaning.specs.Outcome.{Slots, Outcome, done, fault, Effect, then_do, 
 use Rattle.meaning.specs.Expressions.{Way, while_true, while_false, always, joined, turns, assigned}
 use Rattle.meaning.specs.Instructions.{Source}
 use Rattle.meaning.specs.Machine.{Walk, Next}
-use Rattle.meaning.specs.Performing.{place, fetch}
-use Rattle.meaning.specs.ExpressionCode.{Lines, operate_code, joined_code, either_code, assign_code, turn_code}
-use Rattle.meaning.proofs.Leads.{Leads, Gives, stays, goes_on, stepped, gives_from, gives_then, gives_as, gives_if, ends_at}
+use Rattle.meaning.specs.Performing.{place, fetch, fetched}
+use Rattle.meaning.specs.ExpressionCode.{Lines, operate_code, joined_code, either_code, assign_code, turn_code, back}
+use Rattle.meaning.proofs.Leads.{Leads, Gives, stays, goes_on, stepped, steps_alike, gives_from, gives_then, gives_as, gives_if, ends_at}
 use Rattle.meaning.proofs.OneStep.{Site, config, now, G, At, cut, one, op, arrived, here_at, assign_runs}
 
 module _ {S V K : Type 0} (site : Site S V K) where
@@ -152,6 +152,20 @@ module _ {S V K : Type 0} (site : Site S V K) where
         one site at (instr.next_into k) head l os cs (walk v (x ∷ xs) head end ∷ ws) s h.0 refl (
         gives_then {k = λ _ l s. at_now (suc head) (put k (Some x) l) os cs (walk v xs head end ∷ ws) s} (act (here_at site at) site.ops.tick l s) (record { by = stays }) (λ _ l s.
         record { by = arrives (suc head) m (put k (Some x) l) os cs (walk v xs head end ∷ ws) s h.1 }))
+
+    -- the end of a turn of a loop leads to where the next one begins
+    pub goes_back : (bs : List Binding) (v : V) (vs : List V) (head end u m : ℕ) (l : Slots V) (os : List V)
+        (cs : List (Callee V)) (ws : List (Walk V)) (s : S) → Stood head (turn_code at bs) u →
+        place site.codes site.fn m ≡ Some (at, back bs) →
+        Leads site.ops site.codes (at_now m l os cs (walk v vs head end ∷ ws) s) (at_now head l os cs (walk v vs head end ∷ ws) s)
+    goes_back [] v vs head end u m l os cs ws s h hm = stepped (config site m l os cs (walk v vs head end ∷ ws) s) at instr.again hm
+    goes_back (global k ∷ []) v vs head end u m l os cs ws s h hm = stepped (config site m l os cs (walk v vs head end ∷ ws) s) at instr.again hm
+    goes_back (builtin p ∷ []) v vs head end u m l os cs ws s h hm = stepped (config site m l os cs (walk v vs head end ∷ ws) s) at instr.again hm
+    goes_back (b ∷ c ∷ bs) v vs head end u m l os cs ws s h hm = stepped (config site m l os cs (walk v vs head end ∷ ws) s) at instr.again hm
+    goes_back (slot k ∷ []) v vs head end u m l os cs ws s h hm =
+        let from = config site m l os cs (walk v vs head end ∷ ws) s in
+        let to = config site head l os cs (walk v vs head end ∷ ws) s in
+        steps_alike site.ops site.codes from to (ap (λ o. fetched site.ops site.codes o from) hm ∙ sym (ap (λ o. fetched site.ops site.codes o to) h.0))
 
     -- a walk without items ends
     pub ends_walk : (bs : List Binding) (v : V) (head end m : ℕ) (l : Slots V) (os : List V) (cs : List (Callee V))

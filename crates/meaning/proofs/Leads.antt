@@ -1,10 +1,10 @@
 -- What a run leads to.
-use Rattle.std.proofs.Common.{◌≡◌, ℕ, suc, ◌+◌, Bool, true, false, if◌then◌else◌, [], ◌∷◌, ◌++◌, length, Some, refl, sym, ap, ◌∙◌, arith}
+use Rattle.std.proofs.Common.{◌≡◌, ℕ, zero, suc, ◌+◌, Bool, true, false, if◌then◌else◌, [], ◌∷◌, ◌++◌, length, Some, refl, sym, ap, ◌∙◌, arith}
 use Rattle.meaning.specs.Operations.{FunctionId, Operations}
 use Rattle.meaning.specs.Outcome.{Slots, Outcome, done, fault, Effect, then_do, Here}
 use Rattle.meaning.specs.Instructions.{Instruction, Codes}
 use Rattle.meaning.specs.Machine.{Config, Next, more, doing, choose}
-use Rattle.meaning.specs.Performing.{performs, place, fetched, after, run, run_from}
+use Rattle.meaning.specs.Performing.{performs, place, fetched, step, after, run, run_from}
 use Rattle.meaning.specs.ExpressionCode.{Lines}
 
 -- for each count of instructions from b there is one from a that ends alike
@@ -81,6 +81,15 @@ module _ {S V K : Type 0} {ops : Operations S V K} {codes : Codes} where
       Gives ops codes A a (m l s) k → Gives ops codes A b (n l s) k → Gives ops codes A (choose t a b) ((if t then m else n) l s) k
   gives_if true a b m n l s k g h = g
   gives_if false a b m n l s k g h = h
+
+-- two places whose next instructions do the same lead to the same, by how many instructions are left
+module _ {S V K : Type 0} (ops : Operations S V K) (codes : Codes) (c d : Config S V) (e : step ops codes c ≡ step ops codes d) where
+  steps_counted : (k : ℕ) → (j : ℕ) × (run_from ops codes j (more c) ≡ run_from ops codes k (more d))
+  steps_counted zero = (0, refl)
+  steps_counted (suc k) = (suc k, ap (after (run ops codes k)) e)
+
+  pub steps_alike : Leads ops codes (more c) (more d)
+  steps_alike = record { by = steps_counted }
 
 -- these instructions stand in a function from one place to another
 abbrev pub Stands : Codes → FunctionId → ℕ → Lines → ℕ → Type 0

@@ -7,10 +7,10 @@ use Rattle.meaning.specs.Expressions.{assigned}
 use Rattle.meaning.specs.Statements.{End, next, breaks, continues, returns, Doing, after_step, after_turn, loop_turns}
 use Rattle.meaning.specs.Machine.{Walk, Next, returning, outer, all_ended}
 use Rattle.meaning.specs.Performing.{place}
-use Rattle.meaning.specs.ExpressionCode.{turn_code}
+use Rattle.meaning.specs.ExpressionCode.{turn_code, back}
 use Rattle.meaning.proofs.Leads.{Leads, Gives, stays, goes_on, stepped, gives_from, gives_then}
 use Rattle.meaning.proofs.OneStep.{Site, config, now, At, arrived, here_at}
-use Rattle.meaning.proofs.Forms.{begins_turn, ends_walk, regroup}
+use Rattle.meaning.proofs.Forms.{begins_turn, goes_back, ends_walk, regroup}
 
 module _ {S V K : Type 0} (site : Site S V K) where
   abbrev pub standing : ℕ → Slots V → List (Walk V) → S → Next S V K
@@ -66,18 +66,18 @@ module _ {S V K : Type 0} (site : Site S V K) where
     closing v end ws e l s = ending end ws e l (site.ops.end v s)
 
     turn_ends : (v : V) (xs : List V) (head m end : ℕ) (ws : List (Walk V)) (rest : Doing S V K) →
-        place site.codes site.fn m ≡ Some (at, instr.again) →
+        ((l : Slots V) (s : S) → Leads site.ops site.codes (standing m l (walk v xs head end ∷ ws) s) (standing head l (walk v xs head end ∷ ws) s)) →
         ((l : Slots V) (s : S) → Goes (standing head l (walk v xs head end ∷ ws) s) (rest l s) (closing v end ws)) →
         (e : End V) (l : Slots V) (s : S) →
         Goes (ending m (walk v xs head end ∷ ws) e l s) (after_turn rest e l s) (closing v end ws)
-    turn_ends v xs head m end ws rest hm run next l s = gives_from (to_next m l (walk v xs head end ∷ ws) s hm) (run l s)
+    turn_ends v xs head m end ws rest hm run next l s = gives_from (hm l s) (run l s)
     turn_ends v xs head m end ws rest hm run continues l s = run l s
     turn_ends v xs head m end ws rest hm run breaks l s = record { by = stays }
     turn_ends v xs head m end ws rest hm run (returns x) l s = record { by = stays }
 
     -- the turns of a loop
     pub loops_run : (bs : List Binding) (body : Doing S V K) (v : V) (head u m end : ℕ) (ws : List (Walk V)) →
-        At site head (turn_code at bs) u → place site.codes site.fn m ≡ Some (at, instr.again) →
+        At site head (turn_code at bs) u → place site.codes site.fn m ≡ Some (at, back bs) →
         ((l : Slots V) (ws : List (Walk V)) (s : S) → Goes (standing u l ws s) (body l s) (ending m ws)) →
         (vs : List V) (l : Slots V) (s : S) →
         Goes (standing head l (walk v vs head end ∷ ws) s) (loop_turns site.ops (here_at site at) (λ x. assigned site.ops (here_at site at) bs x >>= λ _. body) vs l s) (closing v end ws)
@@ -86,7 +86,7 @@ module _ {S V K : Type 0} (site : Site S V K) where
         regroup site at (act (here_at site at) site.ops.tick l s) (λ _. assigned site.ops (here_at site at) bs x) (λ _. body) (after_turn (loop_turns site.ops (here_at site at) (λ x. assigned site.ops (here_at site at) bs x >>= λ _. body) xs)) (standing head l (walk v (x ∷ xs) head end ∷ ws) s) (closing v end ws) (
         gives_then ((act (here_at site at) site.ops.tick >>= λ _. assigned site.ops (here_at site at) bs x) l s) (begins_turn site at bs v x xs head end u l [] [] ws s h) (λ _ l s.
         gives_then {f = after_turn (loop_turns site.ops (here_at site at) (λ x. assigned site.ops (here_at site at) bs x >>= λ _. body) xs)} (body l s) (run l (walk v xs head end ∷ ws) s)
-        (turn_ends v xs head m end ws (loop_turns site.ops (here_at site at) (λ x. assigned site.ops (here_at site at) bs x >>= λ _. body) xs) hm (λ l s. loops_run bs body v head u m end ws h hm run xs l s))))
+        (turn_ends v xs head m end ws (loop_turns site.ops (here_at site at) (λ x. assigned site.ops (here_at site at) bs x >>= λ _. body) xs) (λ l s. goes_back site at bs v xs head end u m l [] [] ws s h hm) (λ l s. loops_run bs body v head u m end ws h hm run xs l s))))
 
   -- a statement, and the statements behind it
   pub step_ends : (rest : Doing S V K) (m pc' : ℕ) (ws : List (Walk V)) →

@@ -9,8 +9,8 @@ use Rattle.meaning.specs.Outcome.{Slots, Outcome, done, Effect, ◌>>=◌, pure,
 use Rattle.meaning.specs.Expressions.{Invoke, way, names_of, calling, forget, assigned, turns, eval, evals, values, entries, rounds}
 use Rattle.meaning.specs.Machine.{Walk, Next}
 use Rattle.meaning.specs.ExpressionCode.{Lines, source_of, turn_code, count, forget_code, call_code, expr_code, exprs_code, values_code, entries_code, rounds_code}
-use Rattle.meaning.proofs.Leads.{Leads, Gives, stays, gives_then, gives_all, gives_if}
-use Rattle.meaning.proofs.OneStep.{Site, onto, onto_last, taken, Calls, here_at, now, At, cut, one, op, arrived, read_runs, forget_runs, call_runs}
+use Rattle.meaning.proofs.Leads.{Leads, Gives, stays, stepped, gives_then, gives_all, gives_if}
+use Rattle.meaning.proofs.OneStep.{Site, config, onto, onto_last, taken, Calls, here_at, now, At, cut, one, op, arrived, read_runs, forget_runs, call_runs}
 use Rattle.meaning.proofs.Forms.{Runs, IsFrom, joined_runs, either_runs, skips_value, turns_run, length_of}
 use Rattle.meaning.proofs.Counts.{items_counted, named_counted}
 
@@ -67,7 +67,11 @@ module _ {S V K : Type 0} (site : Site S V K) (invoke : Invoke S V K) (calls : C
       one site at (instr.find x) p.0 l (v ∷ os) cs ws s p.2.0 refl (
       gives_then {k = λ g l s. at_now (suc p.0) l os (g ∷ cs) ws s} (act here (site.ops.find v x) l s) (record { by = stays }) (λ g l s.
       call_runs site at invoke calls (count es) (exprs_code at es) (values_code at ks) (evals site.ops invoke es here []) (values site.ops invoke ks here []) (names_of ks) (items_counted site.ops invoke here es) (named_counted site.ops invoke here ks) re rk g (suc p.0) pc' l os cs ws s p.2.1)))
-  invokes_runs (named b) rf ro es ks re rk pc pc' l os cs ws s h = plain_runs (expr_code at (named b)) (eval site.ops invoke (named b) here) rf es ks re rk pc pc' l os cs ws s h
+  invokes_runs (named (global k)) rf ro es ks re rk pc pc' l os cs ws s h =
+      gives_then {k = λ v l s. at_now (suc pc) l os (plain v ∷ cs) ws s} (act here (site.ops.global site.fn.file k) l s) (record { by = stepped (config site pc l os cs ws s) at (instr.callee_global k) h.0 }) (λ v l s.
+      call_runs site at invoke calls (count es) (exprs_code at es) (values_code at ks) (evals site.ops invoke es here []) (values site.ops invoke ks here []) (names_of ks) (items_counted site.ops invoke here es) (named_counted site.ops invoke here ks) re rk (plain v) (suc pc) pc' l os cs ws s h.1)
+  invokes_runs (named (slot k)) rf ro es ks re rk pc pc' l os cs ws s h = plain_runs (expr_code at (named (slot k))) (eval site.ops invoke (named (slot k)) here) rf es ks re rk pc pc' l os cs ws s h
+  invokes_runs (named (builtin p)) rf ro es ks re rk pc pc' l os cs ws s h = plain_runs (expr_code at (named (builtin p))) (eval site.ops invoke (named (builtin p)) here) rf es ks re rk pc pc' l os cs ws s h
   invokes_runs (numeral n) rf ro es ks re rk pc pc' l os cs ws s h = plain_runs (expr_code at (numeral n)) (eval site.ops invoke (numeral n) here) rf es ks re rk pc pc' l os cs ws s h
   invokes_runs (quoted t) rf ro es ks re rk pc pc' l os cs ws s h = plain_runs (expr_code at (quoted t)) (eval site.ops invoke (quoted t) here) rf es ks re rk pc pc' l os cs ws s h
   invokes_runs (tuple ts) rf ro es ks re rk pc pc' l os cs ws s h = plain_runs (expr_code at (tuple ts)) (eval site.ops invoke (tuple ts) here) rf es ks re rk pc pc' l os cs ws s h
@@ -81,7 +85,7 @@ module _ {S V K : Type 0} (site : Site S V K) (invoke : Invoke S V K) (calls : C
   invokes_runs (each own a r) rf ro es ks re rk pc pc' l os cs ws s h = plain_runs (expr_code at (each own a r)) (eval site.ops invoke (each own a r) here) rf es ks re rk pc pc' l os cs ws s h
   invokes_runs (each_pair own a b r) rf ro es ks re rk pc pc' l os cs ws s h = plain_runs (expr_code at (each_pair own a b r)) (eval site.ops invoke (each_pair own a b r) here) rf es ks re rk pc pc' l os cs ws s h
 
-  is_from : (e : Term) → IsFrom site at (source_of e) (eval site.ops invoke e here)
+  pub is_from : (e : Term) → IsFrom site at (source_of e) (eval site.ops invoke e here)
   unfolding eval
   is_from (named (slot k)) = refl
   is_from (named (global k)) = tt

@@ -55,16 +55,22 @@ fn step(instruction: &Instruction) -> Option<(&'static str, usize, usize)> {
         Instruction::MakeList(items) => Some(("list", *items, 0)),
         Instruction::Collect => Some(("collect", 0, 0)),
         Instruction::TakeCallee => Some(("callee", 0, 0)),
+        Instruction::CalleeGlobal(number) => Some(("callee global", *number, 0)),
         Instruction::Find(name) => Some(("find", name.text().len(), 0)),
         Instruction::Call(items) => Some(("call", *items, 0)),
         Instruction::CallNamed(call) => Some(("call named", call.items, call.names.len())),
         Instruction::BeginWalk(passed) => Some(("walk", *passed, 0)),
+        Instruction::NextTurn => Some(("turn", 0, 0)),
         Instruction::NextInto(slot) => Some(("next", *slot, 0)),
+        Instruction::Unpack(items) => Some(("unpack", *items, 0)),
         Instruction::Again => Some(("again", 0, 0)),
+        Instruction::AgainInto(slot) => Some(("again into", *slot, 0)),
         Instruction::StopWalk => Some(("stop", 0, 0)),
         Instruction::Import(import) => Some(("import", import.module.len(), import.name.len())),
         Instruction::Define(defined) => Some(("define", defined.function, defined.defaults)),
         Instruction::GiveBack => Some(("back", 0, 0)),
+        Instruction::GiveBackSlot(slot) => Some(("back slot", *slot, 0)),
+        Instruction::GiveBackNumber(number) => Some(("back number", *number as usize, 0)),
         _ => None,
     }
 }
@@ -175,20 +181,17 @@ fn conditions_jump_over_what_is_not_done(rt: HostRuntime) {
     let text = "def f(x):\n    if x:\n        return 1\n    else:\n        return 2\n";
     let rows = [
         (2, "load", 0, 0),
-        (2, "skip unless", 3, 0),
-        (3, "number", 1, 0),
-        (3, "back", 0, 0),
-        (2, "skip", 2, 0),
-        (5, "number", 2, 0),
-        (5, "back", 0, 0),
+        (2, "skip unless", 2, 0),
+        (3, "back number", 1, 0),
+        (2, "skip", 1, 0),
+        (5, "back number", 2, 0),
     ];
     assert!(rt; is_code(alloc, text, 1, &rows));
     let text = "def f(x):\n    if x:\n        return 1\n    else:\n        pass\n";
     let rows = [
         (2, "load", 0, 0),
-        (2, "skip unless", 2, 0),
-        (3, "number", 1, 0),
-        (3, "back", 0, 0),
+        (2, "skip unless", 1, 0),
+        (3, "back number", 1, 0),
     ];
     assert!(rt; is_code(alloc, text, 1, &rows));
 }
@@ -206,7 +209,7 @@ fn loops_walk_over_their_operand(rt: HostRuntime) {
         (3, "increase", 0, 0),
         (3, "store", 1, 0),
         (4, "stop", 0, 0),
-        (2, "again", 0, 0),
+        (2, "again into", 2, 0),
     ];
     assert!(rt; is_code(alloc, text, 1, &rows));
     let rows = [
@@ -215,6 +218,23 @@ fn loops_walk_over_their_operand(rt: HostRuntime) {
         (1, "global", 0, 0),
     ];
     assert!(rt; is_code(alloc, text, 0, &rows));
+}
+
+#[test]
+fn loops_over_several_names_and_continue_go_back_alone(rt: HostRuntime) {
+    let alloc = rt.alloc();
+    let text = "def f(l):\n    for x, y in l:\n        continue\n";
+    let rows = [
+        (2, "load", 0, 0),
+        (2, "walk", 6, 0),
+        (2, "turn", 0, 0),
+        (2, "unpack", 2, 0),
+        (2, "store", 1, 0),
+        (2, "store", 2, 0),
+        (3, "again", 0, 0),
+        (2, "again", 0, 0),
+    ];
+    assert!(rt; is_code(alloc, text, 1, &rows));
 }
 
 #[test]
@@ -262,6 +282,22 @@ fn calls_find_their_callee_first(rt: HostRuntime) {
         (1, "global", 0, 0),
     ];
     assert!(rt; is_code(alloc, "x = [1].append(2)\n", 0, &rows));
+}
+
+#[test]
+fn calls_of_global_names_and_returns_of_slots_need_one_instruction(rt: HostRuntime) {
+    let alloc = rt.alloc();
+    let text = "def f(x):\n    return x\n\ny = f(7)\n";
+    let rows = [
+        (1, "define", 1, 0),
+        (1, "global", 0, 0),
+        (4, "callee global", 0, 0),
+        (4, "number", 7, 0),
+        (4, "call", 1, 0),
+        (4, "global", 1, 0),
+    ];
+    assert!(rt; is_code(alloc, text, 0, &rows));
+    assert!(rt; is_code(alloc, text, 1, &[(2, "back slot", 0, 0)]));
 }
 
 /// A number with so many signs before it.
