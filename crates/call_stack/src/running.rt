@@ -408,7 +408,7 @@ pub fn again<'a, W: Operate<'a>>(
 /// # Errors
 ///
 /// [`Stop::Fault`] at this line where the tick of the turn is one too many. [`Stop::NoMemory`]
-/// where memory is refused.
+/// where memory is refused, or where no place is behind the one where the turn begins.
 #[inline(always)]
 pub fn again_into<'a, W: Operate<'a>>(
     world: &W,
