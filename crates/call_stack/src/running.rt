@@ -22,13 +22,13 @@ use crate::linked::Linked;
 use code::{Defined, FunctionCode, Source};
 use frames::{
     Callee, Frame, FunctionId, Operate, Refusal, Stack, Step, Stop, Walk, refused, stop_at, take,
-    taken_from,
+    take_items, taken_from,
 };
 use operands::Operand;
 use plain::Text;
 use std::alloc::AllocError;
 use std::mem::replace;
-use values::{Broken, Value};
+use values::{Broken, Items, Value};
 
 /// A run that goes on: the frame of the function that runs, those of its callers, and the functions
 /// that are active.
@@ -455,12 +455,12 @@ fn made<'a, W: Operate<'a>>(
     world: &W,
     linked: &'a Linked,
     function: FunctionId,
-    defaults: Stack<Operand<'a>>,
+    defaults: Items,
     state: &mut W::State,
 ) -> Result<Value, Broken>
     ensures { Says ((W.operations world.now).define (id_seen function) (instr.code_name (codes_of
         linked.now) (id_seen function))
-        defaults.entry state.old) result state.new }
+        defaults state.old) result state.new }
 {
     match linked.function(function) {
         Some(code) => world.define(state, function, code.name(), defaults),
@@ -492,10 +492,9 @@ pub fn define<'a, W: Operate<'a>>(
         r.old state.old result r.new state.new }
 {
     let top = &mut *r.top;
-    let mut defaults = Stack::new(world.alloc());
-    if !take(defined.defaults, &mut top.values, &mut defaults)? {
+    let Some(defaults) = take_items(world.alloc(), defined.defaults, &mut top.values)? else {
         return Ok(Step::Stuck);
-    }
+    };
     let function = FunctionId {
         file: top.function.file,
         number: defined.function,

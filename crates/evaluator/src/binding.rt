@@ -12,8 +12,7 @@ ghost use Rattle.frames.specs.Answers.{id_seen};
 ghost use Rattle.frames.specs.Kept.{defaults_seen};
 
 use crate::functions::made_id;
-use crate::stacks::all_of;
-use frames::{Defaults, FunctionId, Stack};
+use frames::{Defaults, FunctionId};
 use language::{Link, Whole};
 use operands::Operand;
 use operations::State;
@@ -122,20 +121,18 @@ pub(crate) fn load<'a, L: Link<'a>, W>(
     }
 }
 
-/// The function that a `def` makes, with the values of its defaults, of which the first is at the
-/// top. A number that is too large for a value is answered as want of memory.
+/// The function that a `def` makes, with the values of its defaults. A number that is too large for
+/// a value is answered as want of memory.
 pub(crate) fn define<W>(
     alloc: Global,
     whole: &mut Whole<W>,
     function: FunctionId,
     name: &Text,
-    defaults: Stack<Operand<'_>>,
+    defaults: Items,
 ) -> Result<Value, Broken>
-    ensures { Says (of_state (define (made_id (id_seen function)) name.now defaults.entry)
-        whole.old)
+    ensures { Says (of_state (define (made_id (id_seen function)) name.now defaults) whole.old)
         result whole.new }
 {
-    let defaults = all_of(alloc, defaults)?;
     match made_id(function) {
         Some(id) => making::define(alloc, &mut whole.state, id, name, defaults),
         None => Err(Broken::NoMemory),

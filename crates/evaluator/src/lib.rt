@@ -7,7 +7,6 @@
 
 mod binding;
 mod calling;
-mod displays;
 mod finding_callees;
 mod functions;
 mod left;

@@ -1,29 +1,12 @@
-//! Values that change hands: from a stack to items, and from a sequence that is unpacked to a
-//! stack.
-ghost use Rattle.std.specs.Prelude.{◌≡◌, IfOk};
+//! Sequences that are unpacked onto a stack.
+ghost use Rattle.std.specs.Prelude.{IfOk};
 ghost use Rattle.values.specs.Seeing.{group_items};
 ghost use Rattle.frames.specs.Answers.{Unpacked};
 
 use frames::Stack;
 use operands::Operand;
-use std::alloc::{AllocError, Global};
-use values::{Group, Items};
-
-/// The values of a stack, from its top on.
-///
-/// # Errors
-///
-/// `AllocError` where memory was refused.
-pub(crate) fn all_of(alloc: Global, stack: Stack<Operand<'_>>) -> Result<Items, AllocError>
-    ensures { IfOk result (λ items. items ≡ stack.entry) }
-{
-    let mut stack = stack;
-    let mut items = Items::with_capacity(alloc, stack.len())?;
-    while let Some(value) = stack.pop() {
-        items.push(value.into_value()?)?;
-    }
-    Ok(items)
-}
+use std::alloc::AllocError;
+use values::Group;
 
 /// The items of a group go onto a stack, the first one at the top, where they are so many: they are
 /// lent. Where they aren't, the stack stays as it was.

@@ -3,7 +3,7 @@ ghost use Rattle.language.specs.Language.{language};
 ghost use Rattle.evaluator.specs.Walked.{left_seen};
 
 use crate::left::Left;
-use crate::{binding, calling, displays, finding_callees, functions, looks, operating, turns};
+use crate::{binding, calling, finding_callees, functions, looks, operating, turns};
 use field_names::FieldName;
 use frames::{Callee, Defaults, FunctionId, Operate, Refusal, Stack};
 use grammar::{Operator, Sign};
@@ -14,7 +14,7 @@ use operations::DefaultInfo;
 use plain::Text;
 use program_tree::Predeclared;
 use std::alloc::{AllocError, Global};
-use values::{Broken, Item, Kind, Leaf, Value};
+use values::{Broken, Item, Items, Kind, Leaf, Value};
 
 /// The linked files and the place of an evaluation. Its operations are those of the language.
 #[derive(Drop)]
@@ -141,20 +141,12 @@ impl<'a, L: Link<'a>, P: Place<'a>> Operate<'a> for World<'a, L, P> {
         state::set_item(&mut state.state, base.get(), index, value.into_value()?)
     }
 
-    fn new_list(
-        &self,
-        state: &mut Whole<'a, P::Work>,
-        items: Stack<Operand<'a>>,
-    ) -> Result<Value, Broken> {
-        displays::new_list(self.alloc, state, items)
+    fn new_list(&self, state: &mut Whole<'a, P::Work>, items: Items) -> Result<Value, Broken> {
+        state::new_list(&mut state.state, items)
     }
 
-    fn new_tuple(
-        &self,
-        state: &mut Whole<'a, P::Work>,
-        items: Stack<Operand<'a>>,
-    ) -> Result<Value, Broken> {
-        displays::new_tuple(self.alloc, state, items)
+    fn new_tuple(&self, state: &mut Whole<'a, P::Work>, items: Items) -> Result<Value, Broken> {
+        state::new_tuple(&mut state.state, items)
     }
 
     fn collect(
@@ -266,7 +258,7 @@ impl<'a, L: Link<'a>, P: Place<'a>> Operate<'a> for World<'a, L, P> {
         state: &mut Whole<'a, P::Work>,
         function: FunctionId,
         name: &Text,
-        defaults: Stack<Operand<'a>>,
+        defaults: Items,
     ) -> Result<Value, Broken> {
         binding::define(self.alloc, state, function, name, defaults)
     }

@@ -6,9 +6,8 @@ ghost use Rattle.frames.specs.Seen.{Performs};
 
 use crate::frame::Frame;
 use crate::onward::{put, put_own};
-use crate::stack::Stack;
 use crate::stop::{Step, Stop, stop_at};
-use crate::taking::take;
+use crate::taking::take_items;
 use crate::world::Operate;
 
 /// A list of so many values.
@@ -30,10 +29,9 @@ pub fn make_list<'a, W: Operate<'a>>(
         state.old result
         f.new state.new }
 {
-    let mut items = Stack::with_capacity(world.alloc(), count.min(f.values.len()))?;
-    if !take(count, &mut f.values, &mut items)? {
+    let Some(items) = take_items(world.alloc(), count, &mut f.values)? else {
         return Ok(Step::Stuck);
-    }
+    };
     let given = world.new_list(state, items);
     put_own(f, line, given)
 }
@@ -57,10 +55,9 @@ pub fn make_tuple<'a, W: Operate<'a>>(
         state.old result
         f.new state.new }
 {
-    let mut items = Stack::with_capacity(world.alloc(), count.min(f.values.len()))?;
-    if !take(count, &mut f.values, &mut items)? {
+    let Some(items) = take_items(world.alloc(), count, &mut f.values)? else {
         return Ok(Step::Stuck);
-    }
+    };
     let given = world.new_tuple(state, items);
     put_own(f, line, given)
 }

@@ -42,6 +42,6 @@ pub use pushes::{push_builtin, push_none, push_number, push_text};
 pub use slots::Slots;
 pub use stack::Stack;
 pub use stop::{Fault, Step, Stop, refused, stop_at};
-pub use taking::take;
+pub use taking::{take, take_items};
 pub use walking::{again, again_into, begin_walk, next_into, next_turn, stop_walk};
 pub use world::{Operate, Refusal};

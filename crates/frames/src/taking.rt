@@ -1,11 +1,12 @@
 //! Values off the top of a stack, in order.
 
-ghost use Rattle.std.specs.Prelude.{◌≡◌, IfOk, Some, None, if◌then◌else◌};
+ghost use Rattle.std.specs.Prelude.{◌≡◌, IfOk, Some, None, [], if◌then◌else◌, length, option_map};
 ghost use Rattle.frames.specs.Popped.{popped};
 
 use crate::stack::Stack;
 use operands::Operand;
-use std::alloc::AllocError;
+use std::alloc::{AllocError, Global};
+use values::{Items, Key, Value};
 
 /// So many values off the top of a stack, onto another: what was at the top is the lowest of them
 /// there. Whether they were there.
@@ -29,4 +30,44 @@ pub fn take<'a>(
         }
     }
     Ok(true)
+}
+
+/// So many items, each of which is still to be set.
+#[inline(always)]
+fn unset_items(alloc: Global, count: usize) -> Result<Items, AllocError>
+    ensures { IfOk result (λ items. length items ≡ count) }
+{
+    let mut items = Items::with_capacity(alloc, count)?;
+    for _ in 0..count {
+        items.push(Value::Key(Key::Number(0)))?;
+    }
+    Ok(items)
+}
+
+/// So many values off the top of a stack, as items of which the topmost value is the last, if they
+/// are there.
+///
+/// # Errors
+///
+/// Memory was refused.
+#[inline(always)]
+pub fn take_items(
+    alloc: Global,
+    count: usize,
+    values: &mut Stack<Operand<'_>>,
+) -> Result<Option<Items>, AllocError>
+    ensures { IfOk result (λ taken. popped count [] values.old
+        ≡ option_map (λ items. (items, values.new)) taken) }
+{
+    if count > values.len() {
+        return Ok(None);
+    }
+    let mut items = unset_items(alloc, count)?;
+    for place in (0..count).rev() {
+        match values.pop() {
+            Some(value) => items.set(place, value.into_value()?),
+            None => return Ok(None),
+        }
+    }
+    Ok(Some(items))
 }

@@ -21,7 +21,7 @@ use operands::Operand;
 use plain::Text;
 use program_tree::Predeclared;
 use std::alloc::{AllocError, Global};
-use values::{Broken, Item, Kind, Value};
+use values::{Broken, Item, Items, Kind, Value};
 
 /// The faults that evaluation finds itself, whatever the values are.
 #[derive(Clone, Copy, PartialEq, Eq, Debug)]
@@ -138,13 +138,13 @@ pub trait Operate<'a> {
         ensures { Says ((operations self.now).set_item (item_value base.entry)
             (item_value index.entry) value.entry state.old) result state.new };
 
-    /// A new list of these items, of which the first is at the top.
-    fn new_list(&self, state: &mut Self::State, items: Stack<Operand<'a>>) -> Result<Value, Broken>
-        ensures { Says ((operations self.now).new_list items.entry state.old) result state.new };
+    /// A new list of these items.
+    fn new_list(&self, state: &mut Self::State, items: Items) -> Result<Value, Broken>
+        ensures { Says ((operations self.now).new_list items state.old) result state.new };
 
-    /// A new tuple of these items, of which the first is at the top.
-    fn new_tuple(&self, state: &mut Self::State, items: Stack<Operand<'a>>) -> Result<Value, Broken>
-        ensures { Says ((operations self.now).new_tuple items.entry state.old) result state.new };
+    /// A new tuple of these items.
+    fn new_tuple(&self, state: &mut Self::State, items: Items) -> Result<Value, Broken>
+        ensures { Says ((operations self.now).new_tuple items state.old) result state.new };
 
     /// An item more of a comprehension's list.
     fn collect(
@@ -252,16 +252,15 @@ pub trait Operate<'a> {
         ensures { Says ((operations self.now).loaded file from.now name.now state.old)
             result state.new };
 
-    /// The function that a `def` makes, with the values of its defaults, of which the first is at
-    /// the top.
+    /// The function that a `def` makes, with the values of its defaults.
     fn define(
         &self,
         state: &mut Self::State,
         function: FunctionId,
         name: &Text,
-        defaults: Stack<Operand<'a>>,
+        defaults: Items,
     ) -> Result<Value, Broken>
-        ensures { Says ((operations self.now).define (id_seen function) name.now defaults.entry
+        ensures { Says ((operations self.now).define (id_seen function) name.now defaults
             state.old) result state.new };
 
     /// The defaults that a function's `def` kept.
