@@ -1,6 +1,7 @@
 use Rattle.std.proofs.Common.{◌∙◌, ap, Ok}
 use Rattle.std.specs.Prelude.{map}
 use Rattle.meaning.specs.Machine.{more, over, stuck}
+use Rattle.frames.specs.Answers.{id_seen}
 use Rattle.frames.specs.Seen.{shown}
 use Rattle.call_stack.specs.ActiveView.{ids_seen}
 use Rattle.call_stack.specs.CallView.{frame_seen}
@@ -18,7 +19,7 @@ loop-value-init g c =
       came_first ops codes (start_of ops codes c.args.start c.args.state.now) (more (config_of rest c.in-Ok-Running.running c.begin.new.state))
           (counted ops codes c.args.linked.now.compiled c.args.start c.args.state.now)
           (c.in-Ok-Running.ensures ∙ ap (λ b. started rest b c.begin.new.state) c.in-Ok-Running.field-0-is),
-      c.of-current.ensures.code,
+      (c.of-current.ensures.code, rw c.deref.ensures at (ap id_seen c.of-current.ensures.function)),
     )
 
 pub loop-value-smaller : goal.loop-value-smaller
@@ -42,7 +43,7 @@ loop-value-preserved g c =
           (config_of rest c.loop-value.running c.loop-value.state) (more (config_of rest r c.step.new.state))
           (c.in-Ok-More.ensures.moves ∙ ap (λ q. shown rest (map (frame_seen rest) r.below) (ids_seen r.active) q r.top.value c.step.new.state) c.in-Ok-More.field-0-is)
           c.loop-value.invariant.0,
-      c.step.ensures.current,
+      c.step.ensures.current (c.in-Ok-More.is ∙ ap Ok c.in-Ok-More.field-0-is),
     )
 
 pub returns-in-Ok-Over-step : goal.returns-in-Ok-Over-step

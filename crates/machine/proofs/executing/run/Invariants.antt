@@ -1,7 +1,7 @@
 use Rattle.meaning.specs.Machine.{more}
 use Rattle.call_stack.specs.LinkedView.{codes_of}
 use Rattle.call_stack.specs.RunView.{config_of}
-use Rattle.machine.specs.CurrentView.{IsCurrent}
+use Rattle.machine.specs.CurrentView.{IsOf}
 use Rattle.machine.specs.StartView.{start_of}
 use Rattle.machine.proofs.Loop.{Came, counted, steps_left}
 use Rattle.machine.proofs.executing.run.Given as goal
@@ -12,7 +12,7 @@ invariant-loop-value g l =
     let codes = codes_of l.linked in
     Came ops codes (start_of ops codes l.fn.start l.fn.state) (counted ops codes l.linked.compiled l.fn.start l.fn.state).0
     (more (config_of g.W.Operate.rest l.running l.state))
-    × IsCurrent codes l.current
+    × IsOf codes l.current l.running.top.value
 
 abbrev pub decreases-loop-value : goal.decreases-loop-value
 decreases-loop-value g l =
