@@ -455,12 +455,12 @@ fn made<'a, W: Operate<'a>>(
     world: &W,
     linked: &'a Linked,
     function: FunctionId,
-    defaults: Items,
+    defaults: Items<'a>,
     state: &mut W::State,
 ) -> Result<Value, Broken>
     ensures { Says ((W.operations world.now).define (id_seen function) (instr.code_name (codes_of
         linked.now) (id_seen function))
-        defaults state.old) result state.new }
+        defaults.entry state.old) result state.new }
 {
     match linked.function(function) {
         Some(code) => world.define(state, function, code.name(), defaults),

@@ -35,7 +35,7 @@ pub fn len(state: &State, value: &Operand<'_>) -> Result<Value, Broken>
 }
 
 /// How many parts a value has.
-fn size_of(value: &Seen<'_>) -> Option<usize>
+fn size_of(value: &Seen<'_, '_>) -> Option<usize>
     ensures { result ≡ size_in (seen value.now) }
 {
     match value {
@@ -121,15 +121,15 @@ fn printed_text(
 /// # Errors
 ///
 /// `type`, where it is another value; `NoMemory` where memory was refused.
-pub fn list(alloc: Global, state: &mut State, value: &Operand<'_>) -> Result<Value, Broken>
+pub fn list<'a>(alloc: Global, state: &mut State<'a>, value: &Operand<'a>) -> Result<Value, Broken>
     ensures { Does (list value.now) state.old result state.new }
 {
-    let made = listed(alloc, &state.heap.see_item(value.item()))?;
+    let made = listed(alloc, &state.heap.see(value))?;
     place(state, made)
 }
 
 /// The items of a list or a tuple, or the keys of a dict, as those of a new list.
-fn listed(alloc: Global, value: &Seen<'_>) -> Result<Made, Broken>
+fn listed<'a>(alloc: Global, value: &Seen<'_, 'a>) -> Result<Made<'a>, Broken>
     ensures { Gives (of_type (listed_in (seen value.now)) (λ xs. Ok (Made.List xs))) result }
 {
     match value {

@@ -4,7 +4,7 @@ ghost use Rattle.std.specs.Prelude.{OnOk, map};
 ghost use Rattle.values.specs.Visits.{keys_of};
 ghost use Rattle.values.specs.Shape.{shape};
 ghost use Rattle.values.specs.Seeing.{seen, item_value, table_entries};
-ghost use Rattle.operations.specs.States.{Does, Gives, GivesKind};
+ghost use Rattle.operations.specs.States.{Does, Gives};
 ghost use Rattle.operations.specs.Making.{entries_in, none};
 ghost use Rattle.operations.specs.Items.{found, got};
 ghost use Rattle.operations.specs.Methods.{get, keys, values};
@@ -23,7 +23,7 @@ use values::{Broken, Item, Items, Key, Kind, Leaf, Seen, Table, Value};
 ///
 /// `arity`; `type`, where the key can't be one; `NoMemory` where a count is at its greatest.
 pub fn get<'a>(
-    state: &State<'_>,
+    state: &State<'a>,
     dict: &Operand<'a>,
     arguments: &[Operand<'a>],
 ) -> Result<Operand<'a>, Broken>
@@ -40,7 +40,7 @@ pub fn get<'a>(
 
 /// The value of a key, or None.
 fn got_or_none<'a>(
-    heap: &Heap,
+    heap: &Heap<'a>,
     dict: &Operand<'a>,
     key: &Operand<'_>,
 ) -> Result<Operand<'a>, Broken>
@@ -53,7 +53,7 @@ fn got_or_none<'a>(
 
 /// The value of a key, or another.
 fn got<'a>(
-    heap: &Heap,
+    heap: &Heap<'a>,
     dict: &Operand<'a>,
     default: &Operand<'a>,
     key: &Operand<'_>,
@@ -69,42 +69,27 @@ fn got<'a>(
 
 /// The value of a key, if it is there.
 fn found<'a>(
-    heap: &Heap,
+    heap: &Heap<'a>,
     dict: &Operand<'a>,
     key: &Operand<'_>,
 ) -> Result<Option<Operand<'a>>, Broken>
     ensures { Gives (found (entries_in (shape heap.now dict.now)) (shape heap.now key.now))
         result }
 {
-    let key = heap.see_item(key.item());
-    if let Some(dict) = dict.lent_seen() {
-        return Ok(found_in(&dict, &key)?);
-    }
-    match found_in(&heap.see_item(dict.item()), &key) {
-        Ok(Some(value)) => Ok(Some(value.into_own()?)),
-        Ok(None) => Ok(None),
-        Err(kind) => Err(Broken::Kind(kind)),
-    }
+    found_in(&heap.see(dict), &heap.see_item(key.item()))
 }
 
 /// The value of a key of what a dict shows, if it is there.
-fn found_in<'a>(dict: &Seen<'a>, key: &Seen<'_>) -> Result<Option<Operand<'a>>, Kind>
-    ensures { GivesKind (found (entries_in (seen dict.now)) (seen key.now)) result }
+fn found_in<'a>(dict: &Seen<'_, 'a>, key: &Seen<'_, '_>) -> Result<Option<Operand<'a>>, Broken>
+    ensures { Gives (found (entries_in (seen dict.now)) (seen key.now)) result }
 {
+    let Some(key) = key_of(key) else {
+        return Err(Broken::Kind(Kind::Wrong));
+    };
     match dict {
-        Seen::Dict(entries) => state::find(*entries, key),
-        _ => without_entries(key),
+        Seen::Dict(entries) => Ok(entries.operand(key)?),
+        _ => Ok(None),
     }
-}
-
-/// Where there are no entries, no key has a value.
-fn without_entries<'a>(key: &Seen<'_>) -> Result<Option<Operand<'a>>, Kind>
-    ensures { GivesKind (found [] (seen key.now)) result }
-{
-    if key_of(key).is_none() {
-        return Err(Kind::Wrong);
-    }
-    Ok(None)
 }
 
 /// `dict.keys()`: a new list.
@@ -113,15 +98,15 @@ fn without_entries<'a>(key: &Seen<'_>) -> Result<Option<Operand<'a>>, Kind>
 ///
 /// `NoMemory` where memory was refused; `large`, as of each new list, where the dict has more
 /// entries than a list may have items, which no dict of an evaluation has.
-pub fn keys(alloc: Global, state: &mut State, dict: Item<'_>) -> Result<Value, Broken>
-    ensures { Does (keys (entries_in (shape state.old.heap (item_value dict.entry)))) state.old
+pub fn keys<'a>(alloc: Global, state: &mut State<'a>, dict: &Operand<'a>) -> Result<Value, Broken>
+    ensures { Does (keys (entries_in (shape state.old.heap dict.now))) state.old
         result state.new }
 {
-    let items = keys_in(alloc, &state.heap.see_item(dict))?;
+    let items = keys_in(alloc, &state.heap.see(dict))?;
     new_list(state, items)
 }
 
-pub(crate) fn keys_in(alloc: Global, dict: &Seen<'_>) -> Result<Items, AllocError>
+pub(crate) fn keys_in<'a>(alloc: Global, dict: &Seen<'_, 'a>) -> Result<Items<'a>, AllocError>
     ensures { IfOk result (λ items. items ≡ map Value.Key (keys_of (entries_in (seen dict.now)))) }
 {
     match dict {
@@ -131,7 +116,7 @@ pub(crate) fn keys_in(alloc: Global, dict: &Seen<'_>) -> Result<Items, AllocErro
 }
 
 /// The keys of entries, as values.
-pub(crate) fn key_items(alloc: Global, entries: Table<'_>) -> Result<Items, AllocError>
+pub(crate) fn key_items<'a>(alloc: Global, entries: Table<'_, 'a>) -> Result<Items<'a>, AllocError>
     ensures { IfOk result (λ items. items ≡ map Value.Key (keys_of (table_entries entries.entry))) }
 {
     let mut items = Items::with_capacity(alloc, entries.len())?;
@@ -146,7 +131,7 @@ fn put_key(key: &Key, items: &mut Items) -> Result<(), AllocError>
     ensures { OnOk result (items.new ≡ items.old ++ Value.Key key.now ∷ []) }
 {
     let key = key.share()?;
-    items.push(Value::Key(key))?;
+    items.push(Operand::own(Value::Key(key)))?;
     Ok(())
 }
 
@@ -156,15 +141,15 @@ fn put_key(key: &Key, items: &mut Items) -> Result<(), AllocError>
 ///
 /// `NoMemory` where memory was refused; `large`, as of each new list, where the dict has more
 /// entries than a list may have items, which no dict of an evaluation has.
-pub fn values(alloc: Global, state: &mut State, dict: Item<'_>) -> Result<Value, Broken>
-    ensures { Does (values (entries_in (shape state.old.heap (item_value dict.entry)))) state.old
+pub fn values<'a>(alloc: Global, state: &mut State<'a>, dict: &Operand<'a>) -> Result<Value, Broken>
+    ensures { Does (values (entries_in (shape state.old.heap dict.now))) state.old
         result state.new }
 {
-    let items = values_in(alloc, &state.heap.see_item(dict))?;
+    let items = values_in(alloc, &state.heap.see(dict))?;
     new_list(state, items)
 }
 
-pub(crate) fn values_in(alloc: Global, dict: &Seen<'_>) -> Result<Items, AllocError>
+pub(crate) fn values_in<'a>(alloc: Global, dict: &Seen<'_, 'a>) -> Result<Items<'a>, AllocError>
     ensures { IfOk result (λ items. items ≡ map (λ e. e.1) (entries_in (seen dict.now))) }
 {
     match dict {
@@ -174,7 +159,7 @@ pub(crate) fn values_in(alloc: Global, dict: &Seen<'_>) -> Result<Items, AllocEr
 }
 
 /// The values of entries.
-fn value_items(alloc: Global, entries: Table<'_>) -> Result<Items, AllocError>
+fn value_items<'a>(alloc: Global, entries: Table<'_, 'a>) -> Result<Items<'a>, AllocError>
     ensures { IfOk result (λ items. items ≡ map (λ e. e.1) (table_entries entries.entry)) }
 {
     let mut items = Items::with_capacity(alloc, entries.len())?;
@@ -185,10 +170,10 @@ fn value_items(alloc: Global, entries: Table<'_>) -> Result<Items, AllocError>
 }
 
 /// Puts a value last.
-fn put_value(value: Item<'_>, items: &mut Items) -> Result<(), AllocError>
+fn put_value(value: Item<'_>, items: &mut Items<'_>) -> Result<(), AllocError>
     ensures { OnOk result (items.new ≡ items.old ++ item_value value.entry ∷ []) }
 {
     let value = value.to_value()?;
-    items.push(value)?;
+    items.push(Operand::own(value))?;
     Ok(())
 }

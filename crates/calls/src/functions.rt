@@ -25,11 +25,11 @@ use values::{Broken, BuiltIn, Provider, Value};
 ///
 /// `arity` where the arguments don't fit, and then what the function refuses; `NoMemory` where
 /// memory was refused.
-pub fn call_built_in(
+pub fn call_built_in<'a>(
     alloc: Global,
-    state: &mut State,
+    state: &mut State<'a>,
     function: BuiltIn,
-    arguments: &Arguments<'_, '_>,
+    arguments: &Arguments<'_, 'a>,
 ) -> Option<Result<Value, Broken>>
     ensures { DoesSome (built_in_call function (given arguments.now)) state.old result state.new }
 {
@@ -69,10 +69,10 @@ fn call_str(
     }
 }
 
-fn call_list(
+fn call_list<'a>(
     alloc: Global,
-    state: &mut State,
-    arguments: &Arguments<'_, '_>,
+    state: &mut State<'a>,
+    arguments: &Arguments<'_, 'a>,
 ) -> Result<Value, Broken>
     ensures { Does (with_argument (argument (codes "x") (given arguments.now)) list) state.old
         result state.new }
@@ -94,10 +94,10 @@ fn call_fail(state: &State, arguments: &Arguments<'_, '_>) -> Result<Value, Brok
 }
 
 /// `depset(direct = [], order = "default", *, transitive = [])`.
-fn call_depset(
+fn call_depset<'a>(
     alloc: Global,
-    state: &mut State,
-    arguments: &Arguments<'_, '_>,
+    state: &mut State<'a>,
+    arguments: &Arguments<'_, 'a>,
 ) -> Result<Value, Broken>
     ensures { Does (depset (given arguments.now)) state.old result state.new }
 {
@@ -128,11 +128,11 @@ fn depset_parameters() -> [Parameter<'static>; 3]
 /// `arity`; of `DefaultInfo` then `type`, where its `files` are no depset that is empty or of
 /// Files, and `large`, where no serial is left for the default. `NoMemory` where memory was
 /// refused.
-pub fn call_provider(
+pub fn call_provider<'a>(
     alloc: Global,
-    state: &mut State,
+    state: &mut State<'a>,
     provider: &Shared<Provider>,
-    arguments: &Arguments<'_, '_>,
+    arguments: &Arguments<'_, 'a>,
 ) -> Result<Value, Broken>
     ensures { Does (instance_call provider.now (given arguments.now)) state.old result state.new }
 {
@@ -143,11 +143,11 @@ pub fn call_provider(
 }
 
 /// `DefaultInfo(*, files = depset())`.
-fn call_default_info(
+fn call_default_info<'a>(
     alloc: Global,
-    state: &mut State,
+    state: &mut State<'a>,
     provider: &Shared<Provider>,
-    arguments: &Arguments<'_, '_>,
+    arguments: &Arguments<'_, 'a>,
 ) -> Result<Value, Broken>
     ensures { Does (new_default_info provider.now (given arguments.now)) state.old result
         state.new }

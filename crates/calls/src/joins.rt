@@ -40,11 +40,11 @@ pub fn join(
 }
 
 /// The strings that items are, joined.
-fn join_items(
+fn join_items<'b>(
     alloc: Global,
-    heap: &Heap,
+    heap: &'b Heap,
     separator: &Text,
-    items: Group<'_>,
+    items: Group<'b, '_>,
 ) -> Result<Value, Broken>
     ensures { Gives (then_give (all_in string_in heap.now (group_items items.entry))
         (λ ts. then_give (or_string_fault (join_of separator.now ts)) (λ u. Ok (text u)))) result }
@@ -67,7 +67,7 @@ fn join_texts(alloc: Global, separator: &Text, texts: &[&Text]) -> Result<Value,
 }
 
 /// The strings that items are, where they lie, or `type`.
-fn texts<'a>(alloc: Global, heap: &'a Heap, items: Group<'a>) -> Result<Vec<&'a Text>, Broken>
+fn texts<'b>(alloc: Global, heap: &'b Heap, items: Group<'b, '_>) -> Result<Vec<&'b Text>, Broken>
     ensures { MatchResult result (λ v. all_in string_in heap.now (group_items items.entry)
         ≡ Ok (map (λ t. t.now) v.items))
         (λ e. FaultOr (all_in string_in heap.now (group_items items.entry)) e) }
@@ -82,7 +82,7 @@ fn texts<'a>(alloc: Global, heap: &'a Heap, items: Group<'a>) -> Result<Vec<&'a 
 }
 
 /// Puts the string that a value is last, or `type`.
-fn put_text<'a>(value: &Seen<'a>, texts: &mut Vec<&'a Text>) -> Result<(), Broken>
+fn put_text<'b>(value: &Seen<'b, '_>, texts: &mut Vec<&'b Text>) -> Result<(), Broken>
     ensures { MatchResult result (λ _. put_last (map (λ t. t.now) texts.old.items)
         (string_in (seen value.now)) ≡ Ok (map (λ t. t.now) texts.new.items))
         (λ e. FaultOr (put_last (map (λ t. t.now) texts.old.items) (string_in (seen value.now)))

@@ -28,7 +28,7 @@ pub fn member(state: &mut State, x: Item<'_>, y: Item<'_>) -> Result<bool, Kind>
 }
 
 /// Whether what a value shows has a member.
-fn held_in(heap: &Heap, ticks: &mut Ticks, x: Item<'_>, y: &Seen<'_>) -> Result<bool, Kind>
+fn held_in(heap: &Heap, ticks: &mut Ticks, x: Item<'_>, y: &Seen<'_, '_>) -> Result<bool, Kind>
     ensures { SaysKind (held_in heap.now (item_value x.entry) (seen y.now) ticks.old) result
         ticks.new }
 {
@@ -42,7 +42,7 @@ fn held_in(heap: &Heap, ticks: &mut Ticks, x: Item<'_>, y: &Seen<'_>) -> Result<
 }
 
 /// Whether a dict has the key that a value is, or `type`.
-fn has_key(entries: Table<'_>, key: &Seen<'_>) -> Result<bool, Kind>
+fn has_key(entries: Table<'_, '_>, key: &Seen<'_, '_>) -> Result<bool, Kind>
     ensures { GivesKind (of_type (key_in (seen key.now)) (is_key_of (table_entries entries.entry)))
         result }
 {
@@ -53,7 +53,7 @@ fn has_key(entries: Table<'_>, key: &Seen<'_>) -> Result<bool, Kind>
 }
 
 /// Whether a string has a part, or `type`.
-fn has_part(whole: &Key, part: &Seen<'_>) -> Result<bool, Kind>
+fn has_part(whole: &Key, part: &Seen<'_, '_>) -> Result<bool, Kind>
     ensures { GivesKind (part_of whole.now (seen part.now)) result }
 {
     match (whole, text_of(part)) {

@@ -19,7 +19,7 @@ use crate::joins::join;
 use crate::pairs::items;
 use crate::receivers::{depset_of, string_of};
 use crate::splits::split;
-use operands::{Operand, as_value, owned};
+use operands::{Operand, owned};
 use operations::{Arguments, Method, State};
 use std::alloc::Global;
 use values::{Broken, Item, Kind, Value};
@@ -33,7 +33,7 @@ use values::{Broken, Item, Kind, Value};
 /// (`docs/PROFILE.md`, "Calls of the language"). `NoMemory` where memory was refused.
 pub fn call_method<'a>(
     alloc: Global,
-    state: &mut State<'_>,
+    state: &mut State<'a>,
     method: Method,
     receiver: &Operand<'a>,
     arguments: &Arguments<'_, 'a>,
@@ -50,7 +50,7 @@ pub fn call_method<'a>(
 /// The same, of positions alone.
 fn method_of<'a>(
     alloc: Global,
-    state: &mut State<'_>,
+    state: &mut State<'a>,
     method: Method,
     receiver: &Operand<'a>,
     items: &[Operand<'a>],
@@ -62,9 +62,9 @@ fn method_of<'a>(
         Method::Append => owned(append_one(state, of, items)),
         Method::Extend => owned(extend_one(alloc, state, of, items)),
         Method::Get => get(state, receiver, items),
-        Method::Keys => owned(keys_of(alloc, state, of, items)),
-        Method::Values => owned(values_of(alloc, state, of, items)),
-        Method::Items => owned(pairs_of(alloc, state, of, items)),
+        Method::Keys => owned(keys_of(alloc, state, receiver, items)),
+        Method::Values => owned(values_of(alloc, state, receiver, items)),
+        Method::Items => owned(pairs_of(alloc, state, receiver, items)),
         Method::Join => owned(join_one(alloc, state, of, items)),
         Method::Split => owned(split_one(alloc, state, of, items)),
         Method::StartsWith => owned(starts_with_one(state, of, items)),
@@ -73,43 +73,47 @@ fn method_of<'a>(
     }
 }
 
-fn append_one(state: &mut State, list: Item<'_>, items: &[Operand<'_>]) -> Result<Value, Broken>
+fn append_one<'a>(
+    state: &mut State<'a>,
+    list: Item<'_>,
+    items: &[Operand<'a>],
+) -> Result<Value, Broken>
     ensures { Does (with_one (append (item_value list.entry)) items.now) state.old result
         state.new }
 {
     let Some(added) = only(items) else {
         return Err(Broken::Kind(Kind::Arity));
     };
-    let added = added.item().to_value()?;
-    let list = as_value(list)?;
-    state::append(state, list.get(), added)
+    let added = added.share()?;
+    let list = list.to_value()?;
+    state::append(state, &list, added)
 }
 
-fn extend_one(
+fn extend_one<'a>(
     alloc: Global,
-    state: &mut State,
+    state: &mut State<'a>,
     list: Item<'_>,
-    items: &[Operand<'_>],
+    items: &[Operand<'a>],
 ) -> Result<Value, Broken>
     ensures { Does (with_one (extend (item_value list.entry)) items.now) state.old result
         state.new }
 {
     match only(items) {
         Some(sequence) => {
-            let list = as_value(list)?;
-            state::extend(alloc, state, list.get(), sequence)
+            let list = list.to_value()?;
+            state::extend(alloc, state, &list, sequence)
         }
         None => Err(Broken::Kind(Kind::Arity)),
     }
 }
 
-fn keys_of(
+fn keys_of<'a>(
     alloc: Global,
-    state: &mut State,
-    dict: Item<'_>,
+    state: &mut State<'a>,
+    dict: &Operand<'a>,
     items: &[Operand<'_>],
 ) -> Result<Value, Broken>
-    ensures { Does (with_none (keys (entries_in (shape state.old.heap (item_value dict.entry))))
+    ensures { Does (with_none (keys (entries_in (shape state.old.heap dict.now)))
         items.now) state.old result state.new }
 {
     if !items.is_empty() {
@@ -118,13 +122,13 @@ fn keys_of(
     keys(alloc, state, dict)
 }
 
-fn values_of(
+fn values_of<'a>(
     alloc: Global,
-    state: &mut State,
-    dict: Item<'_>,
+    state: &mut State<'a>,
+    dict: &Operand<'a>,
     items: &[Operand<'_>],
 ) -> Result<Value, Broken>
-    ensures { Does (with_none (values (entries_in (shape state.old.heap (item_value dict.entry))))
+    ensures { Does (with_none (values (entries_in (shape state.old.heap dict.now)))
         items.now) state.old result state.new }
 {
     if !items.is_empty() {
@@ -133,13 +137,13 @@ fn values_of(
     values(alloc, state, dict)
 }
 
-fn pairs_of(
+fn pairs_of<'a>(
     alloc: Global,
-    state: &mut State,
-    dict: Item<'_>,
+    state: &mut State<'a>,
+    dict: &Operand<'a>,
     arguments: &[Operand<'_>],
 ) -> Result<Value, Broken>
-    ensures { Does (with_none (pairs (entries_in (shape state.old.heap (item_value dict.entry))))
+    ensures { Does (with_none (pairs (entries_in (shape state.old.heap dict.now)))
         arguments.now) state.old result state.new }
 {
     if !arguments.is_empty() {

@@ -2,7 +2,6 @@
 ghost use Rattle.std.specs.Prelude.{◌≡◌, ◌++◌, ◌∷◌, [], Ok, Err, MatchResult, IfOk, OnOk, length};
 ghost use Rattle.ticks.specs.Ticking.{FaultOr};
 ghost use Rattle.values.specs.Shape.{shape};
-ghost use Rattle.values.specs.Seeing.{item_value};
 ghost use Rattle.operations.specs.States.{Does};
 ghost use Rattle.operations.specs.Making.{new_list, new_tuple, entries_in};
 ghost use Rattle.operations.specs.Methods.{pairs};
@@ -12,7 +11,7 @@ use crate::dicts::{keys_in, values_in};
 use operations::State;
 use state::{new_list, new_tuple};
 use std::alloc::{AllocError, Global};
-use values::{Broken, Item, Items, Value};
+use values::{Broken, Items, Operand, Value};
 
 /// `dict.items()`: a new list of tuples of two, which take the next cells in the order of the
 /// entries.
@@ -22,21 +21,21 @@ use values::{Broken, Item, Items, Value};
 /// `NoMemory` where memory was refused; `large`, as of each new list, where the dict has more
 /// entries than a list may have items, which no dict of an evaluation has. In either case no tuple
 /// is left.
-pub fn items(alloc: Global, state: &mut State, dict: Item<'_>) -> Result<Value, Broken>
-    ensures { Does (pairs (entries_in (shape state.old.heap (item_value dict.entry)))) state.old
+pub fn items<'a>(alloc: Global, state: &mut State<'a>, dict: &Operand<'a>) -> Result<Value, Broken>
+    ensures { Does (pairs (entries_in (shape state.old.heap dict.now))) state.old
         result state.new }
 {
-    let keys = keys_in(alloc, &state.heap.see_item(dict))?;
-    let values = values_in(alloc, &state.heap.see_item(dict))?;
+    let keys = keys_in(alloc, &state.heap.see(&*dict))?;
+    let values = values_in(alloc, &state.heap.see(&*dict))?;
     list_or_undo(alloc, state, keys.as_slice(), values.as_slice())
 }
 
 /// A list of the tuples. Where there is none, the tuples are let go.
-fn list_or_undo(
+fn list_or_undo<'a>(
     alloc: Global,
-    state: &mut State,
-    keys: &[Value],
-    values: &[Value],
+    state: &mut State<'a>,
+    keys: &[Operand<'a>],
+    values: &[Operand<'a>],
 ) -> Result<Value, Broken>
     requires { length keys.now ≡ length values.now }
     ensures { Does (listed_tuples keys.now values.now) state.old result state.new }
@@ -52,11 +51,11 @@ fn list_or_undo(
 }
 
 /// A list of the tuples. Where there is none, the heap may have tuples more.
-fn list_tuples(
+fn list_tuples<'a>(
     alloc: Global,
-    state: &mut State,
-    keys: &[Value],
-    values: &[Value],
+    state: &mut State<'a>,
+    keys: &[Operand<'a>],
+    values: &[Operand<'a>],
 ) -> Result<Value, Broken>
     requires { length keys.now ≡ length values.now }
     ensures grown { Grown state.old state.new }
@@ -72,12 +71,12 @@ fn list_tuples(
 }
 
 /// Makes a tuple of each key and its value.
-fn put_tuples(
+fn put_tuples<'a>(
     alloc: Global,
-    state: &mut State,
-    keys: &[Value],
-    values: &[Value],
-    tuples: &mut Items,
+    state: &mut State<'a>,
+    keys: &[Operand<'a>],
+    values: &[Operand<'a>],
+    tuples: &mut Items<'a>,
 ) -> Result<(), Broken>
     requires { length keys.now ≡ length values.now }
     ensures grown { Grown state.old state.new }
@@ -94,12 +93,12 @@ fn put_tuples(
 }
 
 /// Makes a tuple of a key and its value.
-fn put_tuple(
+fn put_tuple<'a>(
     alloc: Global,
-    state: &mut State,
-    key: &Value,
-    value: &Value,
-    tuples: &mut Items,
+    state: &mut State<'a>,
+    key: &Operand<'a>,
+    value: &Operand<'a>,
+    tuples: &mut Items<'a>,
 ) -> Result<(), Broken>
     ensures grown { Grown state.old state.new }
     ensures tuples { MatchResult result
@@ -114,18 +113,18 @@ fn put_tuple(
 }
 
 /// Puts a tuple last.
-fn push(tuples: &mut Items, tuple: Value) -> Result<(), Broken>
+fn push(tuples: &mut Items<'_>, tuple: Value) -> Result<(), Broken>
     ensures { MatchResult result (λ _. tuples.new ≡ tuples.old ++ tuple ∷ [])
         (λ e. e ≡ Broken.NoMemory) }
 {
-    match tuples.push(tuple) {
+    match tuples.push(Operand::own(tuple)) {
         Ok(()) => Ok(()),
         Err(_) => Err(Broken::NoMemory),
     }
 }
 
 /// The items of a tuple of two.
-fn pair(alloc: Global, key: &Value, value: &Value) -> Result<Items, AllocError>
+fn pair<'a>(alloc: Global, key: &Operand<'a>, value: &Operand<'a>) -> Result<Items<'a>, AllocError>
     ensures { IfOk result (λ items. items ≡ key.now ∷ value.now ∷ []) }
 {
     let mut items = Items::with_capacity(alloc, 2)?;
@@ -134,7 +133,7 @@ fn pair(alloc: Global, key: &Value, value: &Value) -> Result<Items, AllocError>
     Ok(items)
 }
 
-fn put(value: &Value, items: &mut Items) -> Result<(), AllocError>
+fn put<'a>(value: &Operand<'a>, items: &mut Items<'a>) -> Result<(), AllocError>
     ensures { OnOk result (items.new ≡ items.old ++ value.now ∷ []) }
 {
     let value = value.share()?;

@@ -34,7 +34,11 @@ pub fn range(
 }
 
 /// The numbers of the arguments' range.
-fn range_of(alloc: Global, heap: &Heap, arguments: &Arguments<'_, '_>) -> Result<Made, Broken>
+fn range_of<'a>(
+    alloc: Global,
+    heap: &Heap,
+    arguments: &Arguments<'_, '_>,
+) -> Result<Made<'a>, Broken>
     ensures { Gives (then_give (positions (given arguments.now)) (range_in heap.now)) result }
 {
     match positions(arguments) {
@@ -44,7 +48,7 @@ fn range_of(alloc: Global, heap: &Heap, arguments: &Arguments<'_, '_>) -> Result
 }
 
 /// The numbers up to the one value, or from the first of two to the second.
-fn range_in(alloc: Global, heap: &Heap, values: &[Operand<'_>]) -> Result<Made, Broken>
+fn range_in<'a>(alloc: Global, heap: &Heap, values: &[Operand<'_>]) -> Result<Made<'a>, Broken>
     ensures { Gives (range_in heap.now values.now) result }
 {
     match values {
@@ -62,7 +66,11 @@ fn range_in(alloc: Global, heap: &Heap, values: &[Operand<'_>]) -> Result<Made, 
 }
 
 /// The numbers between two.
-fn range_between(alloc: Global, first: Option<i64>, end: Option<i64>) -> Result<Made, Broken>
+fn range_between<'a>(
+    alloc: Global,
+    first: Option<i64>,
+    end: Option<i64>,
+) -> Result<Made<'a>, Broken>
     ensures { Gives (range_between first end) result }
 {
     match (first, end) {
@@ -72,7 +80,7 @@ fn range_between(alloc: Global, first: Option<i64>, end: Option<i64>) -> Result<
 }
 
 /// The numbers of a range, unless there are more than a list may have.
-fn numbers(alloc: Global, range: Option<RangeNumbers>) -> Result<Made, Broken>
+fn numbers<'a>(alloc: Global, range: Option<RangeNumbers>) -> Result<Made<'a>, Broken>
     ensures { Gives (numbers range) result }
 {
     match range {
@@ -82,7 +90,7 @@ fn numbers(alloc: Global, range: Option<RangeNumbers>) -> Result<Made, Broken>
 }
 
 /// Numbers as values.
-fn number_items(alloc: Global, numbers: RangeNumbers) -> Result<Items, AllocError>
+fn number_items<'a>(alloc: Global, numbers: RangeNumbers) -> Result<Items<'a>, AllocError>
     ensures { IfOk result (λ items. items ≡ map number numbers) }
 {
     let mut items = Items::with_capacity(alloc, numbers.len())?;
@@ -96,6 +104,6 @@ fn number_items(alloc: Global, numbers: RangeNumbers) -> Result<Items, AllocErro
 fn put_number(value: i64, items: &mut Items) -> Result<(), AllocError>
     ensures { OnOk result (items.new ≡ items.old ++ number value ∷ []) }
 {
-    items.push(Value::Key(Key::Number(value)))?;
+    items.push(Operand::own(Value::Key(Key::Number(value))))?;
     Ok(())
 }

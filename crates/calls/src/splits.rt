@@ -35,7 +35,7 @@ pub fn split(
 }
 
 /// The parts between what a separator shows.
-fn parts_of(alloc: Global, whole: &Text, separator: &Seen<'_>) -> Result<Made, Broken>
+fn parts_of<'a>(alloc: Global, whole: &Text, separator: &Seen<'_, '_>) -> Result<Made<'a>, Broken>
     ensures { Gives (of_type (string_in (seen separator.now))
         (λ sep. then_give (or_string_fault (split_of sep whole.now))
         (λ ts. Ok (Made.List (map text ts))))) result }
@@ -47,7 +47,7 @@ fn parts_of(alloc: Global, whole: &Text, separator: &Seen<'_>) -> Result<Made, B
 }
 
 /// The parts between a separator.
-fn parts(alloc: Global, whole: &Text, separator: &Text) -> Result<Made, Broken>
+fn parts<'a>(alloc: Global, whole: &Text, separator: &Text) -> Result<Made<'a>, Broken>
     ensures { Gives (then_give (or_string_fault (split_of separator.now whole.now))
         (λ ts. Ok (Made.List (map text ts)))) result }
 {
@@ -70,7 +70,7 @@ pub(crate) fn string_fault(error: StringError) -> Kind
 }
 
 /// Texts as values.
-fn text_items(alloc: Global, texts: &[Text]) -> Result<Items, AllocError>
+fn text_items<'a>(alloc: Global, texts: &[Text]) -> Result<Items<'a>, AllocError>
     ensures { IfOk result (λ items. items ≡ map text texts.now) }
 {
     let mut items = Items::with_capacity(alloc, texts.len())?;
@@ -85,6 +85,6 @@ fn put_text(string: &Text, items: &mut Items) -> Result<(), AllocError>
     ensures { OnOk result (items.new ≡ items.old ++ text string.now ∷ []) }
 {
     let string = string.share()?;
-    items.push(Value::Key(Key::Text(string)))?;
+    items.push(Operand::own(Value::Key(Key::Text(string))))?;
     Ok(())
 }

@@ -140,8 +140,8 @@ fn attribute_value<'a>(
 {
     match value {
         AttributeValue::Key(key) => Ok(Operand::lent(Item::Key(key))),
-        AttributeValue::Strings(texts) => Ok(Operand::lent(Item::Tree(texts.get().tree()))),
-        AttributeValue::StringDict(dict) => Ok(Operand::lent(Item::Tree(dict.get().tree()))),
+        AttributeValue::Strings(texts) => Ok(Operand::lent(texts.get().tree().item())),
+        AttributeValue::StringDict(dict) => Ok(Operand::lent(dict.get().tree().item())),
         AttributeValue::Label(None) => Ok(Operand::own(Value::Leaf(Leaf::None))),
         AttributeValue::Label(Some(label)) => {
             let place = dependencies.place(label.get());

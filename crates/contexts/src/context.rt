@@ -88,7 +88,7 @@ impl<'a, I: FileLists> TargetContext<'a, I> {
     pub(crate) fn own_label(&self) -> Item<'_>
         ensures { item_value result ≡ label_value self.now.label.now }
     {
-        Item::Value(&self.own_label)
+        self.own_label.item()
     }
 
     /// `ctx.attr.name`, made anew.

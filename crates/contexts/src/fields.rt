@@ -64,7 +64,7 @@ fn target_field<'a, 'b>(
         return None;
     };
     if name.is(KnownName::Label) {
-        Some(Operand::lent(Item::Tree(dependency.tree)))
+        Some(Operand::lent(dependency.tree.item()))
     } else if name.is(KnownName::Files) {
         files_in(dependencies.instances(place), dependencies.info())
     } else {

@@ -1,8 +1,6 @@
 //! `files` of a target.
 ghost use Rattle.std.specs.Prelude.{◌≡◌, Some, None, option_map, option_copied, codes};
 ghost use Rattle.values.specs.Seeing.{item_value};
-ghost use Rattle.values.specs.Shape.{value_of};
-ghost use Rattle.values.specs.View.{tree_of};
 ghost use Rattle.operations.specs.Instances.{default_info};
 ghost use Rattle.operations.specs.Reading.{leaf_depset};
 ghost use Rattle.contexts.specs.Fields.{depset_value};
@@ -14,7 +12,7 @@ use making::field;
 use operands::Operand;
 use operations::DefaultInfo;
 use plain::Text;
-use values::{Frozen, Held, Item, Leaf, Provider, Seen, Value};
+use values::{Frozen, Item, Leaf, Provider, Seen};
 
 /// The depset in `files` of the `DefaultInfo` among instances, if there is one, where it lies.
 pub(crate) fn files_in<'a>(instances: &'a [Frozen], info: &DefaultInfo) -> Option<Operand<'a>>
@@ -65,26 +63,7 @@ pub(crate) fn item_depset<'a>(item: Item<'a>) -> Option<&'a Depset>
     ensures { option_copied result ≡ value_depset (item_value item.entry) }
 {
     match item {
-        Item::Value(value) => value_depset(value),
-        Item::Tree(tree) => held_depset(tree.held()),
-        Item::Key(_) => None,
-    }
-}
-
-fn value_depset(value: &Value) -> Option<&Depset>
-    ensures { option_copied result ≡ value_depset value.now }
-{
-    match value {
-        Value::Leaf(leaf) => leaf_depset(leaf),
-        _ => None,
-    }
-}
-
-fn held_depset(held: &Held) -> Option<&Depset>
-    ensures { option_copied result ≡ value_depset (value_of (tree_of held.now)) }
-{
-    match held {
-        Held::Leaf(leaf) => leaf_depset(leaf),
+        Item::Leaf(leaf) => leaf_depset(leaf),
         _ => None,
     }
 }

@@ -61,7 +61,7 @@ impl<I: FileLists> KeptLists<I> {
         // A cell holds the list of its own place; no clause says it of a cell, so the place is
         // compared.
         if kept.place == place {
-            Some(Item::Value(&kept.list))
+            Some(kept.list.item())
         } else {
             None
         }

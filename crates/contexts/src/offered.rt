@@ -56,7 +56,7 @@ pub fn offers(
 }
 
 /// The provider that a value is, if it is one.
-fn provider_of<'a>(value: &Seen<'a>) -> Option<&'a Provider>
+fn provider_of<'a>(value: &Seen<'a, '_>) -> Option<&'a Provider>
     ensures { option_copied result ≡ provider_in (seen value.now) }
 {
     match value {
@@ -70,7 +70,7 @@ fn lent_instance<'a>(instances: &'a [Frozen], provider: &Provider) -> Option<Ope
     ensures { result ≡ option_map value_of (instance_of provider.now instances.now) }
 {
     match instance_of(instances, provider) {
-        Some(instance) => Some(Operand::lent(Item::Tree(instance))),
+        Some(instance) => Some(Operand::lent(instance.item())),
         None => None,
     }
 }

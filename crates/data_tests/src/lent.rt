@@ -1,7 +1,7 @@
 //! Operands of one's own and operands that are lent: what no clause says.
-use operands::{Operand, Stored};
+use operands::Operand;
 use std::alloc::{AllocError, Global};
-use values::{Branch, Frozen, Group, Item, Key, Seen, Value};
+use values::{Branch, Frozen, Group, Item, Items, Key, Seen, Value};
 
 /// A frozen list of one number.
 fn listed(alloc: Global) -> Result<Frozen, AllocError> {
@@ -11,24 +11,24 @@ fn listed(alloc: Global) -> Result<Frozen, AllocError> {
 
 /// Whether a second name of what is lent is lent too.
 fn is_lent_again(tree: &Frozen) -> bool {
-    match Operand::lent(Item::Tree(tree)).share() {
-        Ok(again) => matches!(again.stored(), Stored::Lent(_)),
+    match Operand::lent(tree.item()).share() {
+        Ok(again) => again.lent_seen().is_some(),
         Err(_) => false,
     }
 }
 
 /// Whether a branch is one's own once it is kept.
 fn is_kept(tree: &Frozen) -> bool {
-    match Operand::lent(Item::Tree(tree)).into_own() {
-        Ok(kept) => matches!(kept.item(), Item::Value(Value::Frozen(_))),
+    match Operand::lent(tree.item()).into_own() {
+        Ok(kept) => matches!(kept.item(), Item::Branch(_)) && kept.lent_seen().is_none(),
         Err(_) => false,
     }
 }
 
 /// Whether a list that is lent is seen for as long as that.
 fn is_seen(tree: &Frozen) -> bool {
-    let seen = Operand::lent(Item::Tree(tree)).lent_seen();
-    matches!(seen, Some(Seen::List(Group::Trees(_))))
+    let seen = Operand::lent(tree.item()).lent_seen();
+    matches!(seen, Some(Seen::List(Group::Lent(_))))
 }
 
 #[test]
@@ -38,9 +38,40 @@ fn what_is_lent_stays_lent(rt: HostRuntime) -> Result<(), AllocError> {
     Ok(())
 }
 
-/// Whether a value of one's own is kept, and seen no longer than it is there.
+/// Whether the first of some items is lent when it is read.
+fn is_first_lent(group: Group<'_, '_>) -> Result<bool, AllocError> {
+    if group.len() == 0 {
+        return Ok(false);
+    }
+    Ok(group.operand(0)?.lent_seen().is_some())
+}
+
+/// Whether what a list of a heap holds of what is lent is lent when it is read.
+fn is_held_lent(alloc: Global, tree: &Frozen) -> Result<bool, AllocError> {
+    let mut items = Items::new(alloc);
+    items.push(Operand::lent(tree.item()))?;
+    is_first_lent(Group::Values(items.as_slice()))
+}
+
+/// Whether an item of a list that is lent is lent.
+fn is_part_lent(tree: &Frozen) -> Result<bool, AllocError> {
+    match Operand::lent(tree.item()).lent_seen() {
+        Some(Seen::List(group)) => is_first_lent(group),
+        _ => Ok(false),
+    }
+}
+
+#[test]
+fn lists_give_what_is_lent_as_lent(rt: HostRuntime) -> Result<(), AllocError> {
+    let tree = listed(rt.alloc())?;
+    assert!(rt; is_held_lent(rt.alloc(), &tree)?);
+    assert!(rt; is_part_lent(&tree)?);
+    Ok(())
+}
+
+/// Whether a value of one's own is seen no longer than it is there.
 fn is_own(operand: &Operand<'_>) -> bool {
-    matches!(operand.stored(), Stored::Kept(_)) && operand.lent_seen().is_none()
+    operand.lent_seen().is_none()
 }
 
 #[test]

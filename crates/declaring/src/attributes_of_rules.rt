@@ -19,9 +19,9 @@ use values::{AttributeRef, Item, Key, Leaf, Seen, Table, Value};
 /// What a module sees of declarations while it is evaluated: its own, and those of the modules
 /// before it.
 #[derive(Drop)]
-struct Known<'a, A> {
+struct Known<'a, 's, A> {
     linked: &'a A,
-    state: &'a State<'a>,
+    state: &'a State<'s>,
     declared: &'a Declarations,
 }
 
@@ -54,8 +54,8 @@ pub(crate) fn attributes_in<A: Attributes>(
 /// The attributes of a dict from names to declarations.
 fn attributes_shown<A: Attributes>(
     alloc: Global,
-    known: &Known<'_, A>,
-    entries: Table<'_>,
+    known: &Known<'_, '_, A>,
+    entries: Table<'_, '_>,
 ) -> Result<Option<Sequence<NamedAttribute>>, AllocError>
     ensures { IfOk result (λ o. o ≡ option_and_then (if_attributes
         (A.declared known.now.linked.now) known.now.state.now known.now.declared.now)
@@ -74,8 +74,8 @@ fn attributes_shown<A: Attributes>(
 /// Each entry as an attribute.
 fn named_attributes<A: Attributes>(
     alloc: Global,
-    known: &Known<'_, A>,
-    entries: Table<'_>,
+    known: &Known<'_, '_, A>,
+    entries: Table<'_, '_>,
 ) -> Result<Option<Sequence<NamedAttribute>>, AllocError>
     ensures { IfOk result (λ o. o ≡ each_of (attribute_entry (A.declared known.now.linked.now)
         known.now.state.now known.now.declared.now) (table_entries entries.entry)) }
@@ -92,7 +92,7 @@ fn named_attributes<A: Attributes>(
 
 /// An entry as an attribute: a name, and a declaration.
 fn attribute_entry<A: Attributes>(
-    known: &Known<'_, A>,
+    known: &Known<'_, '_, A>,
     key: &Key,
     value: Item<'_>,
 ) -> Result<Option<NamedAttribute>, AllocError>
@@ -119,8 +119,8 @@ fn named_attribute(name: &Text, attribute: &Shared<Attribute>) -> Result<NamedAt
 
 /// The declaration that a value names.
 fn declaration_in<'a, A: Attributes>(
-    known: &Known<'a, A>,
-    value: &Seen<'_>,
+    known: &Known<'a, '_, A>,
+    value: &Seen<'_, '_>,
 ) -> Option<&'a Shared<Attribute>>
     ensures { option_copied result ≡ declaration_in (A.declared known.now.linked.now)
         known.now.state.now known.now.declared.now (seen value.now) }
@@ -133,7 +133,7 @@ fn declaration_in<'a, A: Attributes>(
 
 /// A declaration of this module or of another one.
 fn declaration<'a, A: Attributes>(
-    known: &Known<'a, A>,
+    known: &Known<'a, '_, A>,
     attribute: &AttributeRef,
 ) -> Option<&'a Shared<Attribute>>
     ensures { option_copied result ≡ declaration (A.declared known.now.linked.now)

@@ -37,7 +37,7 @@ fn default_typed(
     alloc: Global,
     heap: &Heap,
     kind: AttributeKind,
-    value: &Seen<'_>,
+    value: &Seen<'_, '_>,
 ) -> Result<Option<AttributeValue>, AllocError>
     ensures { IfOk result (λ o. o ≡ default_typed heap.now kind (seen value.now)) }
 {
@@ -53,7 +53,7 @@ fn default_typed(
 }
 
 /// A string.
-fn text_default(value: &Seen<'_>) -> Result<Option<AttributeValue>, AllocError>
+fn text_default(value: &Seen<'_, '_>) -> Result<Option<AttributeValue>, AllocError>
     ensures { (h : List Cell) → IfOk result
         (λ o. o ≡ default_typed h AttributeKind.String (seen value.now)) }
 {
@@ -64,7 +64,7 @@ fn text_default(value: &Seen<'_>) -> Result<Option<AttributeValue>, AllocError>
 }
 
 /// A whole number.
-fn number_default(value: &Seen<'_>) -> Option<AttributeValue>
+fn number_default(value: &Seen<'_, '_>) -> Option<AttributeValue>
     ensures { (h : List Cell) → result ≡ default_typed h AttributeKind.Int (seen value.now) }
 {
     match value {
@@ -74,7 +74,7 @@ fn number_default(value: &Seen<'_>) -> Option<AttributeValue>
 }
 
 /// A bool.
-fn truth_default(value: &Seen<'_>) -> Option<AttributeValue>
+fn truth_default(value: &Seen<'_, '_>) -> Option<AttributeValue>
     ensures { (h : List Cell) → result ≡ default_typed h AttributeKind.Bool (seen value.now) }
 {
     match value {
@@ -87,7 +87,7 @@ fn truth_default(value: &Seen<'_>) -> Option<AttributeValue>
 fn strings_default(
     alloc: Global,
     heap: &Heap,
-    value: &Seen<'_>,
+    value: &Seen<'_, '_>,
 ) -> Result<Option<AttributeValue>, AllocError>
     ensures { IfOk result
         (λ o. o ≡ default_typed heap.now AttributeKind.StringList (seen value.now)) }
@@ -105,7 +105,7 @@ fn strings_default(
 fn dict_default(
     alloc: Global,
     heap: &Heap,
-    value: &Seen<'_>,
+    value: &Seen<'_, '_>,
 ) -> Result<Option<AttributeValue>, AllocError>
     ensures { IfOk result
         (λ o. o ≡ default_typed heap.now AttributeKind.StringDict (seen value.now)) }
@@ -120,7 +120,7 @@ fn dict_default(
 }
 
 /// None, or a label.
-fn label_default(alloc: Global, value: &Seen<'_>) -> Result<Option<AttributeValue>, AllocError>
+fn label_default(alloc: Global, value: &Seen<'_, '_>) -> Result<Option<AttributeValue>, AllocError>
     ensures { (h : List Cell) → IfOk result
         (λ o. o ≡ default_typed h AttributeKind.Label (seen value.now)) }
 {
@@ -138,7 +138,7 @@ fn label_default(alloc: Global, value: &Seen<'_>) -> Result<Option<AttributeValu
 fn labels_default(
     alloc: Global,
     heap: &Heap,
-    value: &Seen<'_>,
+    value: &Seen<'_, '_>,
 ) -> Result<Option<AttributeValue>, AllocError>
     ensures { IfOk result
         (λ o. o ≡ default_typed heap.now AttributeKind.LabelList (seen value.now)) }
@@ -151,10 +151,10 @@ fn labels_default(
 }
 
 /// The labels that items are.
-fn labels_value(
+fn labels_value<'b>(
     alloc: Global,
-    heap: &Heap,
-    items: Group<'_>,
+    heap: &'b Heap,
+    items: Group<'b, '_>,
 ) -> Result<Option<AttributeValue>, AllocError>
     ensures { IfOk result (λ o. o ≡ option_map AttributeValue.Labels
         (each_of (λ v. whole_label_in (shape heap.now v)) (group_items items.entry))) }

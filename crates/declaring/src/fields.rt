@@ -20,7 +20,7 @@ use values::{Group, Item, Key, Names, Seen, Table};
 pub(crate) fn fields_in(
     alloc: Global,
     heap: &Heap,
-    value: &Seen<'_>,
+    value: &Seen<'_, '_>,
 ) -> Result<Option<Names>, AllocError>
     ensures { IfOk result (λ o. o ≡ fields_in heap.now (seen value.now)) }
 {
@@ -33,7 +33,11 @@ pub(crate) fn fields_in(
 }
 
 /// Names that are distinct.
-fn distinct_names(alloc: Global, heap: &Heap, items: Group<'_>) -> Result<Option<Names>, AllocError>
+fn distinct_names<'b>(
+    alloc: Global,
+    heap: &'b Heap,
+    items: Group<'b, '_>,
+) -> Result<Option<Names>, AllocError>
     ensures { IfOk result (λ o. o ≡ option_and_then if_distinct
         (each_of (λ v. name_in (shape heap.now v)) (group_items items.entry))) }
 {
@@ -70,10 +74,10 @@ fn are_distinct(alloc: Global, names: &[Text]) -> Result<bool, AllocError>
 }
 
 /// The names of entries whose values are strings.
-fn documented_names(
+fn documented_names<'b>(
     alloc: Global,
-    heap: &Heap,
-    entries: Table<'_>,
+    heap: &'b Heap,
+    entries: Table<'b, '_>,
 ) -> Result<Option<Names>, AllocError>
     ensures { IfOk result
         (λ o. o ≡ each_of (documented_name heap.now) (table_entries entries.entry)) }

@@ -20,10 +20,10 @@ use values::{AttributeKind, Group, Key, Leaf, Names, Provider, Seen};
 use workspace::{Label, LabelRefused};
 
 /// Strings.
-pub(crate) fn strings(
+pub(crate) fn strings<'b>(
     alloc: Global,
-    heap: &Heap,
-    items: Group<'_>,
+    heap: &'b Heap,
+    items: Group<'b, '_>,
 ) -> Result<Option<Names>, AllocError>
     ensures { IfOk result (λ o. o ≡ each_of (λ v. string_in (shape heap.now v))
         (group_items items.entry)) }
@@ -39,7 +39,7 @@ pub(crate) fn strings(
 }
 
 /// A string.
-fn string_in(value: &Seen<'_>) -> Result<Option<Text>, AllocError>
+fn string_in(value: &Seen<'_, '_>) -> Result<Option<Text>, AllocError>
     ensures { IfOk result (λ o. o ≡ string_in (seen value.now)) }
 {
     match text_of(value) {
@@ -49,10 +49,10 @@ fn string_in(value: &Seen<'_>) -> Result<Option<Text>, AllocError>
 }
 
 /// Names.
-pub(crate) fn names(
+pub(crate) fn names<'b>(
     alloc: Global,
-    heap: &Heap,
-    items: Group<'_>,
+    heap: &'b Heap,
+    items: Group<'b, '_>,
 ) -> Result<Option<Names>, AllocError>
     ensures { IfOk result (λ o. o ≡ each_of (λ v. name_in (shape heap.now v))
         (group_items items.entry)) }
@@ -68,7 +68,7 @@ pub(crate) fn names(
 }
 
 /// A name.
-pub(crate) fn name_in(value: &Seen<'_>) -> Result<Option<Text>, AllocError>
+pub(crate) fn name_in(value: &Seen<'_, '_>) -> Result<Option<Text>, AllocError>
     ensures { IfOk result (λ o. o ≡ name_in (seen value.now)) }
 {
     match name_of(value) {
@@ -78,10 +78,10 @@ pub(crate) fn name_in(value: &Seen<'_>) -> Result<Option<Text>, AllocError>
 }
 
 /// Labels that begin with `//`.
-pub(crate) fn whole_labels(
+pub(crate) fn whole_labels<'b>(
     alloc: Global,
-    heap: &Heap,
-    items: Group<'_>,
+    heap: &'b Heap,
+    items: Group<'b, '_>,
 ) -> Result<Option<Sequence<Shared<Label>>>, AllocError>
     ensures { IfOk result (λ o. o ≡ each_of (λ v. whole_label_in (shape heap.now v))
         (group_items items.entry)) }
@@ -97,7 +97,7 @@ pub(crate) fn whole_labels(
 }
 
 /// A label that begins with `//`, as its text.
-fn whole_label_in(alloc: Global, value: &Seen<'_>) -> Result<Option<Shared<Label>>, AllocError>
+fn whole_label_in(alloc: Global, value: &Seen<'_, '_>) -> Result<Option<Shared<Label>>, AllocError>
     ensures { IfOk result (λ o. o ≡ whole_label_in (seen value.now)) }
 {
     match text_of(value) {
@@ -118,11 +118,11 @@ pub(crate) fn whole_label(alloc: Global, text: &str) -> Result<Option<Shared<Lab
 }
 
 /// Strings, or whole numbers, as the kind has them.
-pub(crate) fn keys(
+pub(crate) fn keys<'b>(
     alloc: Global,
-    heap: &Heap,
+    heap: &'b Heap,
     kind: AttributeKind,
-    items: Group<'_>,
+    items: Group<'b, '_>,
 ) -> Result<Option<Sequence<Key>>, AllocError>
     ensures { IfOk result (λ o. o ≡ each_of (λ v. key_of_kind kind (shape heap.now v))
         (group_items items.entry)) }
@@ -138,7 +138,7 @@ pub(crate) fn keys(
 }
 
 /// A string of an attribute of strings, a whole number of one of numbers.
-fn key_of_kind(kind: AttributeKind, value: &Seen<'_>) -> Result<Option<Key>, AllocError>
+fn key_of_kind(kind: AttributeKind, value: &Seen<'_, '_>) -> Result<Option<Key>, AllocError>
     ensures { IfOk result (λ o. o ≡ key_of_kind kind (seen value.now)) }
 {
     match (kind, value) {
@@ -149,10 +149,10 @@ fn key_of_kind(kind: AttributeKind, value: &Seen<'_>) -> Result<Option<Key>, All
 }
 
 /// Providers.
-pub(crate) fn providers(
+pub(crate) fn providers<'b>(
     alloc: Global,
-    heap: &Heap,
-    items: Group<'_>,
+    heap: &'b Heap,
+    items: Group<'b, '_>,
 ) -> Result<Option<Sequence<Shared<Provider>>>, AllocError>
     ensures { IfOk result (λ o. o ≡ all_providers heap.now (group_items items.entry)) }
 {
@@ -167,7 +167,7 @@ pub(crate) fn providers(
 }
 
 /// A provider.
-fn provider_in(value: &Seen<'_>) -> Result<Option<Shared<Provider>>, AllocError>
+fn provider_in(value: &Seen<'_, '_>) -> Result<Option<Shared<Provider>>, AllocError>
     ensures { IfOk result (λ o. o ≡ provider_in (seen value.now)) }
 {
     match value {
@@ -177,10 +177,10 @@ fn provider_in(value: &Seen<'_>) -> Result<Option<Shared<Provider>>, AllocError>
 }
 
 /// Lists of providers.
-pub(crate) fn lists_of_providers(
+pub(crate) fn lists_of_providers<'b>(
     alloc: Global,
-    heap: &Heap,
-    items: Group<'_>,
+    heap: &'b Heap,
+    items: Group<'b, '_>,
 ) -> Result<Option<Sequence<Sequence<Shared<Provider>>>>, AllocError>
     ensures { IfOk result (λ o. o ≡ each_of
         (λ v. option_and_then (all_providers heap.now) (sequence_in (shape heap.now v)))
@@ -200,7 +200,7 @@ pub(crate) fn lists_of_providers(
 fn providers_in(
     alloc: Global,
     heap: &Heap,
-    value: &Seen<'_>,
+    value: &Seen<'_, '_>,
 ) -> Result<Option<Sequence<Shared<Provider>>>, AllocError>
     ensures { IfOk result
         (λ o. o ≡ option_and_then (all_providers heap.now) (sequence_in (seen value.now))) }

@@ -11,7 +11,7 @@ use state::text_of;
 use values::{Key, Leaf, Seen};
 
 /// The name that a value is, if it is one.
-pub(crate) fn name_of<'a>(value: &Seen<'a>) -> Option<&'a Text>
+pub(crate) fn name_of<'a>(value: &Seen<'a, '_>) -> Option<&'a Text>
     ensures { option_copied result ≡ name_in (seen value.now) }
 {
     let Some(text) = text_of(value) else {
@@ -41,7 +41,7 @@ pub(crate) fn may_be_doc(heap: &Heap, value: Option<&Operand<'_>>) -> bool
 }
 
 /// Whether a value is a string or None.
-fn is_doc(value: &Seen<'_>) -> bool
+fn is_doc(value: &Seen<'_, '_>) -> bool
     ensures { result ≡ is_doc (seen value.now) }
 {
     match value {

@@ -28,7 +28,7 @@ pub(crate) fn mandatory_in(heap: &Heap, value: Option<&Operand<'_>>) -> Option<b
 }
 
 /// A bool.
-fn truth_in(value: &Seen<'_>) -> Option<bool>
+fn truth_in(value: &Seen<'_, '_>) -> Option<bool>
     ensures { result ≡ truth_in (seen value.now) }
 {
     match value {
@@ -73,10 +73,10 @@ pub(crate) fn providers_in(
 }
 
 /// One list of providers, or several.
-fn provider_lists(
+fn provider_lists<'b>(
     alloc: Global,
-    heap: &Heap,
-    items: Group<'_>,
+    heap: &'b Heap,
+    items: Group<'b, '_>,
 ) -> Result<Option<Sequence<Sequence<Shared<Provider>>>>, AllocError>
     ensures { IfOk result (λ o. o ≡ provider_lists heap.now (group_items items.entry)) }
 {
@@ -119,7 +119,7 @@ pub(crate) fn allow_files_in(
 fn files_shown(
     alloc: Global,
     heap: &Heap,
-    value: &Seen<'_>,
+    value: &Seen<'_, '_>,
 ) -> Result<Option<AllowFiles>, AllocError>
     ensures { IfOk result (λ o. o ≡ files_shown heap.now (seen value.now)) }
 {
@@ -133,10 +133,10 @@ fn files_shown(
 }
 
 /// Files whose paths end with one of the strings that items are.
-fn files_ending(
+fn files_ending<'b>(
     alloc: Global,
-    heap: &Heap,
-    items: Group<'_>,
+    heap: &'b Heap,
+    items: Group<'b, '_>,
 ) -> Result<Option<AllowFiles>, AllocError>
     ensures { IfOk result (λ o. o ≡ option_map AllowFiles.Ending
         (each_of (λ v. string_in (shape heap.now v)) (group_items items.entry))) }

@@ -94,7 +94,7 @@ fn rule_with<A: Attributes>(
 }
 
 /// The function that a value is, if it was written in Starlark.
-fn function_in<'a>(value: &Seen<'a>) -> Option<&'a Shared<FunctionRef>>
+fn function_in<'a>(value: &Seen<'a, '_>) -> Option<&'a Shared<FunctionRef>>
     ensures { option_copied result ≡ function_in (seen value.now) }
 {
     match value {

@@ -4,14 +4,14 @@ ghost use Rattle.evaluation.specs.Runs.{if_named, module_ended, naming_of};
 
 use crate::handing::{named_defaults, named_globals};
 use crate::naming::Naming;
-use evaluation::{Module, TopNames};
+use evaluation::{LoadedValues, Module, TopNames};
 use frozen_modules::{Left, freeze_all};
 use loading::{Ending, Placed};
 use operations::State;
 use plain::{Shared, Text};
 use std::alloc::{AllocError, Global};
 use targets::Declarations;
-use values::{Broken, Fields, Frozen, Kind};
+use values::{Broken, Frozen, Kind};
 
 /// The names that globals give.
 fn naming_of(
@@ -35,7 +35,7 @@ fn module_named(
     naming: &Naming,
     names: Shared<TopNames>,
     left: &Left,
-    loaded: Fields,
+    loaded: LoadedValues,
     made: Declarations,
 ) -> Result<Option<Module>, AllocError>
     ensures { IfOk result (λ o. MatchOption o
@@ -65,7 +65,7 @@ fn named_module(
     file: u32,
     names: Shared<TopNames>,
     left: &Left,
-    loaded: Fields,
+    loaded: LoadedValues,
     made: Declarations,
 ) -> Result<Option<Module>, AllocError>
     ensures { let naming = naming_of path.now file names left.now.globals.items made in
@@ -128,7 +128,7 @@ pub fn end_module(
     } = state;
     match freeze_all(alloc, &heap, globals.as_slice(), &defaults, &mut ticks) {
         Ok(left) => {
-            let loaded = loaded.to_fields(alloc)?;
+            let loaded = LoadedValues::of(loaded.to_values(alloc)?);
             match named_module(alloc, path, file, names, &left, loaded, made)? {
                 Some(module) => Ok(Ok(module)),
                 None => Ok(Err(Ending::Unnamed)),

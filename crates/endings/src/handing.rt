@@ -5,11 +5,10 @@ ghost use Rattle.evaluation.specs.Naming.{named, slot_named};
 
 use crate::naming::Naming;
 use crate::renaming::{rename, rename_fields};
-use evaluation::Globals;
-use operations::Defaults;
+use evaluation::{FunctionDefaults, Globals, ModuleDefaults};
 use std::alloc::{AllocError, Global};
 use targets::Sequence;
-use values::{Frozen, Items, Value};
+use values::{Frozen, Value};
 
 /// The globals.
 pub(crate) fn named_globals(
@@ -37,7 +36,7 @@ fn named_value(alloc: Global, naming: &Naming, tree: &Frozen) -> Result<Value, A
 fn put_named(
     alloc: Global,
     naming: &Naming,
-    items: &mut Items,
+    items: &mut FunctionDefaults,
     tree: &Frozen,
 ) -> Result<(), AllocError>
     ensures { OnOk result
@@ -49,10 +48,14 @@ fn put_named(
 }
 
 /// The defaults of a function.
-fn named_items(alloc: Global, naming: &Naming, trees: &[Frozen]) -> Result<Items, AllocError>
+fn named_items(
+    alloc: Global,
+    naming: &Naming,
+    trees: &[Frozen],
+) -> Result<FunctionDefaults, AllocError>
     ensures { IfOk result (λ v. v ≡ map (λ t. value_of (named naming.now t)) trees.now) }
 {
-    let mut items = Items::with_capacity(alloc, trees.len())?;
+    let mut items = FunctionDefaults::with_capacity(alloc, trees.len())?;
     for tree in trees {
         put_named(alloc, naming, &mut items, tree)?;
     }
@@ -64,11 +67,11 @@ pub(crate) fn named_defaults(
     alloc: Global,
     naming: &Naming,
     defaults: &[Sequence<Frozen>],
-) -> Result<Defaults, AllocError>
+) -> Result<ModuleDefaults, AllocError>
     ensures { IfOk result
         (λ d. d ≡ map (map (λ t. value_of (named naming.now t))) defaults.now) }
 {
-    let mut all = Defaults::new(alloc);
+    let mut all = ModuleDefaults::new(alloc);
     for trees in defaults {
         let items = named_items(alloc, naming, trees.as_slice())?;
         all.push(items)?;

@@ -11,7 +11,7 @@ use values::{Fields, Items, Ticks};
 use workspace::Label;
 
 /// So many names, none of which is bound.
-fn unbound(alloc: Global, count: usize) -> Result<Fields, AllocError>
+fn unbound<'a>(alloc: Global, count: usize) -> Result<Fields<'a>, AllocError>
     ensures { IfOk result (λ f. f ≡ replicate count None) }
 {
     let mut fields = Fields::with_capacity(alloc, count)?;
@@ -22,7 +22,7 @@ fn unbound(alloc: Global, count: usize) -> Result<Fields, AllocError>
 }
 
 /// The defaults of so many functions, which have none.
-fn no_defaults(alloc: Global, count: usize) -> Result<Defaults, AllocError>
+fn no_defaults<'a>(alloc: Global, count: usize) -> Result<Defaults<'a>, AllocError>
     ensures { IfOk result (λ d. d ≡ replicate count []) }
 {
     let mut defaults = Defaults::new(alloc);

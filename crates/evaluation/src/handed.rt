@@ -7,12 +7,12 @@ ghost use Rattle.operations.specs.Names.{listed};
 ghost use Rattle.evaluation.specs.Evaluated.{frozen_value, global_names, global_named};
 ghost use Rattle.evaluation.specs.Evaluated.{name_value};
 
+use crate::kept::{LoadedValues, ModuleDefaults};
 use crate::names::TopNames;
-use operations::Defaults;
 use plain::{Shared, Text};
 use std::marker::Model;
 use targets::Declarations;
-use values::{Fields, Frozen, Item, Value};
+use values::{Frozen, Item, Value};
 
 /// The frozen values of the globals of a module, by the numbers of their names.
 #[derive(Drop)]
@@ -57,9 +57,9 @@ pub struct Module {
     /// The frozen values of its globals.
     pub globals: Globals,
     /// The values of the names that its loads bind, by number. Its functions read them later.
-    pub loaded: Fields,
+    pub loaded: LoadedValues,
     /// The frozen defaults of its functions, by the function's number and by parameter.
-    pub defaults: Defaults,
+    pub defaults: ModuleDefaults,
     /// The providers, rules and attributes that it made.
     pub made: Declarations,
 }
@@ -69,7 +69,7 @@ fn frozen_at(trees: &[Option<Frozen>], place: usize) -> Option<Item<'_>>
     ensures { option_value result ≡ frozen_value trees.now place }
 {
     match trees.get(place) {
-        Some(Some(tree)) => Some(Item::Tree(tree)),
+        Some(Some(tree)) => Some(tree.item()),
         _ => None,
     }
 }
@@ -79,7 +79,7 @@ fn value_at(values: &[Option<Value>], place: usize) -> Option<Item<'_>>
     ensures { option_value result ≡ option_flatten (slice_get values.now place) }
 {
     match values.get(place) {
-        Some(Some(value)) => Some(Item::Value(value)),
+        Some(Some(value)) => Some(value.item()),
         _ => None,
     }
 }

@@ -9,8 +9,10 @@
 
 mod beginning;
 mod handed;
+mod kept;
 mod names;
 
 pub use beginning::{first_state, state_of_target};
 pub use handed::{Globals, Module};
+pub use kept::{FunctionDefaults, LoadedValues, ModuleDefaults};
 pub use names::TopNames;

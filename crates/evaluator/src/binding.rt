@@ -66,11 +66,11 @@ fn lent<'a>(value: Option<Item<'a>>) -> Result<Operand<'a>, Broken>
 /// # Errors
 ///
 /// `AllocError` where a count is at its greatest.
-pub(crate) fn set_global<W>(
-    whole: &mut Whole<W>,
+pub(crate) fn set_global<'a, W>(
+    whole: &mut Whole<'a, W>,
     file: usize,
     number: usize,
-    value: Operand<'_>,
+    value: Operand<'a>,
 ) -> Result<(), AllocError>
     ensures { IfOk result (λ _. whole.new ≡ record whole.old {
       state = set_global file number value.entry whole.old.state;
@@ -78,7 +78,7 @@ pub(crate) fn set_global<W>(
 {
     let own = whole.state.file;
     if file == own as usize {
-        making::set_global(&mut whole.state, own, number, value.into_value()?);
+        making::set_global(&mut whole.state, own, number, value);
     }
     Ok(())
 }
@@ -123,15 +123,15 @@ pub(crate) fn load<'a, L: Link<'a>, W>(
 
 /// The function that a `def` makes, with the values of its defaults. A number that is too large for
 /// a value is answered as want of memory.
-pub(crate) fn define<W>(
+pub(crate) fn define<'a, W>(
     alloc: Global,
-    whole: &mut Whole<W>,
+    whole: &mut Whole<'a, W>,
     function: FunctionId,
     name: &Text,
-    defaults: Items,
+    defaults: Items<'a>,
 ) -> Result<Value, Broken>
-    ensures { Says (of_state (define (made_id (id_seen function)) name.now defaults) whole.old)
-        result whole.new }
+    ensures { Says (of_state (define (made_id (id_seen function)) name.now defaults.entry)
+        whole.old) result whole.new }
 {
     match made_id(function) {
         Some(id) => making::define(alloc, &mut whole.state, id, name, defaults),
@@ -142,25 +142,25 @@ pub(crate) fn define<W>(
 /// The defaults that a function's `def` kept, which a linked module lends.
 pub(crate) fn defaults<'a, 'b, L: Link<'a>>(
     linked: &L,
-    state: &'b State<'_>,
+    state: &'b State<'a>,
     function: FunctionId,
 ) -> Defaults<'a, 'b>
     ensures { defaults_seen result
         ≡ defaults (L.linked linked.now) (made_id (id_seen function)) state.now }
 {
     if function.file == state.file as usize {
-        Defaults::Kept(listed(state.defaults.get(function.number)))
+        kept(state.defaults.get(function.number))
     } else {
         Defaults::Lent(linked.defaults(function.file, function.number))
     }
 }
 
-/// Defaults, none where nothing is kept.
-fn listed(defaults: Option<&Items>) -> &[Value]
-    ensures { result.now ≡ listed (option_copied defaults.entry) }
+/// Defaults that the state keeps, none where it keeps nothing.
+fn kept<'a, 'b>(defaults: Option<&'b Items<'a>>) -> Defaults<'a, 'b>
+    ensures { defaults_seen result ≡ listed (option_copied defaults.entry) }
 {
     match defaults {
-        Some(defaults) => defaults.as_slice(),
-        None => &[],
+        Some(defaults) => Defaults::Kept(defaults.as_slice()),
+        None => Defaults::Lent(&[]),
     }
 }

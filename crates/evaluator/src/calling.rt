@@ -30,7 +30,7 @@ use values::{Broken, BuiltIn, Item, Kind, Leaf, Value};
 #[inline(always)]
 pub(crate) fn call<'a, L: Link<'a>, P: Place<'a>>(
     world: &World<'_, L, P>,
-    whole: &mut Whole<P::Work>,
+    whole: &mut Whole<'a, P::Work>,
     callee: &Callee<'a>,
     items: &mut Stack<Operand<'a>>,
     names: &[Text],
@@ -77,7 +77,7 @@ fn arguments<'a, 'v>(
 #[inline(always)]
 fn call_with<'a, L: Link<'a>, P: Place<'a>>(
     world: &World<'_, L, P>,
-    whole: &mut Whole<P::Work>,
+    whole: &mut Whole<'a, P::Work>,
     callee: &Callee<'a>,
     arguments: &Arguments<'_, 'a>,
 ) -> Result<Operand<'a>, Broken>
@@ -93,9 +93,9 @@ fn call_with<'a, L: Link<'a>, P: Place<'a>>(
 /// A call of a value.
 fn call_value<'a, L: Link<'a>, P: Place<'a>>(
     world: &World<'_, L, P>,
-    whole: &mut Whole<P::Work>,
+    whole: &mut Whole<'a, P::Work>,
     value: Item<'_>,
-    arguments: &Arguments<'_, '_>,
+    arguments: &Arguments<'_, 'a>,
 ) -> Result<Value, Broken>
     ensures { Says (value_call (L.linked world.now.linked.now) (P.place world.now.place.now)
         (item_value value.entry) (given arguments.now) whole.old) result whole.new }
@@ -110,9 +110,9 @@ fn call_value<'a, L: Link<'a>, P: Place<'a>>(
 #[inline(always)]
 fn call_leaf<'a, L: Link<'a>, P: Place<'a>>(
     world: &World<'_, L, P>,
-    whole: &mut Whole<P::Work>,
+    whole: &mut Whole<'a, P::Work>,
     leaf: &Leaf,
-    arguments: &Arguments<'_, '_>,
+    arguments: &Arguments<'_, 'a>,
 ) -> Result<Value, Broken>
     ensures { Says (leaf_call (L.linked world.now.linked.now) (P.place world.now.place.now)
         leaf.now (given arguments.now) whole.old) result whole.new }
@@ -131,9 +131,9 @@ fn call_leaf<'a, L: Link<'a>, P: Place<'a>>(
 #[inline(always)]
 fn call_built_in<'a, L: Link<'a>, P: Place<'a>>(
     world: &World<'_, L, P>,
-    whole: &mut Whole<P::Work>,
+    whole: &mut Whole<'a, P::Work>,
     function: BuiltIn,
-    arguments: &Arguments<'_, '_>,
+    arguments: &Arguments<'_, 'a>,
 ) -> Result<Value, Broken>
     ensures { Says (or_place (L.linked world.now.linked.now) (P.place world.now.place.now)
         (Plain.BuiltIn function) (given arguments.now)
@@ -151,7 +151,7 @@ fn call_built_in<'a, L: Link<'a>, P: Place<'a>>(
 /// A call of a method of a value.
 fn call_method<'a, L: Link<'a>, P: Place<'a>>(
     world: &World<'_, L, P>,
-    whole: &mut Whole<P::Work>,
+    whole: &mut Whole<'a, P::Work>,
     value: &Operand<'a>,
     name: &FieldName,
     arguments: &Arguments<'_, 'a>,
@@ -171,10 +171,10 @@ fn call_method<'a, L: Link<'a>, P: Place<'a>>(
 /// A call of a method of a target or an object.
 fn call_placed<'a, L: Link<'a>, P: Place<'a>>(
     world: &World<'_, L, P>,
-    whole: &mut Whole<P::Work>,
+    whole: &mut Whole<'a, P::Work>,
     value: Item<'_>,
     name: &FieldName,
-    arguments: &Arguments<'_, '_>,
+    arguments: &Arguments<'_, 'a>,
 ) -> Result<Value, Broken>
     ensures { Says (place_method (L.linked world.now.linked.now) (P.place world.now.place.now)
         (of_place (item_value value.entry)) name.now (given arguments.now) whole.old) result

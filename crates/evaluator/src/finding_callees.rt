@@ -17,7 +17,7 @@ use values::{Broken, Leaf};
 /// method is moved, and its name lies in the code.
 pub(crate) fn find<'a, L: Link<'a>, P: Place<'a>>(
     world: &World<'_, L, P>,
-    whole: &Whole<P::Work>,
+    whole: &Whole<'a, P::Work>,
     owner: Operand<'a>,
     name: &'a FieldName,
 ) -> Result<Callee<'a>, Broken>
@@ -34,7 +34,7 @@ pub(crate) fn find<'a, L: Link<'a>, P: Place<'a>>(
 /// The field that is called, or None where it is a method.
 fn found<'a, L: Link<'a>, P: Place<'a>>(
     world: &World<'_, L, P>,
-    whole: &Whole<P::Work>,
+    whole: &Whole<'a, P::Work>,
     owner: &Operand<'a>,
     name: &FieldName,
 ) -> Result<Option<Operand<'a>>, Broken>
@@ -51,7 +51,7 @@ fn found<'a, L: Link<'a>, P: Place<'a>>(
 /// The same, of a target or an object.
 fn found_at_place<'a, L: Link<'a>, P: Place<'a>>(
     world: &World<'_, L, P>,
-    whole: &Whole<P::Work>,
+    whole: &Whole<'a, P::Work>,
     _owner: &Operand<'a>,
     leaf: &Leaf,
     name: &FieldName,
@@ -69,7 +69,7 @@ fn found_at_place<'a, L: Link<'a>, P: Place<'a>>(
 /// The same, of another value.
 fn found_in_value<'a, L: Link<'a>, P: Place<'a>>(
     world: &World<'_, L, P>,
-    whole: &Whole<P::Work>,
+    whole: &Whole<'a, P::Work>,
     owner: &Operand<'a>,
     name: &FieldName,
 ) -> Result<Option<Operand<'a>>, Broken>

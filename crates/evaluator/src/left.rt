@@ -21,30 +21,30 @@ use values::{
 #[derive(Drop)]
 pub enum Left<'a> {
     /// Those of a list or tuple of the heap.
-    HeldItems(HeldItemsLeft),
+    HeldItems(HeldItemsLeft<'a>),
     /// The keys of a dict of the heap.
-    HeldKeys(HeldKeysLeft),
+    HeldKeys(HeldKeysLeft<'a>),
     /// Those of a frozen value of one's own.
     Frozen(FrozenLeft),
     /// Those of a list or tuple that is lent.
-    Items(GroupIter<'a>),
+    Items(GroupIter<'a, 'a>),
     /// The keys of a dict that is lent, with their values.
-    Keys(TableIter<'a>),
+    Keys(TableIter<'a, 'a>),
     /// None: of what isn't walked.
     Nothing,
 }
 
 /// The items of a list or tuple of the heap from a place on.
 #[derive(Drop)]
-pub struct HeldItemsLeft {
-    items: HeldItems,
+pub struct HeldItemsLeft<'a> {
+    items: HeldItems<'a>,
     place: usize,
 }
 
 /// The keys of a dict of the heap from a place on.
 #[derive(Drop)]
-pub struct HeldKeysLeft {
-    entries: HeldEntries,
+pub struct HeldKeysLeft<'a> {
+    entries: HeldEntries<'a>,
     place: usize,
 }
 
@@ -57,7 +57,7 @@ pub struct FrozenLeft {
 
 impl<'a> Left<'a> {
     /// All that a value shows that is walked and lent.
-    pub(crate) fn lent(walked: &Seen<'a>) -> Left<'a>
+    pub(crate) fn lent(walked: &Seen<'a, 'a>) -> Left<'a>
         ensures { left_seen result ≡ walked_items (seen walked.now) }
     {
         match *walked {
@@ -74,7 +74,7 @@ impl<'a> Left<'a> {
     /// # Errors
     ///
     /// `AllocError` where there is no memory for a count, or where one is at its greatest.
-    pub(crate) fn own(heap: &mut Heap, walked: &Value) -> Result<Left<'a>, AllocError>
+    pub(crate) fn own(heap: &mut Heap<'a>, walked: &Value) -> Result<Left<'a>, AllocError>
         ensures same { heap.new ≡ heap.old }
         ensures ok { IfOk result (λ left. left_seen left
             ≡ walked_items (shape heap.old walked.now)) }
@@ -113,8 +113,8 @@ impl<'a> Left<'a> {
 }
 
 /// All that is shared of a cell.
-fn held_from_first<'a>(walked: Walked) -> Left<'a>
-    ensures { left_seen result ≡ walked_values walked }
+fn held_from_first<'a>(walked: Walked<'a>) -> Left<'a>
+    ensures { left_seen result ≡ walked_values walked.entry }
 {
     match walked {
         Walked::Items(items) => Left::HeldItems(HeldItemsLeft { items, place: 0 }),
@@ -123,9 +123,18 @@ fn held_from_first<'a>(walked: Walked) -> Left<'a>
     }
 }
 
-/// The item at a place, None from the end on.
+/// The item of a cell at a place, None from the end on.
 #[inline(always)]
-fn item_at<'b>(items: Group<'b>, place: usize) -> Option<Item<'b>>
+fn held_at<'b, 'a>(items: &'b [Operand<'a>], place: usize) -> Option<&'b Operand<'a>>
+    ensures { MatchOption result (drop place items.now ≡ []) (λ item.
+        (drop place items.now ≡ item.now ∷ drop (place + 1) items.now)
+        × (place + 1 < 2 ^ 64)) }
+{
+    items.get(place)
+}
+
+/// The item at a place, None from the end on.
+fn item_at<'b>(items: Group<'b, '_>, place: usize) -> Option<Item<'b>>
     ensures { MatchOption result (drop place (group_items items.entry) ≡ []) (λ item.
         (drop place (group_items items.entry)
         ≡ item_value item ∷ drop (place + 1) (group_items items.entry))
@@ -140,7 +149,7 @@ fn item_at<'b>(items: Group<'b>, place: usize) -> Option<Item<'b>>
 
 /// The key at a place, None from the end on.
 #[inline(always)]
-fn key_at<'b>(entries: Table<'b>, place: usize) -> Option<&'b Key>
+fn key_at<'b>(entries: Table<'b, '_>, place: usize) -> Option<&'b Key>
     ensures { MatchOption result (drop place (table_keys entries.entry) ≡ []) (λ key.
         (drop place (table_keys entries.entry)
         ≡ Value.Key key.now ∷ drop (place + 1) (table_keys entries.entry))
@@ -155,28 +164,28 @@ fn key_at<'b>(entries: Table<'b>, place: usize) -> Option<&'b Key>
     }
 }
 
-impl HeldItemsLeft {
+impl<'a> HeldItemsLeft<'a> {
     /// The next item.
     #[inline(always)]
-    fn next<'a>(&mut self) -> Result<Option<Operand<'a>>, AllocError>
+    fn next(&mut self) -> Result<Option<Operand<'a>>, AllocError>
         ensures { IfOk result (λ next. Gives (held_items_seen self.old) next
             (held_items_seen self.new)) }
     {
-        match item_at(Group::Values(self.items.as_slice()), self.place) {
+        match held_at(self.items.as_slice(), self.place) {
             Some(item) => {
-                let value = item.to_value()?;
+                let item = item.share()?;
                 self.place += 1;
-                Ok(Some(Operand::own(value)))
+                Ok(Some(item))
             }
             None => Ok(None),
         }
     }
 }
 
-impl HeldKeysLeft {
+impl<'a> HeldKeysLeft<'a> {
     /// The next key.
     #[inline(always)]
-    fn next<'a>(&mut self) -> Result<Option<Operand<'a>>, AllocError>
+    fn next(&mut self) -> Result<Option<Operand<'a>>, AllocError>
         ensures { IfOk result (λ next. Gives (held_keys_seen self.old) next
             (held_keys_seen self.new)) }
     {
@@ -209,7 +218,7 @@ impl FrozenLeft {
 }
 
 /// What a walk comes to at a place, None from the end on.
-fn walked_at<'b>(walked: &Seen<'b>, place: usize) -> Option<Item<'b>>
+fn walked_at<'b>(walked: &Seen<'b, '_>, place: usize) -> Option<Item<'b>>
     ensures { MatchOption result (drop place (walked_items (seen walked.now)) ≡ []) (λ item.
         (drop place (walked_items (seen walked.now))
         ≡ item_value item ∷ drop (place + 1) (walked_items (seen walked.now)))
@@ -228,7 +237,7 @@ fn walked_at<'b>(walked: &Seen<'b>, place: usize) -> Option<Item<'b>>
 
 /// The next item that is lent.
 #[inline(always)]
-fn next_item<'a>(left: &mut GroupIter<'a>) -> Option<Operand<'a>>
+fn next_item<'a>(left: &mut GroupIter<'a, 'a>) -> Option<Operand<'a>>
     ensures { Gives left.old result left.new }
 {
     match left.next() {
@@ -239,7 +248,7 @@ fn next_item<'a>(left: &mut GroupIter<'a>) -> Option<Operand<'a>>
 
 /// The next key that is lent.
 #[inline(always)]
-fn next_key<'a>(left: &mut TableIter<'a>) -> Option<Operand<'a>>
+fn next_key<'a>(left: &mut TableIter<'a, 'a>) -> Option<Operand<'a>>
     ensures { Gives (keys_as_values left.old) result (keys_as_values left.new) }
 {
     match left.next() {

@@ -14,7 +14,7 @@ use values::{Broken, Item};
 /// `value.name`: of a target or an object its place's.
 pub(crate) fn field<'a, L: Link<'a>, P: Place<'a>>(
     world: &World<'_, L, P>,
-    whole: &Whole<P::Work>,
+    whole: &Whole<'a, P::Work>,
     value: &Operand<'a>,
     name: &FieldName,
 ) -> Result<Operand<'a>, Broken>
@@ -30,7 +30,7 @@ pub(crate) fn field<'a, L: Link<'a>, P: Place<'a>>(
 /// `base[index]`: of a target its place's.
 pub(crate) fn item<'a, L: Link<'a>, P: Place<'a>>(
     world: &World<'_, L, P>,
-    whole: &Whole<P::Work>,
+    whole: &Whole<'a, P::Work>,
     base: &Operand<'a>,
     index: Item<'_>,
 ) -> Result<Operand<'a>, Broken>

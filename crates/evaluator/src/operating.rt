@@ -15,7 +15,7 @@ use values::{Broken, Item, Key, Value};
 #[inline(always)]
 pub(crate) fn binary<'a, L: Link<'a>, P: Place<'a>>(
     world: &World<'_, L, P>,
-    whole: &mut Whole<P::Work>,
+    whole: &mut Whole<'a, P::Work>,
     operator: Operator,
     left: Item<'_>,
     right: Item<'_>,
@@ -33,7 +33,7 @@ pub(crate) fn binary<'a, L: Link<'a>, P: Place<'a>>(
 /// An operator whose right side is a target.
 fn binary_with<'a, L: Link<'a>, P: Place<'a>>(
     world: &World<'_, L, P>,
-    whole: &mut Whole<P::Work>,
+    whole: &mut Whole<'a, P::Work>,
     operator: Operator,
     left: Item<'_>,
     right: Item<'_>,
@@ -60,7 +60,7 @@ fn binary_with<'a, L: Link<'a>, P: Place<'a>>(
 #[inline(always)]
 pub(crate) fn sign<'a, L: Link<'a>, P: Place<'a>>(
     world: &World<'_, L, P>,
-    whole: &Whole<P::Work>,
+    whole: &Whole<'a, P::Work>,
     sign: Sign,
     value: Item<'_>,
 ) -> Result<Value, Broken>

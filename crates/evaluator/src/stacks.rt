@@ -8,14 +8,14 @@ use operands::Operand;
 use std::alloc::AllocError;
 use values::Group;
 
-/// The items of a group go onto a stack, the first one at the top, where they are so many: they are
-/// lent. Where they aren't, the stack stays as it was.
+/// The items of a group go onto a stack, the first one at the top, where they are so many: what is
+/// lent there is lent here. Where they aren't so many, the stack stays as it was.
 ///
 /// # Errors
 ///
 /// `AllocError` where memory was refused.
-pub(crate) fn unpack_lent<'a>(
-    group: Group<'a>,
+pub(crate) fn unpack<'a>(
+    group: Group<'_, 'a>,
     count: usize,
     onto: &mut Stack<Operand<'a>>,
 ) -> Result<bool, AllocError>
@@ -28,31 +28,7 @@ pub(crate) fn unpack_lent<'a>(
     let mut place = count;
     while place > 0 {
         place -= 1;
-        onto.push(Operand::lent(group.item(place)))?;
-    }
-    Ok(true)
-}
-
-/// The same, as values of one's own.
-///
-/// # Errors
-///
-/// `AllocError` where memory was refused.
-pub(crate) fn unpack_own(
-    group: Group<'_>,
-    count: usize,
-    onto: &mut Stack<Operand<'_>>,
-) -> Result<bool, AllocError>
-    ensures { IfOk result (λ fits. Unpacked (group_items group.entry) count onto.old fits
-        onto.new) }
-{
-    if group.len() != count {
-        return Ok(false);
-    }
-    let mut place = count;
-    while place > 0 {
-        place -= 1;
-        onto.push(Operand::own(group.item(place).to_value()?))?;
+        onto.push(group.operand(place)?)?;
     }
     Ok(true)
 }

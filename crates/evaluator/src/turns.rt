@@ -7,18 +7,18 @@ ghost use Rattle.frames.specs.Answers.{SaysAs, Unpacks};
 ghost use Rattle.evaluator.specs.Walked.{left_seen};
 
 use crate::left::Left;
-use crate::stacks::{unpack_lent, unpack_own};
+use crate::stacks;
 use frames::Stack;
 use heap::Heap;
 use language::Whole;
-use operands::{Operand, as_value};
+use operands::Operand;
 use std::alloc::AllocError;
 use values::{Broken, Kind};
 
 /// A walk over a value begins, and gives the items that it goes over. Those of what is lent stay
 /// where they are.
 pub(crate) fn begin<'a, W>(
-    whole: &mut Whole<'_, W>,
+    whole: &mut Whole<'a, W>,
     walked: &Operand<'a>,
 ) -> Result<Left<'a>, Broken>
     ensures { SaysAs left_seen (of_state (begin walked.now) whole.old) result whole.new }
@@ -29,7 +29,7 @@ pub(crate) fn begin<'a, W>(
 }
 
 /// What a walk over a value goes over. The heap stays as it was.
-fn left_of<'a>(heap: &mut Heap, walked: &Operand<'a>) -> Result<Left<'a>, AllocError>
+fn left_of<'a>(heap: &mut Heap<'a>, walked: &Operand<'a>) -> Result<Left<'a>, AllocError>
     ensures same { heap.new ≡ heap.old }
     ensures ok { IfOk result (λ left. left_seen left
         ≡ walked_items (shape heap.old walked.now)) }
@@ -37,8 +37,8 @@ fn left_of<'a>(heap: &mut Heap, walked: &Operand<'a>) -> Result<Left<'a>, AllocE
     match walked.lent_seen() {
         Some(walked) => Ok(Left::lent(&walked)),
         None => {
-            let walked = as_value(walked.item())?;
-            Left::own(heap, walked.get())
+            let walked = walked.item().to_value()?;
+            Left::own(heap, &walked)
         }
     }
 }
@@ -50,7 +50,7 @@ fn left_of<'a>(heap: &mut Heap, walked: &Operand<'a>) -> Result<Left<'a>, AllocE
 ///
 /// `type`, where it is no list or tuple.
 pub(crate) fn unpack<'a, W>(
-    whole: &Whole<'_, W>,
+    whole: &Whole<'a, W>,
     sequence: &Operand<'a>,
     count: usize,
     onto: &mut Stack<Operand<'a>>,
@@ -58,14 +58,8 @@ pub(crate) fn unpack<'a, W>(
     ensures { Unpacks (of_state (parts sequence.now) whole.now) count onto.old result whole.now
         onto.new }
 {
-    if let Some(sequence) = sequence.lent_seen() {
-        return match state::sequence_of(&sequence) {
-            Some(group) => Ok(unpack_lent(group, count, onto)?),
-            None => Err(Broken::Kind(Kind::Wrong)),
-        };
-    }
-    match state::sequence_of(&whole.state.heap.see_item(sequence.item())) {
-        Some(group) => Ok(unpack_own(group, count, onto)?),
+    match state::sequence_of(&whole.state.heap.see(sequence)) {
+        Some(group) => Ok(stacks::unpack(group, count, onto)?),
         None => Err(Broken::Kind(Kind::Wrong)),
     }
 }

@@ -9,7 +9,7 @@ use frames::{Callee, Defaults, FunctionId, Operate, Refusal, Stack};
 use grammar::{Operator, Sign};
 use keys::TextKey;
 use language::{Link, Place, Whole};
-use operands::{Operand, as_value};
+use operands::Operand;
 use operations::DefaultInfo;
 use plain::Text;
 use program_tree::Predeclared;
@@ -137,15 +137,15 @@ impl<'a, L: Link<'a>, P: Place<'a>> Operate<'a> for World<'a, L, P> {
         index: Item<'_>,
         value: Operand<'a>,
     ) -> Result<(), Broken> {
-        let base = as_value(base)?;
-        state::set_item(&mut state.state, base.get(), index, value.into_value()?)
+        let base = base.to_value()?;
+        state::set_item(&mut state.state, &base, index, value)
     }
 
-    fn new_list(&self, state: &mut Whole<'a, P::Work>, items: Items) -> Result<Value, Broken> {
+    fn new_list(&self, state: &mut Whole<'a, P::Work>, items: Items<'a>) -> Result<Value, Broken> {
         state::new_list(&mut state.state, items)
     }
 
-    fn new_tuple(&self, state: &mut Whole<'a, P::Work>, items: Items) -> Result<Value, Broken> {
+    fn new_tuple(&self, state: &mut Whole<'a, P::Work>, items: Items<'a>) -> Result<Value, Broken> {
         state::new_tuple(&mut state.state, items)
     }
 
@@ -155,8 +155,8 @@ impl<'a, L: Link<'a>, P: Place<'a>> Operate<'a> for World<'a, L, P> {
         list: Item<'_>,
         item: Operand<'a>,
     ) -> Result<(), Broken> {
-        let list = as_value(list)?;
-        state::collect(&mut state.state, list.get(), item.into_value()?)
+        let list = list.to_value()?;
+        state::collect(&mut state.state, &list, item)
     }
 
     fn new_dict(&self, state: &mut Whole<'a, P::Work>) -> Result<Value, Broken> {
@@ -170,8 +170,8 @@ impl<'a, L: Link<'a>, P: Place<'a>> Operate<'a> for World<'a, L, P> {
         key: Item<'_>,
         value: Operand<'a>,
     ) -> Result<(), Broken> {
-        let dict = as_value(dict)?;
-        state::enter(&mut state.state, dict.get(), key, value.into_value()?)
+        let dict = dict.to_value()?;
+        state::enter(&mut state.state, &dict, key, value)
     }
 
     fn keep(
@@ -181,8 +181,8 @@ impl<'a, L: Link<'a>, P: Place<'a>> Operate<'a> for World<'a, L, P> {
         key: Item<'_>,
         value: Operand<'a>,
     ) -> Result<(), Broken> {
-        let dict = as_value(dict)?;
-        state::keep(&mut state.state, dict.get(), key, value.into_value()?)
+        let dict = dict.to_value()?;
+        state::keep(&mut state.state, &dict, key, value)
     }
 
     fn begin(
@@ -258,7 +258,7 @@ impl<'a, L: Link<'a>, P: Place<'a>> Operate<'a> for World<'a, L, P> {
         state: &mut Whole<'a, P::Work>,
         function: FunctionId,
         name: &Text,
-        defaults: Items,
+        defaults: Items<'a>,
     ) -> Result<Value, Broken> {
         binding::define(self.alloc, state, function, name, defaults)
     }

@@ -1,9 +1,9 @@
 //! Fields.
 ghost use Rattle.std.specs.Prelude.{◌≡◌, Ok, Err, Some, None, IfOk};
-ghost use Rattle.values.specs.Seeing.{seen, slot_values};
+ghost use Rattle.values.specs.Seeing.{seen};
 ghost use Rattle.values.specs.Shape.{shape};
 ghost use Rattle.operations.specs.States.{Does, Gives};
-ghost use Rattle.operations.specs.Fields.{field, field_in, shape_field, leaf_field, label_field};
+ghost use Rattle.operations.specs.Fields.{field, shape_field, leaf_field, label_field};
 ghost use Rattle.operations.specs.Fields.{file_field};
 
 use crate::parts::{basename, name, package};
@@ -12,9 +12,10 @@ use operands::Operand;
 use operations::State;
 use plain::Text;
 use std::alloc::{AllocError, Global};
-use values::{Broken, FileRef, Item, Key, Kind, Leaf, Provider, Seen, Slots, Value};
+use values::{Broken, FileRef, Item, Key, Kind, Leaf, Seen, Value};
 
-/// `value.name` of an instance, a label or a File. A field of an instance that is lent is lent.
+/// `value.name` of an instance, a label or a File. What is lent in an instance is lent, and so is
+/// the path of a File that is.
 ///
 /// # Errors
 ///
@@ -22,7 +23,7 @@ use values::{Broken, FileRef, Item, Key, Kind, Leaf, Provider, Seen, Slots, Valu
 /// memory was refused.
 pub fn field<'a>(
     alloc: Global,
-    state: &State<'_>,
+    state: &State<'a>,
     value: &Operand<'a>,
     name: &FieldName,
 ) -> Result<Operand<'a>, Broken>
@@ -37,47 +38,52 @@ pub fn field<'a>(
 /// The field of a value, if there is one.
 pub(crate) fn field_of<'a>(
     alloc: Global,
-    state: &State<'_>,
+    state: &State<'a>,
     value: &Operand<'a>,
     name: &FieldName,
 ) -> Result<Option<Operand<'a>>, Broken>
     ensures { Gives (Ok (shape_field (shape state.now.heap value.now) name.now)) result }
 {
     if let Some(value) = value.lent_seen() {
-        return seen_field(alloc, &value, name);
+        return lent_field(alloc, &value, name);
     }
-    match seen_field(alloc, &state.heap.see_item(value.item()), name)? {
-        Some(value) => Ok(Some(value.into_own()?)),
-        None => Ok(None),
+    match state.heap.see_item(value.item()) {
+        Seen::Instance(provider, slots) => Ok(making::field_operand(provider, slots, name.text())?),
+        Seen::Leaf(leaf) => own_field(alloc, leaf, name),
+        _ => Ok(None),
     }
 }
 
-/// The field of what a value shows, if there is one.
-fn seen_field<'a>(
+/// The field of what a value that is lent shows, if there is one.
+fn lent_field<'a>(
     alloc: Global,
-    value: &Seen<'a>,
+    value: &Seen<'a, 'a>,
     name: &FieldName,
 ) -> Result<Option<Operand<'a>>, Broken>
     ensures { Gives (Ok (shape_field (seen value.now) name.now)) result }
 {
     match value {
-        Seen::Instance(provider, slots) => Ok(instance_field(provider, *slots, name)),
+        Seen::Instance(provider, slots) => Ok(making::field_operand(
+            provider,
+            *slots,
+            name.text(),
+        )?),
         Seen::Leaf(leaf) => leaf_field(alloc, leaf, name),
         _ => Ok(None),
     }
 }
 
-/// The field of an instance, if it was given.
-fn instance_field<'a>(
-    provider: &Provider,
-    slots: Slots<'a>,
+/// The field of a label or a File of one's own.
+fn own_field<'a>(
+    alloc: Global,
+    leaf: &Leaf,
     name: &FieldName,
-) -> Option<Operand<'a>>
-    ensures { result ≡ field_in name.now provider.now.fields (slot_values slots.entry) }
+) -> Result<Option<Operand<'a>>, Broken>
+    ensures { Gives (Ok (leaf_field leaf.now name.now)) result }
 {
-    match making::field(provider, slots, name.text()) {
-        Some(value) => Some(Operand::lent(value)),
-        None => None,
+    match leaf_field(alloc, leaf, name)? {
+        Some(value) => Ok(Some(value.into_own()?)),
+        None => Ok(None),
     }
 }
 

@@ -29,7 +29,7 @@ pub enum Found<'a> {
 /// refused.
 pub fn find<'a>(
     alloc: Global,
-    state: &State<'_>,
+    state: &State<'a>,
     value: &Operand<'a>,
     name: &FieldName,
 ) -> Result<Found<'a>, Broken>

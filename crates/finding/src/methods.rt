@@ -9,7 +9,7 @@ use operations::Method;
 use values::{Key, Leaf, Seen};
 
 /// The method of this name that a value has.
-pub fn method_named(value: &Seen<'_>, name: &FieldName) -> Option<Method>
+pub fn method_named(value: &Seen<'_, '_>, name: &FieldName) -> Option<Method>
     ensures { result ≡ shape_method (seen value.now) name.now }
 {
     match value {

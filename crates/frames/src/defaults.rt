@@ -4,14 +4,14 @@ ghost use Rattle.std.specs.Prelude.{◌≡◌, length, slice_get, option_map};
 ghost use Rattle.operands.specs.Lying.{stored_value};
 ghost use Rattle.frames.specs.Kept.{defaults_seen};
 
-use operands::Stored;
-use values::{Item, Value};
+use operands::{Operand, Stored};
+use values::Value;
 
 /// The defaults that a function's `def` kept: a linked module lends them, or the state keeps them.
 #[derive(Clone, Copy)]
 pub enum Defaults<'a, 'b> {
     Lent(&'a [Value]),
-    Kept(&'b [Value]),
+    Kept(&'b [Operand<'a>]),
 }
 
 impl<'a, 'b> Defaults<'a, 'b> {
@@ -31,7 +31,7 @@ impl<'a, 'b> Defaults<'a, 'b> {
     {
         match self {
             Defaults::Lent(values) => match values.get(place) {
-                Some(value) => Some(Stored::Lent(Item::Value(value))),
+                Some(value) => Some(Stored::Lent(value.item())),
                 None => None,
             },
             Defaults::Kept(values) => match values.get(place) {

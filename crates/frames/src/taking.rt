@@ -34,12 +34,12 @@ pub fn take<'a>(
 
 /// So many items, each of which is still to be set.
 #[inline(always)]
-fn unset_items(alloc: Global, count: usize) -> Result<Items, AllocError>
+fn unset_items<'a>(alloc: Global, count: usize) -> Result<Items<'a>, AllocError>
     ensures { IfOk result (λ items. length items ≡ count) }
 {
     let mut items = Items::with_capacity(alloc, count)?;
     for _ in 0..count {
-        items.push(Value::Key(Key::Number(0)))?;
+        items.push(Operand::own(Value::Key(Key::Number(0))))?;
     }
     Ok(items)
 }
@@ -51,11 +51,11 @@ fn unset_items(alloc: Global, count: usize) -> Result<Items, AllocError>
 ///
 /// Memory was refused.
 #[inline(always)]
-pub fn take_items(
+pub fn take_items<'a>(
     alloc: Global,
     count: usize,
-    values: &mut Stack<Operand<'_>>,
-) -> Result<Option<Items>, AllocError>
+    values: &mut Stack<Operand<'a>>,
+) -> Result<Option<Items<'a>>, AllocError>
     ensures { IfOk result (λ taken. popped count [] values.old
         ≡ option_map (λ items. (items, values.new)) taken) }
 {
@@ -65,7 +65,7 @@ pub fn take_items(
     let mut items = unset_items(alloc, count)?;
     for place in (0..count).rev() {
         match values.pop() {
-            Some(value) => items.set(place, value.into_value()?),
+            Some(value) => items.set(place, value),
             None => return Ok(None),
         }
     }

@@ -139,12 +139,12 @@ pub trait Operate<'a> {
             (item_value index.entry) value.entry state.old) result state.new };
 
     /// A new list of these items.
-    fn new_list(&self, state: &mut Self::State, items: Items) -> Result<Value, Broken>
-        ensures { Says ((operations self.now).new_list items state.old) result state.new };
+    fn new_list(&self, state: &mut Self::State, items: Items<'a>) -> Result<Value, Broken>
+        ensures { Says ((operations self.now).new_list items.entry state.old) result state.new };
 
     /// A new tuple of these items.
-    fn new_tuple(&self, state: &mut Self::State, items: Items) -> Result<Value, Broken>
-        ensures { Says ((operations self.now).new_tuple items state.old) result state.new };
+    fn new_tuple(&self, state: &mut Self::State, items: Items<'a>) -> Result<Value, Broken>
+        ensures { Says ((operations self.now).new_tuple items.entry state.old) result state.new };
 
     /// An item more of a comprehension's list.
     fn collect(
@@ -258,10 +258,10 @@ pub trait Operate<'a> {
         state: &mut Self::State,
         function: FunctionId,
         name: &Text,
-        defaults: Items,
+        defaults: Items<'a>,
     ) -> Result<Value, Broken>
-        ensures { Says ((operations self.now).define (id_seen function) name.now defaults
-            state.old) result state.new };
+        ensures { Says ((operations self.now).define (id_seen function) name.now
+            defaults.entry state.old) result state.new };
 
     /// The defaults that a function's `def` kept.
     fn defaults<'b>(&self, state: &'b Self::State, function: FunctionId) -> Defaults<'a, 'b>

@@ -8,13 +8,13 @@ use heap::Heap;
 use operations::Defaults;
 use std::alloc::{AllocError, Global};
 use targets::Sequence;
-use values::{Broken, Frozen, Item, Ticks, VISITED_LEVELS, Value};
+use values::{Broken, Frozen, Operand, Ticks, VISITED_LEVELS};
 use visits::freeze;
 
 /// The frozen value of a global, if it is bound.
 fn freeze_slot(
     alloc: Global,
-    slot: &Option<Value>,
+    slot: &Option<Operand<'_>>,
     heap: &Heap,
     ticks: &mut Ticks,
 ) -> Result<Option<Frozen>, Broken>
@@ -22,7 +22,7 @@ fn freeze_slot(
         ticks.new }
 {
     match slot {
-        Some(value) => Ok(Some(freeze(alloc, Item::Value(value), heap, ticks)?)),
+        Some(value) => Ok(Some(freeze(alloc, value.item(), heap, ticks)?)),
         None => Ok(None),
     }
 }
@@ -42,7 +42,7 @@ fn keep_slot(kept: &mut Vec<Option<Frozen>>, tree: Option<Frozen>) -> Result<(),
 /// `steps`, `deep` and `type`, as freezing has them. After a `Broken` the ticks are open.
 pub(crate) fn freeze_globals(
     alloc: Global,
-    globals: &[Option<Value>],
+    globals: &[Option<Operand<'_>>],
     heap: &Heap,
     ticks: &mut Ticks,
 ) -> Result<Vec<Option<Frozen>>, Broken>
@@ -63,19 +63,19 @@ pub(crate) fn freeze_globals(
 /// The frozen value of a default.
 fn freeze_value(
     alloc: Global,
-    value: &Value,
+    value: &Operand<'_>,
     heap: &Heap,
     ticks: &mut Ticks,
 ) -> Result<Frozen, Broken>
     ensures { Says (freeze_at VISITED_LEVELS heap.now value.now ticks.old) result ticks.new }
 {
-    freeze(alloc, Item::Value(value), heap, ticks)
+    freeze(alloc, value.item(), heap, ticks)
 }
 
 /// The frozen defaults of a function, in the order of its parameters.
 pub(crate) fn freeze_items(
     alloc: Global,
-    values: &[Value],
+    values: &[Operand<'_>],
     heap: &Heap,
     ticks: &mut Ticks,
 ) -> Result<Sequence<Frozen>, Broken>

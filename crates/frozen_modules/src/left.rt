@@ -8,7 +8,7 @@ use heap::Heap;
 use operations::Defaults;
 use std::alloc::Global;
 use targets::Sequence;
-use values::{Broken, Frozen, Ticks, Value};
+use values::{Broken, Frozen, Operand, Ticks};
 
 /// The frozen values of a module's globals, and of the defaults of its functions.
 #[derive(Drop)]
@@ -28,7 +28,7 @@ pub struct Left {
 pub fn freeze_all(
     alloc: Global,
     heap: &Heap,
-    globals: &[Option<Value>],
+    globals: &[Option<Operand<'_>>],
     defaults: &Defaults,
     ticks: &mut Ticks,
 ) -> Result<Left, Broken>

@@ -21,17 +21,17 @@ use plain::{Shared, push_last};
 use std::alloc::{AllocError, Global};
 use std::marker::Model;
 use values::{
-    Broken, Cell, Entries, Fields, HeldEntries, HeldItems, Items, Key, Kind, LARGEST, Provider,
-    Value, Walked,
+    Broken, Cell, Entries, Fields, HeldEntries, HeldItems, Items, Key, Kind, LARGEST, Operand,
+    Provider, Value, Walked,
 };
 
 /// Numbered cells. To a contract it is the list of them.
 #[derive(Drop)]
-pub struct Heap {
-    cells: Vec<Cell>,
+pub struct Heap<'a> {
+    cells: Vec<Cell<'a>>,
 }
 
-impl Model for Heap {
+impl<'a> Model for Heap<'a> {
     ghost use Rattle.std.specs.Prelude.{List};
     ghost use Rattle.values.specs.declared.cells.Cell.{Cell as Numbered};
     ghost use Rattle.values.specs.CellCodes.{cells_code};
@@ -43,9 +43,9 @@ impl Model for Heap {
     ghost view = { λ h. h.cells.items };
 }
 
-impl Heap {
+impl<'a> Heap<'a> {
     /// No cells.
-    pub fn new(alloc: Global) -> Heap
+    pub fn new(alloc: Global) -> Heap<'a>
         ensures { result ≡ [] }
     {
         Heap {
@@ -69,7 +69,7 @@ impl Heap {
 
     /// The cell of this number, if there is one.
     #[inline(always)]
-    pub fn cell(&self, number: usize) -> Option<&Cell>
+    pub fn cell(&self, number: usize) -> Option<&Cell<'a>>
         ensures { option_copied result ≡ slice_get self.now number }
     {
         self.cells.get(number)
@@ -81,10 +81,11 @@ impl Heap {
     ///
     /// `large` where it has more items than a list may have; `NoMemory` where memory was refused.
     /// The heap stays as it was.
-    pub fn new_list(&mut self, items: Items) -> Result<Value, Broken>
-        ensures { MatchResult result (λ v. made self.old (Cell.List items 0) (length items)
-            ≡ Ok (v, self.new)) (λ e. (self.new ≡ self.old)
-            × FaultOr (made self.old (Cell.List items 0) (length items)) e) }
+    pub fn new_list(&mut self, items: Items<'a>) -> Result<Value, Broken>
+        ensures { MatchResult result
+            (λ v. made self.old (Cell.List items.entry 0) (length items.entry) ≡ Ok (v, self.new))
+            (λ e. (self.new ≡ self.old)
+            × FaultOr (made self.old (Cell.List items.entry 0) (length items.entry)) e) }
     {
         let parts = items.len();
         self.add(Cell::List(HeldItems::new(items), 0), parts)
@@ -96,10 +97,11 @@ impl Heap {
     ///
     /// `large` where it has more items than a tuple may have; `NoMemory` where memory was refused.
     /// The heap stays as it was.
-    pub fn new_tuple(&mut self, items: Items) -> Result<Value, Broken>
-        ensures { MatchResult result (λ v. made self.old (Cell.Tuple items) (length items)
-            ≡ Ok (v, self.new)) (λ e. (self.new ≡ self.old)
-            × FaultOr (made self.old (Cell.Tuple items) (length items)) e) }
+    pub fn new_tuple(&mut self, items: Items<'a>) -> Result<Value, Broken>
+        ensures { MatchResult result
+            (λ v. made self.old (Cell.Tuple items.entry) (length items.entry) ≡ Ok (v, self.new))
+            (λ e. (self.new ≡ self.old)
+            × FaultOr (made self.old (Cell.Tuple items.entry) (length items.entry)) e) }
     {
         let parts = items.len();
         self.add(Cell::Tuple(HeldItems::new(items)), parts)
@@ -111,10 +113,11 @@ impl Heap {
     ///
     /// `large` where it has more entries than a dict may have; `NoMemory` where memory was refused.
     /// The heap stays as it was.
-    pub fn new_dict(&mut self, entries: Entries) -> Result<Value, Broken>
-        ensures { MatchResult result (λ v. made self.old (Cell.Dict entries 0) (length entries)
-            ≡ Ok (v, self.new)) (λ e. (self.new ≡ self.old)
-            × FaultOr (made self.old (Cell.Dict entries 0) (length entries)) e) }
+    pub fn new_dict(&mut self, entries: Entries<'a>) -> Result<Value, Broken>
+        ensures { MatchResult result
+            (λ v. made self.old (Cell.Dict entries.entry 0) (length entries.entry) ≡ Ok (v, self.new))
+            (λ e. (self.new ≡ self.old)
+            × FaultOr (made self.old (Cell.Dict entries.entry 0) (length entries.entry)) e) }
     {
         let parts = entries.len();
         let entries = HeldEntries::new(*self.cells.allocator(), entries)?;
@@ -130,20 +133,20 @@ impl Heap {
     pub fn new_instance(
         &mut self,
         provider: Shared<Provider>,
-        fields: Fields,
+        fields: Fields<'a>,
     ) -> Result<Value, Broken>
-        ensures { MatchResult result (λ v. made self.old (Cell.Instance provider fields) 0
+        ensures { MatchResult result (λ v. made self.old (Cell.Instance provider fields.entry) 0
             ≡ Ok (v, self.new)) (λ e. (self.new ≡ self.old)
-            × FaultOr (made self.old (Cell.Instance provider fields) 0) e) }
+            × FaultOr (made self.old (Cell.Instance provider fields.entry) 0) e) }
     {
         self.add(Cell::Instance(provider, fields), 0)
     }
 
     /// A new cell of so many parts.
     #[inline(always)]
-    fn add(&mut self, cell: Cell, parts: usize) -> Result<Value, Broken>
-        ensures { MatchResult result (λ v. made self.old cell parts ≡ Ok (v, self.new))
-            (λ e. (self.new ≡ self.old) × FaultOr (made self.old cell parts) e) }
+    fn add(&mut self, cell: Cell<'a>, parts: usize) -> Result<Value, Broken>
+        ensures { MatchResult result (λ v. made self.old cell.entry parts ≡ Ok (v, self.new))
+            (λ e. (self.new ≡ self.old) × FaultOr (made self.old cell.entry parts) e) }
     {
         if parts > LARGEST {
             return Err(Broken::Kind(Kind::Large));
@@ -163,10 +166,10 @@ impl Heap {
     /// `type` where it is no list, `frozen` where it is frozen, `iterating` where it is walked, or
     /// `large` where it is as long as a list may be; `NoMemory` where memory was refused. The heap
     /// stays as it was.
-    pub fn append(&mut self, list: &Value, item: Value) -> Result<(), Broken>
-        ensures { MatchResult result (λ _. list_changed (pushed item) self.old list.now
+    pub fn append(&mut self, list: &Value, item: Operand<'a>) -> Result<(), Broken>
+        ensures { MatchResult result (λ _. list_changed (pushed item.entry) self.old list.now
             ≡ Ok self.new) (λ e. (self.new ≡ self.old)
-            × FaultOr (list_changed (pushed item) self.old list.now) e) }
+            × FaultOr (list_changed (pushed item.entry) self.old list.now) e) }
     {
         let changed = self.list_cell(list)?;
         let cell = &mut self.cells[changed];
@@ -179,10 +182,10 @@ impl Heap {
     /// # Errors
     ///
     /// As for `append`; `large` where it would be longer than a list may be.
-    pub fn extend(&mut self, list: &Value, items: Items) -> Result<(), Broken>
-        ensures { MatchResult result (λ _. list_changed (joined items) self.old list.now
+    pub fn extend(&mut self, list: &Value, items: Items<'a>) -> Result<(), Broken>
+        ensures { MatchResult result (λ _. list_changed (joined items.entry) self.old list.now
             ≡ Ok self.new) (λ e. (self.new ≡ self.old)
-            × FaultOr (list_changed (joined items) self.old list.now) e) }
+            × FaultOr (list_changed (joined items.entry) self.old list.now) e) }
     {
         let number = self.list_cell(list)?;
         let cell = &mut self.cells[number];
@@ -198,10 +201,11 @@ impl Heap {
     /// `type` where it is no list, `frozen` where it is frozen, `iterating` where it is walked, or
     /// `index` where it has no such item; `NoMemory` where memory was refused. The heap stays as it
     /// was.
-    pub fn set_index(&mut self, list: &Value, index: i64, item: Value) -> Result<(), Broken>
-        ensures { MatchResult result (λ _. list_changed (indexed index item) self.old list.now
-            ≡ Ok self.new) (λ e. (self.new ≡ self.old)
-            × FaultOr (list_changed (indexed index item) self.old list.now) e) }
+    pub fn set_index(&mut self, list: &Value, index: i64, item: Operand<'a>) -> Result<(), Broken>
+        ensures { MatchResult result
+            (λ _. list_changed (indexed index item.entry) self.old list.now ≡ Ok self.new)
+            (λ e. (self.new ≡ self.old)
+            × FaultOr (list_changed (indexed index item.entry) self.old list.now) e) }
     {
         let number = self.list_cell(list)?;
         let cell = &mut self.cells[number];
@@ -217,10 +221,10 @@ impl Heap {
     /// `type` where it is no dict, `frozen` where it is frozen, `iterating` where it is walked, or
     /// `large` where the key is new and the dict has as many entries as one may have; `NoMemory`
     /// where memory was refused. The heap stays as it was.
-    pub fn set_key(&mut self, dict: &Value, key: Key, item: Value) -> Result<(), Broken>
-        ensures { MatchResult result (λ _. dict_changed (keyed key item) self.old dict.now
+    pub fn set_key(&mut self, dict: &Value, key: Key, item: Operand<'a>) -> Result<(), Broken>
+        ensures { MatchResult result (λ _. dict_changed (keyed key item.entry) self.old dict.now
             ≡ Ok self.new) (λ e. (self.new ≡ self.old)
-            × FaultOr (dict_changed (keyed key item) self.old dict.now) e) }
+            × FaultOr (dict_changed (keyed key item.entry) self.old dict.now) e) }
     {
         let number = self.dict_cell(dict)?;
         let cell = &mut self.cells[number];
@@ -235,7 +239,7 @@ impl Heap {
     ///
     /// `AllocError` where there is no memory for the count of those who share, or where it is at
     /// its greatest.
-    pub fn share(&mut self, number: usize) -> Result<Walked, AllocError>
+    pub fn share(&mut self, number: usize) -> Result<Walked<'a>, AllocError>
         ensures same { self.new ≡ self.old }
         ensures ok { IfOk result (λ w. walked_values w
             ≡ walked_items (cell_shape (slice_get self.old number))) }
@@ -360,73 +364,57 @@ impl Heap {
 }
 
 /// Puts an item last in the list of a cell.
-fn push_to(cell: &mut Cell, item: Value) -> Result<(), Broken>
-    ensures { MatchResult result (λ _. pushed item cell.old ≡ Ok cell.new)
-        (λ e. (cell.new ≡ cell.old) × FaultOr (pushed item cell.old) e) }
+fn push_to<'a>(cell: &mut Cell<'a>, item: Operand<'a>) -> Result<(), Broken>
+    ensures { MatchResult result (λ _. pushed item.entry cell.old ≡ Ok cell.new)
+        (λ e. (cell.new ≡ cell.old) × FaultOr (pushed item.entry cell.old) e) }
 {
     match cell {
-        Cell::List(parts, walked) => {
-            if *walked > 0 {
-                return Err(Broken::Kind(Kind::Iterating));
-            }
-            push(parts, item)
-        }
+        Cell::List(_, walked) if *walked > 0 => Err(Broken::Kind(Kind::Iterating)),
+        Cell::List(parts, _) => push(parts, item),
         _ => Err(Broken::Kind(Kind::Wrong)),
     }
 }
 
 /// Puts items last in the list of a cell.
-fn join_to(cell: &mut Cell, more: Items) -> Result<(), Broken>
-    ensures { MatchResult result (λ _. joined more cell.old ≡ Ok cell.new)
-        (λ e. (cell.new ≡ cell.old) × FaultOr (joined more cell.old) e) }
+fn join_to<'a>(cell: &mut Cell<'a>, more: Items<'a>) -> Result<(), Broken>
+    ensures { MatchResult result (λ _. joined more.entry cell.old ≡ Ok cell.new)
+        (λ e. (cell.new ≡ cell.old) × FaultOr (joined more.entry cell.old) e) }
 {
     match cell {
-        Cell::List(parts, walks) => {
-            if *walks > 0 {
-                return Err(Broken::Kind(Kind::Iterating));
-            }
-            join(parts, more)
-        }
+        Cell::List(_, walks) if *walks > 0 => Err(Broken::Kind(Kind::Iterating)),
+        Cell::List(parts, _) => join(parts, more),
         _ => Err(Broken::Kind(Kind::Wrong)),
     }
 }
 
 /// Sets an item of the list of a cell.
-fn set_in(cell: &mut Cell, index: i64, item: Value) -> Result<(), Broken>
-    ensures { MatchResult result (λ _. indexed index item cell.old ≡ Ok cell.new)
-        (λ e. (cell.new ≡ cell.old) × FaultOr (indexed index item cell.old) e) }
+fn set_in<'a>(cell: &mut Cell<'a>, index: i64, item: Operand<'a>) -> Result<(), Broken>
+    ensures { MatchResult result (λ _. indexed index item.entry cell.old ≡ Ok cell.new)
+        (λ e. (cell.new ≡ cell.old) × FaultOr (indexed index item.entry cell.old) e) }
 {
     match cell {
-        Cell::List(parts, walks) => {
-            if *walks > 0 {
-                return Err(Broken::Kind(Kind::Iterating));
-            }
-            set(parts, index, item)
-        }
+        Cell::List(_, walks) if *walks > 0 => Err(Broken::Kind(Kind::Iterating)),
+        Cell::List(parts, _) => set(parts, index, item),
         _ => Err(Broken::Kind(Kind::Wrong)),
     }
 }
 
 /// Gives a key of the dict of a cell the value.
-fn put_in(cell: &mut Cell, key: Key, item: Value) -> Result<(), Broken>
-    ensures { MatchResult result (λ _. keyed key item cell.old ≡ Ok cell.new)
-        (λ e. (cell.new ≡ cell.old) × FaultOr (keyed key item cell.old) e) }
+fn put_in<'a>(cell: &mut Cell<'a>, key: Key, item: Operand<'a>) -> Result<(), Broken>
+    ensures { MatchResult result (λ _. keyed key item.entry cell.old ≡ Ok cell.new)
+        (λ e. (cell.new ≡ cell.old) × FaultOr (keyed key item.entry cell.old) e) }
 {
     match cell {
-        Cell::Dict(parts, walks) => {
-            if *walks > 0 {
-                return Err(Broken::Kind(Kind::Iterating));
-            }
-            put(parts, key, item)
-        }
+        Cell::Dict(_, walks) if *walks > 0 => Err(Broken::Kind(Kind::Iterating)),
+        Cell::Dict(parts, _) => put(parts, key, item),
         _ => Err(Broken::Kind(Kind::Wrong)),
     }
 }
 
 /// Puts an item last, unless there are as many as a list may have.
-fn push(items: &mut HeldItems, item: Value) -> Result<(), Broken>
-    ensures { MatchResult result (λ _. pushed_items item items.old ≡ Ok items.new)
-        (λ e. (items.new ≡ items.old) × FaultOr (pushed_items item items.old) e) }
+fn push<'a>(items: &mut HeldItems<'a>, item: Operand<'a>) -> Result<(), Broken>
+    ensures { MatchResult result (λ _. pushed_items item.entry items.old ≡ Ok items.new)
+        (λ e. (items.new ≡ items.old) × FaultOr (pushed_items item.entry items.old) e) }
 {
     if items.len() >= LARGEST {
         return Err(Broken::Kind(Kind::Large));
@@ -436,9 +424,9 @@ fn push(items: &mut HeldItems, item: Value) -> Result<(), Broken>
 }
 
 /// Puts items last, unless there would be more than a list may have.
-fn join(items: &mut HeldItems, more: Items) -> Result<(), Broken>
-    ensures { MatchResult result (λ _. joined_items more items.old ≡ Ok items.new)
-        (λ e. (items.new ≡ items.old) × FaultOr (joined_items more items.old) e) }
+fn join<'a>(items: &mut HeldItems<'a>, more: Items<'a>) -> Result<(), Broken>
+    ensures { MatchResult result (λ _. joined_items more.entry items.old ≡ Ok items.new)
+        (λ e. (items.new ≡ items.old) × FaultOr (joined_items more.entry items.old) e) }
 {
     if items.len().saturating_add(more.len()) > LARGEST {
         return Err(Broken::Kind(Kind::Large));
@@ -450,9 +438,9 @@ fn join(items: &mut HeldItems, more: Items) -> Result<(), Broken>
 }
 
 /// Sets the item that an index means, if it means one.
-fn set(items: &mut HeldItems, index: i64, item: Value) -> Result<(), Broken>
-    ensures { MatchResult result (λ _. indexed_items index item items.old ≡ Ok items.new)
-        (λ e. (items.new ≡ items.old) × FaultOr (indexed_items index item items.old) e) }
+fn set<'a>(items: &mut HeldItems<'a>, index: i64, item: Operand<'a>) -> Result<(), Broken>
+    ensures { MatchResult result (λ _. indexed_items index item.entry items.old ≡ Ok items.new)
+        (λ e. (items.new ≡ items.old) × FaultOr (indexed_items index item.entry items.old) e) }
 {
     match place(index, items.len()) {
         None => Err(Broken::Kind(Kind::Index)),
@@ -464,9 +452,10 @@ fn set(items: &mut HeldItems, index: i64, item: Value) -> Result<(), Broken>
 }
 
 /// Gives a key the value, unless it would be one more than a dict may have.
-fn put(entries: &mut HeldEntries, key: Key, item: Value) -> Result<(), Broken>
-    ensures { MatchResult result (λ _. keyed_entries key item entries.old ≡ Ok entries.new)
-        (λ e. (entries.new ≡ entries.old) × FaultOr (keyed_entries key item entries.old) e) }
+fn put<'a>(entries: &mut HeldEntries<'a>, key: Key, item: Operand<'a>) -> Result<(), Broken>
+    ensures { MatchResult result (λ _. keyed_entries key item.entry entries.old ≡ Ok entries.new)
+        (λ e. (entries.new ≡ entries.old)
+        × FaultOr (keyed_entries key item.entry entries.old) e) }
 {
     if entries.get().len() >= LARGEST && !entries.get().has(&key) {
         return Err(Broken::Kind(Kind::Large));
@@ -476,7 +465,7 @@ fn put(entries: &mut HeldEntries, key: Key, item: Value) -> Result<(), Broken>
 }
 
 /// Shares what a walk over a cell goes over.
-fn share_in(cell: &mut Cell, alloc: Global) -> Result<Walked, AllocError>
+fn share_in<'a>(cell: &mut Cell<'a>, alloc: Global) -> Result<Walked<'a>, AllocError>
     ensures same { cell.new ≡ cell.old }
     ensures ok { IfOk result (λ w. walked_values w ≡ walked_items (cell_shape (Some cell.old))) }
 {

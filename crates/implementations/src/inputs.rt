@@ -43,7 +43,7 @@ pub(crate) fn inputs_in(
 }
 
 /// The Files that items are, or `type`.
-fn file_inputs(alloc: Global, heap: &Heap, items: Group<'_>) -> Result<Inputs, Broken>
+fn file_inputs<'b>(alloc: Global, heap: &'b Heap, items: Group<'b, '_>) -> Result<Inputs, Broken>
     ensures { Gives (files_from (all_in file_in heap.now (group_items items.entry))) result }
 {
     let files = files(alloc, heap, items)?;

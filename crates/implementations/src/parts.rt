@@ -16,7 +16,7 @@ use std::alloc::Global;
 use values::{Broken, Group, Kind, Leaf, Seen};
 
 /// The File that a value is, if it is one.
-pub(crate) fn file_of<'a>(value: &Seen<'a>) -> Option<&'a Shared<FileRef>>
+pub(crate) fn file_of<'a>(value: &Seen<'a, '_>) -> Option<&'a Shared<FileRef>>
     ensures { option_copied result ≡ file_in (seen value.now) }
 {
     match value {
@@ -26,7 +26,11 @@ pub(crate) fn file_of<'a>(value: &Seen<'a>) -> Option<&'a Shared<FileRef>>
 }
 
 /// The Files that items are, or `type`.
-pub(crate) fn files(alloc: Global, heap: &Heap, items: Group<'_>) -> Result<Files, Broken>
+pub(crate) fn files<'b>(
+    alloc: Global,
+    heap: &'b Heap,
+    items: Group<'b, '_>,
+) -> Result<Files, Broken>
     ensures { MatchResult result
         (λ fs. all_in file_in heap.now (group_items items.entry) ≡ Ok fs)
         (λ e. FaultOr (all_in file_in heap.now (group_items items.entry)) e) }
@@ -41,7 +45,7 @@ pub(crate) fn files(alloc: Global, heap: &Heap, items: Group<'_>) -> Result<File
 }
 
 /// Puts the File that a value is last, or `type`.
-fn put_file(value: &Seen<'_>, files: &mut Files) -> Result<(), Broken>
+fn put_file(value: &Seen<'_, '_>, files: &mut Files) -> Result<(), Broken>
     ensures { MatchResult result
         (λ _. put_last files.old (file_in (seen value.now)) ≡ Ok files.new)
         (λ e. FaultOr (put_last files.old (file_in (seen value.now))) e) }
@@ -57,7 +61,11 @@ fn put_file(value: &Seen<'_>, files: &mut Files) -> Result<(), Broken>
 }
 
 /// Puts the strings that items are last, or `type`.
-pub(crate) fn put_strings(heap: &Heap, items: Group<'_>, words: &mut Words) -> Result<(), Broken>
+pub(crate) fn put_strings<'b>(
+    heap: &'b Heap,
+    items: Group<'b, '_>,
+    words: &mut Words,
+) -> Result<(), Broken>
     ensures { MatchResult result
         (λ _. with_strings heap.now (group_items items.entry) words.old ≡ Ok words.new)
         (λ e. FaultOr (with_strings heap.now (group_items items.entry) words.old) e) }
@@ -71,7 +79,7 @@ pub(crate) fn put_strings(heap: &Heap, items: Group<'_>, words: &mut Words) -> R
 }
 
 /// Puts the string that a value is last, or `type`.
-fn put_string(value: &Seen<'_>, words: &mut Words) -> Result<(), Broken>
+fn put_string(value: &Seen<'_, '_>, words: &mut Words) -> Result<(), Broken>
     ensures { MatchResult result
         (λ _. put_last words.old (string_in (seen value.now)) ≡ Ok words.new)
         (λ e. FaultOr (put_last words.old (string_in (seen value.now))) e) }

@@ -29,7 +29,7 @@ impl Program {
     }
 
     /// The word that a value is, if it may be one.
-    pub(crate) fn word<'a>(self, value: &Seen<'a>) -> Option<&'a Text>
+    pub(crate) fn word<'a>(self, value: &Seen<'a, '_>) -> Option<&'a Text>
         ensures { option_copied result ≡ program_in self (seen value.now) }
     {
         match self {
@@ -40,7 +40,7 @@ impl Program {
 }
 
 /// A string, or the path of a File.
-fn executable<'a>(value: &Seen<'a>) -> Option<&'a Text>
+fn executable<'a>(value: &Seen<'a, '_>) -> Option<&'a Text>
     ensures { option_copied result ≡ executable_in (seen value.now) }
 {
     match value {

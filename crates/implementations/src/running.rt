@@ -99,7 +99,7 @@ fn run_parameters(word: &str) -> [Parameter<'_>; 5]
 }
 
 /// The outputs of an argument: the items of a sequence, or `type`; `arity`, where there are none.
-fn some_outputs<'a>(value: &Seen<'a>) -> Result<Group<'a>, Broken>
+fn some_outputs<'b, 'a>(value: &Seen<'b, 'a>) -> Result<Group<'b, 'a>, Broken>
     ensures { MatchResult result
         (λ g. some_outputs (sequence_in (seen value.now)) ≡ Ok (group_items g))
         (λ e. FaultOr (some_outputs (sequence_in (seen value.now))) e) }
@@ -112,7 +112,7 @@ fn some_outputs<'a>(value: &Seen<'a>) -> Result<Group<'a>, Broken>
 
 /// Items, or `arity` where there are none.
 #[tactic(auto, using(crate::proofs::Outputs::some_of, crate::proofs::Outputs::none_of))]
-fn if_some(items: Group<'_>) -> Result<Group<'_>, Broken>
+fn if_some<'b, 'a>(items: Group<'b, 'a>) -> Result<Group<'b, 'a>, Broken>
     ensures { MatchResult result
         (λ g. some_outputs (Some (group_items items.entry)) ≡ Ok (group_items g))
         (λ e. FaultOr (some_outputs (Some (group_items items.entry))) e) }
@@ -124,11 +124,11 @@ fn if_some(items: Group<'_>) -> Result<Group<'_>, Broken>
 }
 
 /// The action of outputs, of a word, and of what else a call is given, or `type`.
-fn action_for(
+fn action_for<'b>(
     alloc: Global,
     mnemonics: &Mnemonics,
-    heap: &Heap,
-    outputs: Group<'_>,
+    heap: &'b Heap,
+    outputs: Group<'b, '_>,
     word: Option<&Text>,
     arguments: &Arguments<'_, '_>,
 ) -> Result<Action, Broken>
@@ -146,11 +146,11 @@ fn action_for(
 }
 
 /// The action of these parts, or `type`.
-fn action_of(
+fn action_of<'b>(
     alloc: Global,
     mnemonics: &Mnemonics,
-    heap: &Heap,
-    outputs: Group<'_>,
+    heap: &'b Heap,
+    outputs: Group<'b, '_>,
     word: Option<&Text>,
     inputs: Option<&Operand<'_>>,
     arguments: Option<&Operand<'_>>,

@@ -5,7 +5,7 @@ ghost use Rattle.language.specs.Language.{predeclared_value};
 use operands::Operand;
 use operations::DefaultInfo;
 use program_tree::Predeclared;
-use values::{BuiltIn, Item, Key, Leaf, Object, Value};
+use values::{BuiltIn, Key, Leaf, Object, Value};
 
 /// What each file finds bound under a name. `DefaultInfo` is lent.
 pub fn predeclared<'a>(default_info: &'a DefaultInfo, name: Predeclared) -> Operand<'a>
@@ -24,7 +24,7 @@ pub fn predeclared<'a>(default_info: &'a DefaultInfo, name: Predeclared) -> Oper
         Predeclared::ProviderFunction => built_in(BuiltIn::Provider),
         Predeclared::RuleFunction => built_in(BuiltIn::Rule),
         Predeclared::AttrModule => Operand::own(Value::Leaf(Leaf::Object(Object::Attr))),
-        Predeclared::DefaultInfo => Operand::lent(Item::Value(default_info.value())),
+        Predeclared::DefaultInfo => Operand::lent(default_info.value().item()),
     }
 }
 

@@ -1,10 +1,9 @@
 //! Values that are leaves, and those that are asked of their place.
 ghost use Rattle.std.specs.Prelude.{◌≡◌, Some, None, option_copied};
 ghost use Rattle.values.specs.Seeing.{item_value};
-ghost use Rattle.values.specs.Shape.{value_of};
 ghost use Rattle.language.specs.Language.{leaf_of, target_of, of_place};
 
-use values::{Frozen, Held, Item, Leaf, Value};
+use values::{Item, Leaf};
 
 /// The leaf that a value is, if it is one.
 #[inline(always)]
@@ -12,28 +11,7 @@ pub fn leaf_of<'a>(value: Item<'a>) -> Option<&'a Leaf>
     ensures { option_copied result ≡ leaf_of (item_value value.entry) }
 {
     match value {
-        Item::Value(value) => value_leaf(value),
-        Item::Tree(tree) => tree_leaf(tree),
-        Item::Key(_) => None,
-    }
-}
-
-#[inline(always)]
-fn value_leaf(value: &Value) -> Option<&Leaf>
-    ensures { option_copied result ≡ leaf_of value.now }
-{
-    match value {
-        Value::Leaf(leaf) => Some(leaf),
-        _ => None,
-    }
-}
-
-#[inline(always)]
-fn tree_leaf(tree: &Frozen) -> Option<&Leaf>
-    ensures { option_copied result ≡ leaf_of (value_of tree.now) }
-{
-    match tree.held() {
-        Held::Leaf(leaf) => Some(leaf),
+        Item::Leaf(leaf) => Some(leaf),
         _ => None,
     }
 }

@@ -9,10 +9,10 @@ use Rattle.leaves.proofs.leaf.Provider.TheSendSync as provider
 use Rattle.values.proofs.frozen.Branch.TheLaws.TheKnot as frozen
 use Rattle.values.specs.contracts.frozen.Branch as Branch
 use Rattle.values.specs.contracts.value.Value as Value
-use Rattle.values.specs.contracts.cells.Items as Items
-use Rattle.values.specs.contracts.cells.Fields as Fields
+use Rattle.evaluation.specs.contracts.kept.FunctionDefaults as FunctionDefaults
+use Rattle.evaluation.specs.contracts.kept.LoadedValues as LoadedValues
+use Rattle.evaluation.specs.contracts.kept.ModuleDefaults as ModuleDefaults
 use Rattle.operations.specs.contracts.default_info.DefaultInfo as DefaultInfo
-use Rattle.operations.specs.contracts.state.Defaults as Defaults
 use Rattle.targets.proofs.Crossing.{attribute_send, attribute_sync, rule_send, rule_sync}
 use Rattle.evaluation.specs.contracts.handed.Globals as Globals
 use Rattle.evaluation.specs.contracts.handed.Module as Module
@@ -34,14 +34,14 @@ branch_sync = search (leaf_send, leaf_sync, provider.the_send, provider.the_sync
 pub value_sync : IsSync (Value.the_field).row
 value_sync = search (branch_sync, leaf_sync, key.the_field_sync, sendable) depth 60 fits 20000
 
-pub items_sync : IsSync Items.the_row
-items_sync = search (value_sync, std.crosses, sendable) depth 60 fits 20000
+pub function_defaults_sync : IsSync FunctionDefaults.the_row
+function_defaults_sync = search (value_sync, std.crosses, sendable) depth 60 fits 20000
 
-pub fields_sync : IsSync Fields.the_row
-fields_sync = search (value_sync, std.crosses, sendable) depth 60 fits 20000
+pub loaded_values_sync : IsSync LoadedValues.the_row
+loaded_values_sync = search (value_sync, std.crosses, sendable) depth 60 fits 20000
 
-pub defaults_sync : IsSync Defaults.the_row
-defaults_sync = search (items_sync, std.crosses, sendable) depth 60 fits 20000
+pub defaults_sync : IsSync ModuleDefaults.the_row
+defaults_sync = search (function_defaults_sync, std.crosses, sendable) depth 60 fits 20000
 
 pub globals_sync : IsSync Globals.the_row
 globals_sync = search (frozen_sync, std.crosses, sendable) depth 60 fits 20000
@@ -50,7 +50,7 @@ pub made_sync : IsSync (Declarations.the_field).row
 made_sync = search (rule_send, rule_sync, attribute_send, attribute_sync, std.crosses, sendable) depth 60 fits 20000
 
 pub module_sync : IsSync (Module.the_field).row
-module_sync = search (globals_sync, fields_sync, defaults_sync, made_sync, names.the_send, names.the_sync, std.crosses, sendable) depth 60 fits 20000
+module_sync = search (globals_sync, loaded_values_sync, defaults_sync, made_sync, names.the_send, names.the_sync, std.crosses, sendable) depth 60 fits 20000
 
 -- ---- files
 

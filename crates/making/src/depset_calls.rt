@@ -63,7 +63,7 @@ fn order_named(text: &str) -> Option<Order>
 }
 
 /// The order that a value names.
-fn order_of(value: &Seen<'_>) -> Option<Order>
+fn order_of(value: &Seen<'_, '_>) -> Option<Order>
     ensures { result ≡ order_text (string_in (seen value.now)) }
 {
     match value {

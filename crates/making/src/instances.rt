@@ -30,11 +30,11 @@ use values::{
 ///
 /// `arity` for a position, and for a name that is none of the provider's fields; `NoMemory` where
 /// memory was refused.
-pub fn construct(
+pub fn construct<'a>(
     alloc: Global,
-    state: &mut State,
+    state: &mut State<'a>,
     provider: &Shared<Provider>,
-    arguments: &Arguments<'_, '_>,
+    arguments: &Arguments<'_, 'a>,
 ) -> Result<Value, Broken>
     ensures { Does (constructed provider.now (given arguments.now)) state.old result state.new }
 {
@@ -45,12 +45,12 @@ pub fn construct(
 }
 
 /// An instance with the fields of these names.
-fn with_fields(
+fn with_fields<'a>(
     alloc: Global,
-    state: &mut State,
+    state: &mut State<'a>,
     provider: &Shared<Provider>,
     names: &[Text],
-    values: &[Operand<'_>],
+    values: &[Operand<'a>],
 ) -> Result<Value, Broken>
     ensures { Does (with_fields provider.now names.now values.now) state.old result state.new }
 {
@@ -71,12 +71,12 @@ fn are_fields(fields: &PlacedNames, names: &[Text]) -> bool
 }
 
 /// What each field got.
-fn given_fields(
+fn given_fields<'a>(
     alloc: Global,
     fields: &[Text],
     names: &[Text],
-    values: &[Operand<'_>],
-) -> Result<Fields, AllocError>
+    values: &[Operand<'a>],
+) -> Result<Fields<'a>, AllocError>
     ensures { IfOk result (λ os. os ≡ given_fields fields.now names.now values.now) }
 {
     let places = FirstPlaces::new(alloc, names)?;
@@ -88,16 +88,16 @@ fn given_fields(
 }
 
 /// Puts what a field got last.
-fn put_field(
+fn put_field<'a>(
     field: &Text,
     names: &FirstPlaces<'_>,
-    values: &[Operand<'_>],
-    slots: &mut Fields,
+    values: &[Operand<'a>],
+    slots: &mut Fields<'a>,
 ) -> Result<(), AllocError>
     ensures { OnOk result (slots.new ≡ slots.old ++ given_for field.now names.now values.now ∷ []) }
 {
     let value = match value_at(values, names.get(field.as_str())) {
-        Some(value) => Some(value.item().to_value()?),
+        Some(value) => Some(value.share()?),
         None => None,
     };
     slots.push(value)?;
@@ -125,25 +125,55 @@ pub fn value_at<'a, 'v>(values: &'a [Operand<'v>], place: Option<usize>) -> Opti
     }
 }
 
-/// The value of an instance's field, if it was given.
-pub fn field<'a>(provider: &Provider, slots: Slots<'a>, name: &Text) -> Option<Item<'a>>
+/// The value of an instance's field, if it was given: what is lent there is lent here.
+///
+/// # Errors
+///
+/// `AllocError` where a count is at its greatest.
+pub fn field_operand<'a>(
+    provider: &Provider,
+    slots: Slots<'_, 'a>,
+    name: &Text,
+) -> Result<Option<Operand<'a>>, AllocError>
+    ensures { IfOk result (λ o. o ≡ field_in name.now provider.now.fields
+        (slot_values slots.entry)) }
+{
+    match provider.fields.place(name) {
+        Some(place) => slot_at(slots, place),
+        None => Ok(None),
+    }
+}
+
+/// The value of an instance's field, if it was given, where it lies.
+pub fn field<'b>(provider: &Provider, slots: Slots<'b, '_>, name: &Text) -> Option<Item<'b>>
     ensures { option_value result ≡ field_in name.now provider.now.fields
         (slot_values slots.entry) }
 {
     match provider.fields.place(name) {
-        Some(place) => slot_at(slots, place),
+        Some(place) => slot_item(slots, place),
         None => None,
     }
 }
 
-/// What stands in a slot, None outside.
-fn slot_at<'a>(slots: Slots<'a>, place: usize) -> Option<Item<'a>>
+/// What stands in a slot, where it lies, None outside.
+fn slot_item<'b>(slots: Slots<'b, '_>, place: usize) -> Option<Item<'b>>
     ensures { option_value result ≡ in_slot (slice_get (slot_values slots.entry) place) }
 {
     if place < slots.len() {
         slots.slot(place)
     } else {
         None
+    }
+}
+
+/// What stands in a slot, None outside.
+fn slot_at<'a>(slots: Slots<'_, 'a>, place: usize) -> Result<Option<Operand<'a>>, AllocError>
+    ensures { IfOk result (λ o. o ≡ in_slot (slice_get (slot_values slots.entry) place)) }
+{
+    if place < slots.len() {
+        slots.operand(place)
+    } else {
+        Ok(None)
     }
 }
 
@@ -154,11 +184,11 @@ fn slot_at<'a>(slots: Slots<'a>, place: usize) -> Option<Item<'a>>
 ///
 /// `type`, where the files are no depset that is empty or of Files; `large`, where no serial is
 /// left for the default; `NoMemory` where memory was refused.
-pub fn default_info(
+pub fn default_info<'a>(
     alloc: Global,
-    state: &mut State,
+    state: &mut State<'a>,
     provider: &Shared<Provider>,
-    files: Option<&Operand<'_>>,
+    files: Option<&Operand<'a>>,
 ) -> Result<Value, Broken>
     ensures { Does (info_with provider.now (option_copied files.entry)) state.old result state.new }
 {
@@ -169,13 +199,13 @@ pub fn default_info(
 }
 
 /// An instance of one field, which has this value.
-fn with_files(
+fn with_files<'a>(
     alloc: Global,
-    state: &mut State,
+    state: &mut State<'a>,
     provider: &Shared<Provider>,
-    files: Value,
+    files: Operand<'a>,
 ) -> Result<Value, Broken>
-    ensures { Does (with_files provider.now files) state.old result state.new }
+    ensures { Does (with_files provider.now files.entry) state.old result state.new }
 {
     let provider = provider.share()?;
     let fields = one_field(alloc, files)?;
@@ -183,8 +213,8 @@ fn with_files(
 }
 
 /// One field, with this value.
-fn one_field(alloc: Global, value: Value) -> Result<Fields, AllocError>
-    ensures { IfOk result (λ os. os ≡ Some value ∷ []) }
+fn one_field<'a>(alloc: Global, value: Operand<'a>) -> Result<Fields<'a>, AllocError>
+    ensures { IfOk result (λ os. os ≡ Some value.entry ∷ []) }
 {
     let mut fields = Fields::with_capacity(alloc, 1)?;
     fields.push(Some(value))?;
@@ -192,23 +222,23 @@ fn one_field(alloc: Global, value: Value) -> Result<Fields, AllocError>
 }
 
 /// The instance whose files are a depset that is empty or of Files.
-fn info_of_files(
+fn info_of_files<'a>(
     alloc: Global,
-    state: &mut State,
+    state: &mut State<'a>,
     provider: &Shared<Provider>,
-    files: &Operand<'_>,
+    files: &Operand<'a>,
 ) -> Result<Value, Broken>
     ensures { Does (info_with provider.now (Some files.now)) state.old result state.new }
 {
     if !are_files(&state.heap.see_item(files.item())) {
         return Err(Broken::Kind(Kind::Wrong));
     }
-    let files = files.item().to_value()?;
+    let files = files.share()?;
     with_files(alloc, state, provider, files)
 }
 
 /// Whether a value is a depset that is empty or of Files.
-fn are_files(value: &Seen<'_>) -> bool
+fn are_files(value: &Seen<'_, '_>) -> bool
     ensures { result ≡ is_ok (files_in (seen value.now)) }
 {
     match value {
@@ -239,7 +269,7 @@ fn info_without_files(
     let made = state.depsets;
     let direct = Vec::new(alloc);
     let files = new_depset(alloc, state, Order::Default, direct, Vec::new(alloc))?;
-    match with_files(alloc, state, provider, files) {
+    match with_files(alloc, state, provider, Operand::own(files)) {
         Ok(instance) => Ok(instance),
         Err(broken) => {
             state.depsets = made;

@@ -13,6 +13,8 @@ mod names;
 mod parts;
 
 pub use depset_calls::{depset, new_depset};
-pub use instances::{construct, default_info, field, given_for, has_only_files, value_at};
+pub use instances::{
+    construct, default_info, field, field_operand, given_for, has_only_files, value_at,
+};
 pub use listings::to_list;
 pub use names::{define, name_value, set_global, set_loaded};

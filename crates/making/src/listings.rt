@@ -6,6 +6,7 @@ ghost use Rattle.operations.specs.Making.{new_list};
 ghost use Rattle.operations.specs.Depsets.{element_value, to_list};
 
 use depsets::Elements;
+use operands::Operand;
 use operations::State;
 use std::alloc::{AllocError, Global};
 use values::{Broken, Depset, Element, Items, Key, Leaf, Value};
@@ -26,7 +27,7 @@ pub fn to_list(alloc: Global, state: &mut State, depset: &Depset) -> Result<Valu
 }
 
 /// The elements of the listing as values.
-fn listing(alloc: Global, depset: &Depset) -> Result<Items, AllocError>
+fn listing<'a>(alloc: Global, depset: &Depset) -> Result<Items<'a>, AllocError>
     ensures walk { IfOk result (λ items. items ≡ map element_value (walked depset.now)) }
     ensures plain { IfOk result (λ items. IsCoherent depset.now
         → items ≡ map element_value (flat depset.now)) }
@@ -36,7 +37,7 @@ fn listing(alloc: Global, depset: &Depset) -> Result<Items, AllocError>
 }
 
 /// Elements as values.
-fn element_values(alloc: Global, elements: &Elements<'_>) -> Result<Items, AllocError>
+fn element_values<'a>(alloc: Global, elements: &Elements<'_>) -> Result<Items<'a>, AllocError>
     ensures { IfOk result (λ items. items ≡ map element_value elements.now) }
 {
     let mut items = Items::with_capacity(alloc, elements.len())?;
@@ -51,7 +52,7 @@ fn put_element(element: &Element, items: &mut Items) -> Result<(), AllocError>
     ensures { OnOk result (items.new ≡ items.old ++ element_value element.now ∷ []) }
 {
     let value = element_value(element)?;
-    items.push(value)?;
+    items.push(Operand::own(value))?;
     Ok(())
 }
 

@@ -23,7 +23,7 @@ pub fn name_value<'a, 'b>(state: &'b State<'a>, number: usize) -> Option<Stored<
 }
 
 /// What stands in a slot, once it is set.
-fn slot(slots: &[Option<Value>], number: usize) -> Option<&Value>
+fn slot<'b, 'a>(slots: &'b [Option<Operand<'a>>], number: usize) -> Option<&'b Operand<'a>>
     ensures { option_copied result ≡ in_slot (slice_get slots.now number) }
 {
     match slots.get(number) {
@@ -37,14 +37,14 @@ fn loaded_value<'a, 'b>(loaded: &'b Bindings<'a>, number: usize) -> Option<Store
     ensures { option_map stored_value result ≡ in_slot (slice_get loaded.now number) }
 {
     match loaded.get(number) {
-        Some(Some(value)) => Some(value.stored()),
+        Some(Some(value)) => Some(Stored::Kept(value)),
         _ => None,
     }
 }
 
 /// A global of the file that is evaluated gets its value.
-pub fn set_global(state: &mut State, file: u32, number: usize, value: Value)
-    ensures { state.new ≡ set_global file number value state.old }
+pub fn set_global<'a>(state: &mut State<'a>, file: u32, number: usize, value: Operand<'a>)
+    ensures { state.new ≡ set_global file number value.entry state.old }
 {
     if file == state.file && number < state.globals.as_slice().len() {
         state.globals.set(number, Some(value));
@@ -65,14 +65,14 @@ pub fn set_loaded<'a>(state: &mut State<'a>, file: u32, number: usize, value: Op
 /// # Errors
 ///
 /// `NoMemory` where memory was refused; nothing is made then.
-pub fn define(
+pub fn define<'a>(
     alloc: Global,
-    state: &mut State,
+    state: &mut State<'a>,
     id: MadeId,
     name: &Text,
-    defaults: Items,
+    defaults: Items<'a>,
 ) -> Result<Value, Broken>
-    ensures { Does (define id name.now defaults) state.old result state.new }
+    ensures { Does (define id name.now defaults.entry) state.old result state.new }
 {
     let function = FunctionRef {
         id,

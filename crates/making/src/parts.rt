@@ -10,7 +10,11 @@ use std::alloc::{AllocError, Global};
 use values::{Broken, Depset, Element, Group, Key, Kind, Leaf, Seen};
 
 /// The elements that items are, or `type`.
-pub(crate) fn elements(alloc: Global, items: Group<'_>, heap: &Heap) -> Result<Vec<Element>, Broken>
+pub(crate) fn elements<'b>(
+    alloc: Global,
+    items: Group<'b, '_>,
+    heap: &'b Heap,
+) -> Result<Vec<Element>, Broken>
     ensures { MatchResult result (λ v. all_in element_in heap.now (group_items items.entry)
         ≡ Ok v.items) (λ e. FaultOr (all_in element_in heap.now (group_items items.entry)) e) }
 {
@@ -24,7 +28,7 @@ pub(crate) fn elements(alloc: Global, items: Group<'_>, heap: &Heap) -> Result<V
 }
 
 /// Puts the element that a value is last, or `type`.
-fn put_element(value: &Seen<'_>, elements: &mut Vec<Element>) -> Result<(), Broken>
+fn put_element(value: &Seen<'_, '_>, elements: &mut Vec<Element>) -> Result<(), Broken>
     ensures { MatchResult result (λ _. put_last elements.old.items (element_in (seen value.now))
         ≡ Ok elements.new.items) (λ e. FaultOr
         (put_last elements.old.items (element_in (seen value.now))) e) }
@@ -41,7 +45,7 @@ fn put_element(value: &Seen<'_>, elements: &mut Vec<Element>) -> Result<(), Brok
 }
 
 /// The element that a value is, if it can be one.
-fn element_of(value: &Seen<'_>) -> Result<Option<Element>, AllocError>
+fn element_of(value: &Seen<'_, '_>) -> Result<Option<Element>, AllocError>
     ensures { IfOk result (λ e. e ≡ element_in (seen value.now)) }
 {
     match value {
@@ -55,7 +59,11 @@ fn element_of(value: &Seen<'_>) -> Result<Option<Element>, AllocError>
 }
 
 /// The depsets that items are, or `type`.
-pub(crate) fn children(alloc: Global, items: Group<'_>, heap: &Heap) -> Result<Vec<Depset>, Broken>
+pub(crate) fn children<'b>(
+    alloc: Global,
+    items: Group<'b, '_>,
+    heap: &'b Heap,
+) -> Result<Vec<Depset>, Broken>
     ensures { MatchResult result (λ v. all_in depset_in heap.now (group_items items.entry)
         ≡ Ok v.items) (λ e. FaultOr (all_in depset_in heap.now (group_items items.entry)) e) }
 {
@@ -69,7 +77,7 @@ pub(crate) fn children(alloc: Global, items: Group<'_>, heap: &Heap) -> Result<V
 }
 
 /// Puts the depset that a value is last, or `type`.
-fn put_depset(value: &Seen<'_>, depsets: &mut Vec<Depset>) -> Result<(), Broken>
+fn put_depset(value: &Seen<'_, '_>, depsets: &mut Vec<Depset>) -> Result<(), Broken>
     ensures { MatchResult result (λ _. put_last depsets.old.items (depset_in (seen value.now))
         ≡ Ok depsets.new.items) (λ e. FaultOr (put_last depsets.old.items
         (depset_in (seen value.now))) e) }

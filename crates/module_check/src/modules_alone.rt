@@ -14,7 +14,7 @@ use plain::Text;
 use printing::text;
 use std::alloc::{AllocError, Global};
 use syntax::{FileKind, ParseStop, Parsed, parse};
-use values::{Broken, Fields, Item, Items, Kind, Ticks};
+use values::{Broken, Fields, Items, Kind, Ticks};
 use visits::freeze;
 
 /// How many ticks a module may use.
@@ -29,7 +29,7 @@ pub enum Evaluated {
 }
 
 /// Nothing bound, in so many slots.
-fn unbound(alloc: Global, count: usize) -> Result<Fields, AllocError> {
+fn unbound<'a>(alloc: Global, count: usize) -> Result<Fields<'a>, AllocError> {
     let mut fields = Fields::with_capacity(alloc, count)?;
     for _ in 0..count {
         fields.push(None)?;
@@ -38,7 +38,7 @@ fn unbound(alloc: Global, count: usize) -> Result<Fields, AllocError> {
 }
 
 /// No defaults, of so many functions.
-fn no_defaults(alloc: Global, count: usize) -> Result<Defaults, AllocError> {
+fn no_defaults<'a>(alloc: Global, count: usize) -> Result<Defaults<'a>, AllocError> {
     let mut defaults = Defaults::new(alloc);
     for _ in 0..count {
         defaults.push(Items::new(alloc))?;
@@ -81,7 +81,7 @@ fn globals(alloc: Global, parsed: &Parsed, mut whole: Box<Whole<()>>) -> Result<
     let state = &mut whole.state;
     for (name, value) in parsed.globals.iter().zip(state.globals.as_slice()) {
         if let Some(value) = value {
-            match freeze(alloc, Item::Value(value), &state.heap, &mut state.ticks) {
+            match freeze(alloc, value.item(), &state.heap, &mut state.ticks) {
                 Ok(frozen) => texts.push((name.share()?, text(alloc, &frozen)?))?,
                 Err(Broken::Kind(kind)) => return fault(alloc, 0, &kind),
                 Err(Broken::NoMemory) => bail!("no memory"),

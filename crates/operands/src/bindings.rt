@@ -2,10 +2,9 @@
 ghost use Rattle.std.specs.Prelude.{◌≡◌, ◌<◌, None, IfOk, length, replicate, slice_get, slice_set};
 ghost use Rattle.std.specs.Prelude.{option_copied};
 
-use crate::Operand;
 use std::alloc::{AllocError, Global};
 use std::marker::Model;
-use values::{Fields, Value};
+use values::{Operand, Value};
 
 /// What each name holds, by its number: None where the name isn't bound.
 #[derive(Drop)]
@@ -66,19 +65,19 @@ impl<'a> Bindings<'a> {
         self.names[number] = value;
     }
 
-    /// What the names hold, for what keeps it.
+    /// What the names hold, for what outlives where it lies: at most a count more for each.
     ///
     /// # Errors
     ///
-    /// Memory was refused.
-    pub fn to_fields(&self, alloc: Global) -> Result<Fields, AllocError>
-        ensures { IfOk result (λ f. f ≡ self.now) }
+    /// Memory was refused, or a count is at its greatest.
+    pub fn to_values(&self, alloc: Global) -> Result<Vec<Option<Value>>, AllocError>
+        ensures { IfOk result (λ v. v.items ≡ self.now) }
     {
-        let mut fields = Fields::with_capacity(alloc, self.names.len())?;
+        let mut values = Vec::with_capacity(alloc, self.names.len())?;
         for name in self.names.as_slice() {
-            fields.push(kept(name)?)?;
+            values.push(kept(name)?)?;
         }
-        Ok(fields)
+        Ok(values)
     }
 }
 

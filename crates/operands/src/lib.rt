@@ -6,11 +6,10 @@
 #![tactic(auto)]
 
 mod bindings;
-mod near;
 mod operand;
 mod stored;
 
 pub use bindings::Bindings;
-pub use near::{Near, as_value};
-pub use operand::{Operand, owned};
+pub use operand::owned;
 pub use stored::Stored;
+pub use values::Operand;

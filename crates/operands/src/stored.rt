@@ -2,9 +2,8 @@
 ghost use Rattle.std.specs.Prelude.{◌≡◌, IfOk};
 ghost use Rattle.operands.specs.Lying.{stored_value};
 
-use crate::Operand;
 use std::alloc::AllocError;
-use values::{Item, Value};
+use values::{Item, Operand};
 
 /// A value that is stored: where what lives longer lends it, or where it is kept.
 #[derive(Clone, Copy)]
@@ -12,7 +11,7 @@ pub enum Stored<'a, 'b> {
     /// What lives longer lends it.
     Lent(Item<'a>),
     /// It is kept here.
-    Kept(&'b Value),
+    Kept(&'b Operand<'a>),
 }
 
 impl<'a, 'b> Stored<'a, 'b> {
@@ -27,7 +26,7 @@ impl<'a, 'b> Stored<'a, 'b> {
     {
         match self {
             Stored::Lent(item) => Ok(Operand::lent(item)),
-            Stored::Kept(value) => Ok(Operand::own(value.share()?)),
+            Stored::Kept(value) => value.share(),
         }
     }
 }

@@ -4,13 +4,13 @@ use values::{Items, Key, Leaf};
 
 /// A value without parts, or the items of a new list or of a new tuple.
 #[derive(Drop)]
-pub enum Made {
+pub enum Made<'a> {
     /// A string, a whole number or a bool.
     Key(Key),
     /// Any other value without parts.
     Leaf(Leaf),
     /// The items of a new list.
-    List(Items),
+    List(Items<'a>),
     /// The items of a new tuple.
-    Tuple(Items),
+    Tuple(Items<'a>),
 }

@@ -7,6 +7,7 @@ use operands::Bindings;
 use plain::Text;
 use std::alloc::{AllocError, Global};
 use std::marker::Model;
+use std::mem::replace;
 use values::{Fields, Items, Ticks};
 
 /// What an evaluation holds.
@@ -17,7 +18,7 @@ use values::{Fields, Items, Ticks};
 #[derive(Drop)]
 pub struct State<'a> {
     /// The cells that names share.
-    pub heap: Heap,
+    pub heap: Heap<'a>,
     /// The ticks that were used, of their limit.
     pub ticks: Ticks,
     /// The path of the file, or the label of the target, that is evaluated.
@@ -27,21 +28,21 @@ pub struct State<'a> {
     /// The number of the file among those that are linked.
     pub file: u32,
     /// The globals of the file, as far as they are bound.
-    pub globals: Fields,
+    pub globals: Fields<'a>,
     /// The names that its loads bind.
     pub loaded: Bindings<'a>,
     /// The defaults of its functions, by the function's number.
-    pub defaults: Defaults,
+    pub defaults: Defaults<'a>,
 }
 
 /// The defaults of the functions of a file, by the function's number, in the order of the
 /// parameters.
 #[derive(Drop)]
-pub struct Defaults {
-    functions: Vec<Items>,
+pub struct Defaults<'a> {
+    functions: Vec<Items<'a>>,
 }
 
-impl Model for Defaults {
+impl<'a> Model for Defaults<'a> {
     ghost use Rattle.std.specs.Prelude.{List};
     ghost use Rattle.values.specs.declared.value.Value.{Value as Held};
 
@@ -55,9 +56,9 @@ impl Model for Defaults {
     ghost view = { λ d. d.functions.items };
 }
 
-impl Defaults {
+impl<'a> Defaults<'a> {
     /// Of no function.
-    pub fn new(alloc: Global) -> Defaults
+    pub fn new(alloc: Global) -> Defaults<'a>
         ensures { result ≡ [] }
     {
         Defaults {
@@ -70,8 +71,8 @@ impl Defaults {
     /// # Errors
     ///
     /// `AllocError` where memory was refused.
-    pub fn push(&mut self, defaults: Items) -> Result<(), AllocError>
-        ensures ok { OnOk result (self.new ≡ self.old ++ defaults ∷ []) }
+    pub fn push(&mut self, defaults: Items<'a>) -> Result<(), AllocError>
+        ensures ok { OnOk result (self.new ≡ self.old ++ defaults.entry ∷ []) }
         ensures err { OnErr result (self.new ≡ self.old) }
     {
         self.functions.push(defaults)?;
@@ -86,17 +87,17 @@ impl Defaults {
     }
 
     /// The defaults of a function.
-    pub fn get(&self, function: usize) -> Option<&Items>
+    pub fn get(&self, function: usize) -> Option<&Items<'a>>
         ensures { option_copied result ≡ slice_get self.now function }
     {
         self.functions.get(function)
     }
 
     /// Gives a function its defaults.
-    pub fn set(&mut self, function: usize, defaults: Items)
+    pub fn set(&mut self, function: usize, defaults: Items<'a>)
         requires { function < length self.old }
-        ensures { self.new ≡ slice_set self.old function defaults }
+        ensures { self.new ≡ slice_set self.old function defaults.entry }
     {
-        self.functions[function] = defaults;
+        let _old = replace(&mut self.functions[function], defaults);
     }
 }

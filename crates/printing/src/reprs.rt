@@ -139,7 +139,7 @@ fn put_plain(alloc: Global, leaf: &Leaf, ticks: &Ticks, out: &mut String) -> Res
 }
 
 /// The string that a value shows, if it is one.
-fn text_in<'a>(shown: &Seen<'a>) -> Option<&'a Text>
+fn text_in<'b>(shown: &Seen<'b, '_>) -> Option<&'b Text>
     ensures { option_copied result ≡ string_in (seen shown.now) }
 {
     match shown {
@@ -179,7 +179,7 @@ fn put_whole(
     ensures { Prints (whole_at left heap.now (item_value item.entry) ticks.old) result
         (string_bytes out.old) (string_bytes out.new) ticks.new }
 {
-    let shown = heap.see_item(item);
+    let shown = (&*heap).see_item(item);
     match text_in(&shown) {
         Some(text) => put_itself(left, text, ticks, out),
         None => put_within(alloc, left, item, heap, ticks, out),
@@ -202,7 +202,7 @@ fn put_within(
     if let Err(kind) = ticks.enter(left) {
         return Err(Broken::Kind(kind));
     }
-    let shown = heap.see_item(item);
+    let shown = (&*heap).see_item(item);
     put_shown(alloc, left - 1, &shown, heap, ticks, out)
 }
 
@@ -211,7 +211,7 @@ fn put_within(
 fn put_shown(
     alloc: Global,
     left: u32,
-    shown: &Seen<'_>,
+    shown: &Seen<'_, '_>,
     heap: &Heap,
     ticks: &mut Ticks,
     out: &mut String,
@@ -250,7 +250,7 @@ fn put_sequence(
     alloc: Global,
     left: u32,
     is_list: bool,
-    items: &Group<'_>,
+    items: &Group<'_, '_>,
     heap: &Heap,
     ticks: &mut Ticks,
     out: &mut String,
@@ -272,7 +272,7 @@ fn put_sequence(
 fn put_items(
     alloc: Global,
     left: u32,
-    items: &Group<'_>,
+    items: &Group<'_, '_>,
     heap: &Heap,
     ticks: &mut Ticks,
     out: &mut String,
@@ -294,7 +294,7 @@ fn put_items(
 fn put_dict(
     alloc: Global,
     left: u32,
-    entries: &Table<'_>,
+    entries: &Table<'_, '_>,
     heap: &Heap,
     ticks: &mut Ticks,
     out: &mut String,
@@ -317,7 +317,7 @@ fn put_dict(
 fn put_entries(
     alloc: Global,
     left: u32,
-    entries: &Table<'_>,
+    entries: &Table<'_, '_>,
     heap: &Heap,
     ticks: &mut Ticks,
     out: &mut String,

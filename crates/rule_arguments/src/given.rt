@@ -1,7 +1,6 @@
 //! What a call of a rule gives.
 ghost use Rattle.std.specs.Prelude.{◌≡◌, Some, None, IfOk, length, option_copied, if◌then◌else◌};
 ghost use Rattle.values.specs.Seeing.{item_value};
-ghost use Rattle.values.specs.Shape.{value_of};
 ghost use Rattle.operations.specs.Arguments.{given};
 ghost use Rattle.targets.specs.RuleCalls.{given_as, unless_none};
 
@@ -12,7 +11,7 @@ use operations::Arguments;
 use plain::Text;
 use std::alloc::{AllocError, Global};
 use std::marker::Model;
-use values::{Frozen, Held, Item, Leaf, Value};
+use values::{Item, Leaf};
 
 /// What a call of a rule gives, found by name.
 #[derive(Drop)]
@@ -93,22 +92,5 @@ fn is_none(value: Item<'_>) -> bool
     ensures { unless_none (Some (item_value value.entry))
         ≡ (if result then None else Some (item_value value.entry)) }
 {
-    match value {
-        Item::Value(value) => value_is_none(value),
-        Item::Tree(tree) => tree_is_none(tree),
-        Item::Key(_) => false,
-    }
-}
-
-fn value_is_none(value: &Value) -> bool
-    ensures { unless_none (Some value.now) ≡ (if result then None else Some value.now) }
-{
-    matches!(value, Value::Leaf(Leaf::None))
-}
-
-fn tree_is_none(tree: &Frozen) -> bool
-    ensures { unless_none (Some (value_of tree.now))
-        ≡ (if result then None else Some (value_of tree.now)) }
-{
-    matches!(tree.held(), Held::Leaf(Leaf::None))
+    matches!(value, Item::Leaf(Leaf::None))
 }

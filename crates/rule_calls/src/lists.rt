@@ -17,11 +17,11 @@ use values::{Broken, Group, Kind, Seen};
 use workspace::Label;
 
 /// The labels that items are, whose texts are read in a package, or `type`.
-pub(crate) fn labels(
+pub(crate) fn labels<'b>(
     alloc: Global,
-    heap: &Heap,
+    heap: &'b Heap,
     package: &Here<'_>,
-    items: Group<'_>,
+    items: Group<'b, '_>,
 ) -> Result<Sequence<Shared<Label>>, Broken>
     ensures { Gives (added (λ v. label_in heap.now «package».now (shape heap.now v)) []
         (group_items items.entry)) result }
@@ -41,7 +41,7 @@ fn put_label(
     alloc: Global,
     heap: &Heap,
     package: &Here<'_>,
-    value: &Seen<'_>,
+    value: &Seen<'_, '_>,
     labels: &mut Sequence<Shared<Label>>,
 ) -> Result<(), Broken>
     ensures { MatchResult result

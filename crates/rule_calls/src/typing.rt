@@ -37,7 +37,7 @@ fn typed_shown(
     heap: &Heap,
     package: &Here<'_>,
     attribute: &Attribute,
-    value: &Seen<'_>,
+    value: &Seen<'_, '_>,
 ) -> Result<AttributeValue, Broken>
     ensures { Gives (or_fault Kind.Wrong (typed heap.now «package».now attribute.now.kind
         attribute.now.values (seen value.now))) result }
@@ -55,7 +55,7 @@ fn typed_shown(
 }
 
 /// A string that is allowed.
-fn text_value(allowed: &Choices, value: &Seen<'_>) -> Result<AttributeValue, Broken>
+fn text_value(allowed: &Choices, value: &Seen<'_, '_>) -> Result<AttributeValue, Broken>
     ensures { (h : List Cell) (p : List ℕ) → Gives (or_fault Kind.Wrong
         (typed h p AttributeKind.String allowed.now (seen value.now))) result }
 {
@@ -69,7 +69,7 @@ fn text_value(allowed: &Choices, value: &Seen<'_>) -> Result<AttributeValue, Bro
 }
 
 /// A whole number that is allowed.
-fn number_value(allowed: &Choices, value: &Seen<'_>) -> Result<AttributeValue, Broken>
+fn number_value(allowed: &Choices, value: &Seen<'_, '_>) -> Result<AttributeValue, Broken>
     ensures { (h : List Cell) (p : List ℕ) → Gives (or_fault Kind.Wrong
         (typed h p AttributeKind.Int allowed.now (seen value.now))) result }
 {
@@ -94,7 +94,7 @@ fn if_allowed(allowed: &Choices, key: &Key) -> Result<AttributeValue, Broken>
 }
 
 /// A bool.
-fn truth_value(value: &Seen<'_>) -> Result<AttributeValue, Broken>
+fn truth_value(value: &Seen<'_, '_>) -> Result<AttributeValue, Broken>
     ensures { (h : List Cell) (p : List ℕ) (ks : List Key) → Gives (or_fault Kind.Wrong
         (typed h p AttributeKind.Bool ks (seen value.now))) result }
 {
@@ -105,7 +105,7 @@ fn truth_value(value: &Seen<'_>) -> Result<AttributeValue, Broken>
 }
 
 /// A list of strings.
-fn strings_value(alloc: Global, heap: &Heap, value: &Seen<'_>) -> Result<AttributeValue, Broken>
+fn strings_value(alloc: Global, heap: &Heap, value: &Seen<'_, '_>) -> Result<AttributeValue, Broken>
     ensures { (p : List ℕ) (ks : List Key) → Gives (or_fault Kind.Wrong
         (typed heap.now p AttributeKind.StringList ks (seen value.now))) result }
 {
@@ -122,7 +122,7 @@ fn strings_value(alloc: Global, heap: &Heap, value: &Seen<'_>) -> Result<Attribu
 }
 
 /// A dict whose keys and values are strings.
-fn dict_value(alloc: Global, heap: &Heap, value: &Seen<'_>) -> Result<AttributeValue, Broken>
+fn dict_value(alloc: Global, heap: &Heap, value: &Seen<'_, '_>) -> Result<AttributeValue, Broken>
     ensures { (p : List ℕ) (ks : List Key) → Gives (or_fault Kind.Wrong
         (typed heap.now p AttributeKind.StringDict ks (seen value.now))) result }
 {
@@ -142,7 +142,7 @@ fn dict_value(alloc: Global, heap: &Heap, value: &Seen<'_>) -> Result<AttributeV
 fn label_value(
     alloc: Global,
     package: &Here<'_>,
-    value: &Seen<'_>,
+    value: &Seen<'_, '_>,
 ) -> Result<AttributeValue, Broken>
     ensures { (h : List Cell) (ks : List Key) → Gives (or_fault Kind.Wrong
         (typed h «package».now AttributeKind.Label ks (seen value.now))) result }
@@ -159,7 +159,7 @@ fn labels_value(
     alloc: Global,
     heap: &Heap,
     package: &Here<'_>,
-    value: &Seen<'_>,
+    value: &Seen<'_, '_>,
 ) -> Result<AttributeValue, Broken>
     ensures { (ks : List Key) → Gives (or_fault Kind.Wrong
         (typed heap.now «package».now AttributeKind.LabelList ks (seen value.now))) result }

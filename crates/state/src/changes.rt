@@ -21,8 +21,8 @@ use values::{Broken, Group, Item, Items, Kind, Leaf, Seen, Value};
 /// # Errors
 ///
 /// The first of `type`, `frozen`, `iterating` and `large`; `NoMemory` where memory was refused.
-pub fn append(state: &mut State, list: &Value, item: Value) -> Result<Value, Broken>
-    ensures { Does (append list.now item) state.old result state.new }
+pub fn append<'a>(state: &mut State<'a>, list: &Value, item: Operand<'a>) -> Result<Value, Broken>
+    ensures { Does (append list.now item.entry) state.old result state.new }
 {
     state.heap.append(list, item)?;
     Ok(Value::Leaf(Leaf::None))
@@ -35,29 +35,34 @@ pub fn append(state: &mut State, list: &Value, item: Value) -> Result<Value, Bro
 ///
 /// `type` where the sequence is no list or tuple; then the first of `type`, `frozen`, `iterating`
 /// and `large`, of the list; `NoMemory` where memory was refused.
-pub fn extend(
+pub fn extend<'a>(
     alloc: Global,
-    state: &mut State,
+    state: &mut State<'a>,
     list: &Value,
-    sequence: &Operand<'_>,
+    sequence: &Operand<'a>,
 ) -> Result<Value, Broken>
     ensures { Does (extend list.now sequence.now) state.old result state.new }
 {
-    let items = more_of(alloc, state, list, sequence.item())?;
+    let items = more_of(alloc, state, list, sequence)?;
     state.heap.extend(list, items)?;
     Ok(Value::Leaf(Leaf::None))
 }
 
 /// The items that `list.extend(sequence)` adds, or why it adds none.
-fn more_of(alloc: Global, state: &State, list: &Value, sequence: Item<'_>) -> Result<Items, Broken>
+fn more_of<'a>(
+    alloc: Global,
+    state: &State<'a>,
+    list: &Value,
+    sequence: &Operand<'a>,
+) -> Result<Items<'a>, Broken>
     ensures { MatchResult result
-        (λ items. sequence_in (shape state.now.heap (item_value sequence.entry)) ≡ Some items)
-        (λ e. FaultOr (extend list.now (item_value sequence.entry) state.now) e) }
+        (λ items. sequence_in (shape state.now.heap sequence.now) ≡ Some items)
+        (λ e. FaultOr (extend list.now sequence.now state.now) e) }
 {
-    let Some(items) = sequence_of(&state.heap.see_item(sequence)) else {
+    let Some(items) = sequence_of(&state.heap.see(sequence)) else {
         return Err(Broken::Kind(Kind::Wrong));
     };
-    room(&state.heap, Item::Value(list), items)?;
+    room(&state.heap, list.item(), items)?;
     let items = copied(alloc, items)?;
     Ok(items)
 }
@@ -67,7 +72,7 @@ fn more_of(alloc: Global, state: &State, list: &Value, sequence: Item<'_>) -> Re
 /// # Errors
 ///
 /// `AllocError` where memory was refused.
-pub fn copied(alloc: Global, group: Group<'_>) -> Result<Items, AllocError>
+pub fn copied<'a>(alloc: Global, group: Group<'_, 'a>) -> Result<Items<'a>, AllocError>
     ensures { IfOk result (λ items. items ≡ group_items group.entry) }
 {
     let mut items = Items::with_capacity(alloc, group.len())?;
@@ -76,11 +81,11 @@ pub fn copied(alloc: Global, group: Group<'_>) -> Result<Items, AllocError>
 }
 
 /// Puts the items of a group behind others.
-pub(crate) fn copy_into(group: Group<'_>, items: &mut Items) -> Result<(), AllocError>
+pub(crate) fn copy_into<'a>(group: Group<'_, 'a>, items: &mut Items<'a>) -> Result<(), AllocError>
     ensures { OnOk result (items.new ≡ items.old ++ group_items group.entry) }
 {
-    for item in group {
-        items.push(item.to_value()?)?;
+    for place in 0..group.len() {
+        items.push(group.operand(place)?)?;
     }
     Ok(())
 }
@@ -91,15 +96,16 @@ pub(crate) fn copy_into(group: Group<'_>, items: &mut Items) -> Result<(), Alloc
 ///
 /// The first of `type`, `frozen` and `iterating`; then `index` where a list has no such item, and
 /// `large` where a dict would have an entry too many; `NoMemory` where memory was refused.
-pub fn set_item(
-    state: &mut State,
+pub fn set_item<'a>(
+    state: &mut State<'a>,
     base: &Value,
     index: Item<'_>,
-    value: Value,
+    value: Operand<'a>,
 ) -> Result<(), Broken>
-    ensures { Does (set_item base.now (item_value index.entry) value) state.old result state.new }
+    ensures { Does (set_item base.now (item_value index.entry) value.entry) state.old result
+        state.new }
 {
-    match state.heap.see(base) {
+    match state.heap.see_item(base.item()) {
         Seen::List(_) => set_index(state, base, index, value),
         Seen::Tuple(_) => set_index(state, base, index, value),
         Seen::Dict(_) => set_key(state, base, index, value),
@@ -108,9 +114,14 @@ pub fn set_item(
 }
 
 /// `list[index] = value`.
-fn set_index(state: &mut State, list: &Value, index: Item<'_>, value: Value) -> Result<(), Broken>
+fn set_index<'a>(
+    state: &mut State<'a>,
+    list: &Value,
+    index: Item<'_>,
+    value: Operand<'a>,
+) -> Result<(), Broken>
     ensures { Does (λ s. changed tt s (of_type (number_in (shape s.heap (item_value index.entry)))
-        (λ n. list_changed (indexed n value) s.heap list.now))) state.old result state.new }
+        (λ n. list_changed (indexed n value.entry) s.heap list.now))) state.old result state.new }
 {
     match number_of(&state.heap.see_item(index)) {
         Some(number) => state.heap.set_index(list, number, value),
@@ -119,14 +130,14 @@ fn set_index(state: &mut State, list: &Value, index: Item<'_>, value: Value) -> 
 }
 
 /// `dict[key] = value`: a key that is there keeps its place.
-pub(crate) fn set_key(
-    state: &mut State,
+pub(crate) fn set_key<'a>(
+    state: &mut State<'a>,
     dict: &Value,
     key: Item<'_>,
-    value: Value,
+    value: Operand<'a>,
 ) -> Result<(), Broken>
     ensures { Does (λ s. changed tt s (of_type (key_in (shape s.heap (item_value key.entry)))
-        (λ k. dict_changed (keyed k value) s.heap dict.now))) state.old result state.new }
+        (λ k. dict_changed (keyed k value.entry) s.heap dict.now))) state.old result state.new }
 {
     let Some(key) = key_of(&state.heap.see_item(key)) else {
         return Err(Broken::Kind(Kind::Wrong));

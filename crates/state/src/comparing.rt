@@ -29,7 +29,12 @@ pub fn equals(state: &mut State, x: Item<'_>, y: Item<'_>) -> Result<bool, Kind>
 /// # Errors
 ///
 /// The fault of the first comparison that has one, as `equals` has them.
-pub fn is_among(heap: &Heap, ticks: &mut Ticks, x: Item<'_>, items: Group<'_>) -> Result<bool, Kind>
+pub fn is_among(
+    heap: &Heap,
+    ticks: &mut Ticks,
+    x: Item<'_>,
+    items: Group<'_, '_>,
+) -> Result<bool, Kind>
     ensures { SaysKind (among (equal_at VISITED_LEVELS heap.now) (item_value x.entry)
         (group_items items.entry) ticks.old) result ticks.new }
 {

@@ -2,11 +2,11 @@
 ghost use Rattle.std.specs.Prelude.{◌≡◌, ◌<◌, ◌∷◌, [], Ok, Err, Some, None, IfOk};
 ghost use Rattle.std.specs.Prelude.{option_copied};
 ghost use Rattle.values.specs.Seeing.{seen, item_value, group_items, table_entries};
-ghost use Rattle.operations.specs.States.{Does, Gives, GivesKind};
+ghost use Rattle.operations.specs.States.{Does, Gives};
 ghost use Rattle.operations.specs.Reading.{of_type};
 ghost use Rattle.operations.specs.Making.{text};
 ghost use Rattle.operations.specs.Items.{item, item_in, item_at, value_at, key_item, byte_at};
-ghost use Rattle.operations.specs.Items.{byte_text, found};
+ghost use Rattle.operations.specs.Items.{byte_text};
 
 use crate::reading::{key_of, number_of};
 use numbers::place;
@@ -25,23 +25,22 @@ use values::{Broken, Group, Item, Key, Kind, Seen, Table, Value};
 #[inline(always)]
 pub fn item<'a>(
     alloc: Global,
-    state: &State<'_>,
+    state: &State<'a>,
     base: &Operand<'a>,
     index: Item<'_>,
 ) -> Result<Operand<'a>, Broken>
     ensures { Does (item base.now (item_value index.entry)) state.now result state.now }
 {
-    let index = state.heap.see_item(index);
-    if let Some(base) = base.lent_seen() {
-        return item_in(alloc, &base, &index);
-    }
-    let item = item_in(alloc, &state.heap.see_item(base.item()), &index)?;
-    Ok(item.into_own()?)
+    item_in(alloc, &state.heap.see(base), &state.heap.see_item(index))
 }
 
 /// The item of what a base shows.
 #[inline(always)]
-fn item_in<'a>(alloc: Global, base: &Seen<'a>, index: &Seen<'_>) -> Result<Operand<'a>, Broken>
+fn item_in<'a>(
+    alloc: Global,
+    base: &Seen<'_, 'a>,
+    index: &Seen<'_, '_>,
+) -> Result<Operand<'a>, Broken>
     ensures { Gives (item_in (seen base.now) (seen index.now)) result }
 {
     match base {
@@ -97,7 +96,7 @@ fn one_byte(alloc: Global, byte: u8) -> Result<Text, AllocError>
 
 /// The item at an index, or `type` where there is no index.
 #[inline(always)]
-fn indexed<'a>(items: Group<'a>, index: Option<i64>) -> Result<Operand<'a>, Broken>
+fn indexed<'a>(items: Group<'_, 'a>, index: Option<i64>) -> Result<Operand<'a>, Broken>
     ensures { Gives (of_type index (item_at (group_items items.entry))) result }
 {
     match index {
@@ -108,17 +107,17 @@ fn indexed<'a>(items: Group<'a>, index: Option<i64>) -> Result<Operand<'a>, Brok
 
 /// The item at an index, from the end where it is negative, or `index`.
 #[inline(always)]
-fn item_at<'a>(items: Group<'a>, index: i64) -> Result<Operand<'a>, Broken>
+fn item_at<'a>(items: Group<'_, 'a>, index: i64) -> Result<Operand<'a>, Broken>
     ensures { Gives (item_at (group_items items.entry) index) result }
 {
     match place(index, items.len()) {
-        Some(place) => Ok(Operand::lent(items.item(place))),
+        Some(place) => Ok(items.operand(place)?),
         None => Err(Broken::Kind(Kind::Index)),
     }
 }
 
 /// The value of a key, or `type` where there is no key.
-fn keyed<'a>(entries: Table<'a>, key: Option<&Key>) -> Result<Operand<'a>, Broken>
+fn keyed<'a>(entries: Table<'_, 'a>, key: Option<&Key>) -> Result<Operand<'a>, Broken>
     ensures { Gives (of_type (option_copied key.entry) (value_at (table_entries entries.entry)))
         result }
 {
@@ -129,29 +128,11 @@ fn keyed<'a>(entries: Table<'a>, key: Option<&Key>) -> Result<Operand<'a>, Broke
 }
 
 /// The value of a key, or `key`.
-fn value_at<'a>(entries: Table<'a>, key: &Key) -> Result<Operand<'a>, Broken>
+fn value_at<'a>(entries: Table<'_, 'a>, key: &Key) -> Result<Operand<'a>, Broken>
     ensures { Gives (value_at (table_entries entries.entry) key.now) result }
 {
-    match entries.get(key) {
-        Some(item) => Ok(Operand::lent(item)),
+    match entries.operand(key)? {
+        Some(value) => Ok(value),
         None => Err(Broken::Kind(Kind::Key)),
-    }
-}
-
-/// What these entries have for a key, if it is one of theirs: `type` where it can't be one. The
-/// value of a key is lent.
-///
-/// # Errors
-///
-/// `type` where the value can't be a key.
-pub fn find<'a>(entries: Table<'a>, key: &Seen<'_>) -> Result<Option<Operand<'a>>, Kind>
-    ensures { GivesKind (found (table_entries entries.entry) (seen key.now)) result }
-{
-    let Some(key) = key_of(key) else {
-        return Err(Kind::Wrong);
-    };
-    match entries.get(key) {
-        Some(value) => Ok(Some(Operand::lent(value))),
-        None => Ok(None),
     }
 }

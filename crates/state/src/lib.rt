@@ -18,7 +18,7 @@ mod walks;
 
 pub use changes::{append, copied, extend, set_item};
 pub use comparing::{equals, is_among};
-pub use items::{find, item};
+pub use items::item;
 pub use making::{collect, enter, keep, new_dict, new_list, new_tuple, place};
 pub use operations::{Arithmetic, Defaults, Made, Method, State};
 pub use operators::{add_in_place, calculate, compare, negate, plus};

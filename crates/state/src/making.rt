@@ -12,15 +12,15 @@ use crate::changes::set_key;
 use heap::Heap;
 use operations::{Made, State};
 use std::alloc::Global;
-use values::{Broken, Entries, Item, Items, Kind, Seen, Value};
+use values::{Broken, Entries, Item, Items, Kind, Operand, Seen, Value};
 
 /// A new list of these items, or `large`.
 ///
 /// # Errors
 ///
 /// `large` where there are too many items; `NoMemory` where memory was refused.
-pub fn new_list(state: &mut State, items: Items) -> Result<Value, Broken>
-    ensures { Does (new_list items) state.old result state.new }
+pub fn new_list<'a>(state: &mut State<'a>, items: Items<'a>) -> Result<Value, Broken>
+    ensures { Does (new_list items.entry) state.old result state.new }
 {
     state.heap.new_list(items)
 }
@@ -30,8 +30,8 @@ pub fn new_list(state: &mut State, items: Items) -> Result<Value, Broken>
 /// # Errors
 ///
 /// `large` where there are too many items; `NoMemory` where memory was refused.
-pub fn new_tuple(state: &mut State, items: Items) -> Result<Value, Broken>
-    ensures { Does (new_tuple items) state.old result state.new }
+pub fn new_tuple<'a>(state: &mut State<'a>, items: Items<'a>) -> Result<Value, Broken>
+    ensures { Does (new_tuple items.entry) state.old result state.new }
 {
     state.heap.new_tuple(items)
 }
@@ -54,8 +54,8 @@ pub fn new_dict(alloc: Global, state: &mut State) -> Result<Value, Broken>
 ///
 /// `large` where there are too many items; `NoMemory` where memory was refused.
 #[inline(always)]
-pub fn place(state: &mut State, made: Made) -> Result<Value, Broken>
-    ensures { Does (placed made) state.old result state.new }
+pub fn place<'a>(state: &mut State<'a>, made: Made<'a>) -> Result<Value, Broken>
+    ensures { Does (placed made.entry) state.old result state.new }
 {
     match made {
         Made::Key(key) => Ok(Value::Key(key)),
@@ -70,8 +70,8 @@ pub fn place(state: &mut State, made: Made) -> Result<Value, Broken>
 /// # Errors
 ///
 /// `large` where the list would have an item too many; `NoMemory` where memory was refused.
-pub fn collect(state: &mut State, list: &Value, item: Value) -> Result<(), Broken>
-    ensures { Does (collect list.now item) state.old result state.new }
+pub fn collect<'a>(state: &mut State<'a>, list: &Value, item: Operand<'a>) -> Result<(), Broken>
+    ensures { Does (collect list.now item.entry) state.old result state.new }
 {
     state.heap.append(list, item)
 }
@@ -83,8 +83,13 @@ pub fn collect(state: &mut State, list: &Value, item: Value) -> Result<(), Broke
 ///
 /// `type` where the key can't be one; `large` where the dict would have an entry too many;
 /// `NoMemory` where memory was refused.
-pub fn keep(state: &mut State, dict: &Value, key: Item<'_>, value: Value) -> Result<(), Broken>
-    ensures { Does (keep dict.now (item_value key.entry) value) state.old result state.new }
+pub fn keep<'a>(
+    state: &mut State<'a>,
+    dict: &Value,
+    key: Item<'_>,
+    value: Operand<'a>,
+) -> Result<(), Broken>
+    ensures { Does (keep dict.now (item_value key.entry) value.entry) state.old result state.new }
 {
     set_key(state, dict, key, value)
 }
@@ -96,8 +101,13 @@ pub fn keep(state: &mut State, dict: &Value, key: Item<'_>, value: Value) -> Res
 ///
 /// `type` where the key can't be one; `key` where the dict has it already; `large` where the dict
 /// would have an entry too many; `NoMemory` where memory was refused.
-pub fn enter(state: &mut State, dict: &Value, key: Item<'_>, value: Value) -> Result<(), Broken>
-    ensures { Does (enter dict.now (item_value key.entry) value) state.old result state.new }
+pub fn enter<'a>(
+    state: &mut State<'a>,
+    dict: &Value,
+    key: Item<'_>,
+    value: Operand<'a>,
+) -> Result<(), Broken>
+    ensures { Does (enter dict.now (item_value key.entry) value.entry) state.old result state.new }
 {
     if holds(&state.heap, dict, key) {
         return Err(Broken::Kind(Kind::Key));
@@ -110,11 +120,11 @@ fn holds(heap: &Heap, dict: &Value, key: Item<'_>) -> bool
     ensures { result ≡ is_held (entries_in (shape heap.now dict.now))
         (key_in (shape heap.now (item_value key.entry))) }
 {
-    has_key(&heap.see(dict), &heap.see_item(key))
+    has_key(&heap.see_item(dict.item()), &heap.see_item(key))
 }
 
 /// Whether a dict has the key that a value is.
-fn has_key(dict: &Seen<'_>, key: &Seen<'_>) -> bool
+fn has_key(dict: &Seen<'_, '_>, key: &Seen<'_, '_>) -> bool
     ensures { result ≡ is_held (entries_in (seen dict.now)) (key_in (seen key.now)) }
 {
     match (dict, key) {

@@ -45,7 +45,12 @@ pub fn plus(alloc: Global, state: &mut State, a: Item<'_>, b: Item<'_>) -> Resul
 
 /// What two values of a heap add up to, or `large`.
 #[inline(always)]
-fn added_in(alloc: Global, heap: &Heap, a: Item<'_>, b: Item<'_>) -> Result<Made, Broken>
+fn added_in<'a>(
+    alloc: Global,
+    heap: &Heap<'a>,
+    a: Item<'_>,
+    b: Item<'_>,
+) -> Result<Made<'a>, Broken>
     ensures { Gives (sum_within (shape heap.now (item_value a.entry))
         (shape heap.now (item_value b.entry))) result }
 {
@@ -54,7 +59,7 @@ fn added_in(alloc: Global, heap: &Heap, a: Item<'_>, b: Item<'_>) -> Result<Made
 
 /// What two values add up to, or `large`.
 #[inline(always)]
-fn added(alloc: Global, a: &Seen<'_>, b: &Seen<'_>) -> Result<Made, Broken>
+fn added<'a>(alloc: Global, a: &Seen<'_, 'a>, b: &Seen<'_, 'a>) -> Result<Made<'a>, Broken>
     ensures { Gives (sum_within (seen a.now) (seen b.now)) result }
 {
     match (a, b) {
@@ -67,7 +72,7 @@ fn added(alloc: Global, a: &Seen<'_>, b: &Seen<'_>) -> Result<Made, Broken>
 
 /// What two numbers or two strings add up to.
 #[inline(always)]
-fn key_sum(alloc: Global, a: &Key, b: &Key) -> Result<Made, Broken>
+fn key_sum<'a>(alloc: Global, a: &Key, b: &Key) -> Result<Made<'a>, Broken>
     ensures { Gives (key_sum a.now b.now) result }
 {
     match (a, b) {
@@ -79,7 +84,7 @@ fn key_sum(alloc: Global, a: &Key, b: &Key) -> Result<Made, Broken>
 
 /// A number that was made, or its fault.
 #[inline(always)]
-fn new_number(number: Result<i64, NumberError>) -> Result<Made, Broken>
+fn new_number<'a>(number: Result<i64, NumberError>) -> Result<Made<'a>, Broken>
     ensures { Gives (new_number number) result }
 {
     match number {
@@ -123,7 +128,7 @@ fn glued_in_place(a: &str, b: &str) -> Option<ArrayString<32>>
 }
 
 /// The items of two groups, one behind the other, or `large`, which is known before any is copied.
-fn both(alloc: Global, xs: Group<'_>, ys: Group<'_>) -> Result<Items, Broken>
+fn both<'a>(alloc: Global, xs: Group<'_, 'a>, ys: Group<'_, 'a>) -> Result<Items<'a>, Broken>
     ensures { Gives (joined_items (group_items ys.entry) (group_items xs.entry)) result }
 {
     if xs.len().saturating_add(ys.len()) > LARGEST {
@@ -134,7 +139,11 @@ fn both(alloc: Global, xs: Group<'_>, ys: Group<'_>) -> Result<Items, Broken>
 }
 
 /// The items of two groups, one behind the other.
-fn both_copied(alloc: Global, xs: Group<'_>, ys: Group<'_>) -> Result<Items, AllocError>
+fn both_copied<'a>(
+    alloc: Global,
+    xs: Group<'_, 'a>,
+    ys: Group<'_, 'a>,
+) -> Result<Items<'a>, AllocError>
     ensures { IfOk result (λ items. items ≡ group_items xs.entry ++ group_items ys.entry) }
 {
     let mut items = Items::with_capacity(alloc, xs.len().saturating_add(ys.len()))?;
@@ -167,12 +176,12 @@ pub fn add_in_place(
 
 /// What `x += y` extends `x` by, None where that is the sum. A list that can't be extended by so
 /// many items refuses them before any is copied.
-fn extension_in(
+fn extension_in<'a>(
     alloc: Global,
-    state: &State,
+    state: &State<'a>,
     x: Item<'_>,
     y: Item<'_>,
-) -> Result<Option<Items>, Broken>
+) -> Result<Option<Items<'a>>, Broken>
     ensures { MatchResult result (λ r. r ≡ extension (shape state.now.heap (item_value x.entry))
         (shape state.now.heap (item_value y.entry)))
         (λ e. FaultOr (add_in_place (item_value x.entry) (item_value y.entry) state.now) e) }
@@ -186,7 +195,7 @@ fn extension_in(
 }
 
 /// What a list is extended by: the items of a list or of a tuple.
-fn extension<'a>(x: &Seen<'_>, y: &Seen<'a>) -> Option<Group<'a>>
+fn extension<'b, 'a>(x: &Seen<'_, '_>, y: &Seen<'b, 'a>) -> Option<Group<'b, 'a>>
     ensures { MatchOption result (extension (seen x.now) (seen y.now) ≡ None)
         (λ g. extension (seen x.now) (seen y.now) ≡ Some (group_items g)) }
 {
@@ -198,8 +207,8 @@ fn extension<'a>(x: &Seen<'_>, y: &Seen<'a>) -> Option<Group<'a>>
 }
 
 /// The list itself, with these items more.
-fn extended(state: &mut State, list: Operand<'_>, items: Items) -> Result<Value, Broken>
-    ensures { Does (extended items list.entry) state.old result state.new }
+fn extended<'a>(state: &mut State<'a>, list: Operand<'_>, items: Items<'a>) -> Result<Value, Broken>
+    ensures { Does (extended items.entry list.entry) state.old result state.new }
 {
     let list = list.into_value()?;
     state.heap.extend(&list, items)?;
@@ -285,7 +294,7 @@ pub fn compare(state: &State, operator: Comparison, a: Item<'_>, b: Item<'_>) ->
 
 /// The order of two values.
 #[inline(always)]
-fn order_of(a: &Seen<'_>, b: &Seen<'_>) -> Result<Ordering, Kind>
+fn order_of(a: &Seen<'_, '_>, b: &Seen<'_, '_>) -> Result<Ordering, Kind>
     ensures { GivesKind (order_in (seen a.now) (seen b.now)) result }
 {
     match (a, b) {

@@ -8,7 +8,7 @@ use values::{Group, Key, Seen};
 
 /// The whole number that a value is, if it is one.
 #[inline(always)]
-pub fn number_of(value: &Seen<'_>) -> Option<i64>
+pub fn number_of(value: &Seen<'_, '_>) -> Option<i64>
     ensures { result ≡ number_in (seen value.now) }
 {
     match value {
@@ -19,7 +19,7 @@ pub fn number_of(value: &Seen<'_>) -> Option<i64>
 
 /// The key that a value is, if it may be one.
 #[inline(always)]
-pub fn key_of<'a>(value: &Seen<'a>) -> Option<&'a Key>
+pub fn key_of<'b>(value: &Seen<'b, '_>) -> Option<&'b Key>
     ensures { option_copied result ≡ key_in (seen value.now) }
 {
     match value {
@@ -30,7 +30,7 @@ pub fn key_of<'a>(value: &Seen<'a>) -> Option<&'a Key>
 
 /// The string that a value is, if it is one.
 #[inline(always)]
-pub fn text_of<'a>(value: &Seen<'a>) -> Option<&'a Text>
+pub fn text_of<'b>(value: &Seen<'b, '_>) -> Option<&'b Text>
     ensures { option_copied result ≡ string_in (seen value.now) }
 {
     match value {
@@ -41,7 +41,7 @@ pub fn text_of<'a>(value: &Seen<'a>) -> Option<&'a Text>
 
 /// The items of a list or a tuple.
 #[inline(always)]
-pub fn sequence_of<'a>(value: &Seen<'a>) -> Option<Group<'a>>
+pub fn sequence_of<'b, 'a>(value: &Seen<'b, 'a>) -> Option<Group<'b, 'a>>
     ensures { MatchOption result (sequence_in (seen value.now) ≡ None)
         (λ g. sequence_in (seen value.now) ≡ Some (group_items g)) }
 {

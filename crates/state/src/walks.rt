@@ -9,7 +9,7 @@ ghost use Rattle.operations.specs.States.{DoesKind, Stays, tick};
 ghost use Rattle.operations.specs.Walks.{begin, ended, walked_items};
 
 use operations::State;
-use values::{Broken, Frozen, Held, Item, Kind, Value};
+use values::{Broken, Item, Kind, Value};
 
 /// One tick, or `steps`.
 ///
@@ -37,33 +37,18 @@ pub fn begin(state: &mut State, walked: Item<'_>) -> Result<(), Broken>
         → IsFullAt state.old.heap (item_value walked.entry)) }
 {
     match walked {
-        Item::Value(value) => match state.heap.begin_walk(value) {
+        Item::Cell(number) => match state.heap.begin_walk(&Value::Cell(number)) {
             Ok(_) => Ok(()),
             Err(broken) => Err(broken),
         },
-        Item::Tree(tree) => match tree_walked(tree) {
-            Ok(()) => Ok(()),
-            Err(kind) => Err(Broken::Kind(kind)),
-        },
-        Item::Key(_) => Err(Broken::Kind(Kind::Wrong)),
-    }
-}
-
-/// A frozen value may be walked where it is a list, a tuple or a dict; no walk over one is counted.
-fn tree_walked(tree: &Frozen) -> Result<(), Kind>
-    ensures { (heap : List Cell) → MatchResult result
-        (λ _. walk_begun_at heap (value_of tree.now) ≡ Ok (None, heap))
-        (λ k. walk_begun_at heap (value_of tree.now) ≡ Err k) }
-{
-    match tree.held() {
-        Held::Branch(branch) => {
+        Item::Branch(branch) => {
             if branch.is_walkable() {
                 Ok(())
             } else {
-                Err(Kind::Wrong)
+                Err(Broken::Kind(Kind::Wrong))
             }
         }
-        _ => Err(Kind::Wrong),
+        Item::Key(_) | Item::Leaf(_) => Err(Broken::Kind(Kind::Wrong)),
     }
 }
 
@@ -72,7 +57,7 @@ pub fn end(state: &mut State, walked: Item<'_>)
     ensures { state.new ≡ ended (item_value walked.entry) state.old }
 {
     match walked {
-        Item::Value(Value::Cell(number)) => state.heap.end_walk(Some(*number)),
+        Item::Cell(number) => state.heap.end_walk(Some(number)),
         _ => {}
     }
 }

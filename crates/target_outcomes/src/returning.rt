@@ -2,7 +2,7 @@
 ghost use Rattle.std.specs.Prelude.{◌≡◌, ℕ, Ok, Err, IfOk, MatchResult};
 ghost use Rattle.meaning.specs.Functions.{Files, def_line};
 ghost use Rattle.meaning.specs.StatementCode.{code_of};
-ghost use Rattle.ticks.specs.Ticking.{Count, FaultOr};
+ghost use Rattle.ticks.specs.Ticking.{Count, FaultOr, Says};
 ghost use Rattle.visits.specs.Freeze.{freeze_at};
 ghost use Rattle.language.specs.Language.{function_id};
 ghost use Rattle.call_stack.specs.LinkedView.{codes_of};
@@ -13,13 +13,14 @@ ghost use Rattle.target_outcomes.specs.Seen.{defined_at, Implements};
 use call_stack::Linked;
 use contexts::Work;
 use evaluator::function_id;
+use heap::Heap;
 use language::Whole;
 use loading::Placed;
 use operations::State;
 use plain::Text;
 use running::path_at;
 use std::alloc::{AllocError, Global};
-use values::{Broken, Frozen, FunctionRef, Item, Kind, MadeId, VISITED_LEVELS, Value};
+use values::{Broken, Frozen, FunctionRef, Kind, MadeId, Ticks, VISITED_LEVELS, Value};
 use visits::freeze;
 
 /// What an implementation gave: its result, frozen, and what it did.
@@ -61,6 +62,18 @@ fn at_def(
     })
 }
 
+/// The tree of a value.
+fn freeze_value(
+    alloc: Global,
+    value: &Value,
+    heap: &Heap,
+    ticks: &mut Ticks,
+) -> Result<Frozen, Broken>
+    ensures { Says (freeze_at VISITED_LEVELS heap.now value.now ticks.old) result ticks.new }
+{
+    freeze(alloc, value.item(), heap, ticks)
+}
+
 /// The tree of the value that an implementation returned.
 fn frozen(alloc: Global, value: &Value, state: State<'_>) -> Result<Frozen, Broken>
     ensures { let s = state.entry in
@@ -69,7 +82,7 @@ fn frozen(alloc: Global, value: &Value, state: State<'_>) -> Result<Frozen, Brok
 {
     let mut state = state;
     let state = &mut state;
-    freeze(alloc, Item::Value(value), &state.heap, &mut state.ticks)
+    freeze_value(alloc, value, &state.heap, &mut state.ticks)
 }
 
 /// What an implementation comes to whose call returned this. A fault of freezing stands at the

@@ -65,10 +65,10 @@ impl TextDict {
     /// # Errors
     ///
     /// `AllocError` where memory was refused.
-    pub fn read(
+    pub fn read<'b>(
         alloc: Global,
-        heap: &Heap,
-        table: Table<'_>,
+        heap: &'b Heap,
+        table: Table<'b, '_>,
     ) -> Result<Option<TextDict>, AllocError>
         ensures { IfOk result
             (λ o. o ≡ each_of (text_entry heap.now) (table_entries table.entry)) }
@@ -91,7 +91,7 @@ impl TextDict {
 }
 
 /// The keys of a dict, in order.
-fn keys_in(alloc: Global, table: Table<'_>) -> Result<IndexSet<Key>, AllocError>
+fn keys_in(alloc: Global, table: Table<'_, '_>) -> Result<IndexSet<Key>, AllocError>
     ensures keys { IfOk result (λ s. s.keys ≡ keys_of (table_entries table.entry)) }
     ensures distinct { AreDistinct (keys_of (table_entries table.entry)) }
 {
@@ -107,10 +107,10 @@ fn keys_in(alloc: Global, table: Table<'_>) -> Result<IndexSet<Key>, AllocError>
 }
 
 /// The values of a dict, frozen; None where one, or its key, is no string.
-fn values_in(
+fn values_in<'b>(
     alloc: Global,
-    heap: &Heap,
-    table: Table<'_>,
+    heap: &'b Heap,
+    table: Table<'b, '_>,
 ) -> Result<Option<Vec<Frozen>>, AllocError>
     ensures { IfOk result (λ o. MatchOption o
         (each_of (value_frozen heap.now) (table_entries table.entry) ≡ None)
@@ -127,7 +127,7 @@ fn values_in(
 }
 
 /// The value of an entry, frozen, if its key and its value are strings.
-fn value_shown(key: &Key, value: &Seen<'_>) -> Result<Option<Frozen>, AllocError>
+fn value_shown(key: &Key, value: &Seen<'_, '_>) -> Result<Option<Frozen>, AllocError>
     ensures { IfOk result (λ o. o ≡ value_shown key.now (seen value.now)) }
 {
     match key {

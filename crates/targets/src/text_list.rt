@@ -49,10 +49,10 @@ impl TextList {
     /// # Errors
     ///
     /// `AllocError` where memory was refused.
-    pub fn read(
+    pub fn read<'b>(
         alloc: Global,
-        heap: &Heap,
-        items: Group<'_>,
+        heap: &'b Heap,
+        items: Group<'b, '_>,
     ) -> Result<Option<TextList>, AllocError>
         ensures { IfOk result
             (λ o. o ≡ each_of (λ v. string_in (shape heap.now v)) (group_items items.entry)) }
@@ -83,7 +83,11 @@ fn list_of(alloc: Global, trees: Vec<Frozen>) -> Result<TextList, AllocError>
 }
 
 /// The strings that items are, frozen; None where one is no string.
-fn trees_in(alloc: Global, heap: &Heap, items: Group<'_>) -> Result<Option<Vec<Frozen>>, AllocError>
+fn trees_in<'b>(
+    alloc: Global,
+    heap: &'b Heap,
+    items: Group<'b, '_>,
+) -> Result<Option<Vec<Frozen>>, AllocError>
     ensures { IfOk result (λ o. MatchOption o
         (each_of (text_frozen heap.now) (group_items items.entry) ≡ None)
         (λ ts. each_of (text_frozen heap.now) (group_items items.entry) ≡ Some ts.items)) }
@@ -99,7 +103,7 @@ fn trees_in(alloc: Global, heap: &Heap, items: Group<'_>) -> Result<Option<Vec<F
 }
 
 /// What is shown, if it is a string, as a frozen value.
-pub(crate) fn text_seen(value: &Seen<'_>) -> Result<Option<Frozen>, AllocError>
+pub(crate) fn text_seen(value: &Seen<'_, '_>) -> Result<Option<Frozen>, AllocError>
     ensures { IfOk result (λ o. o ≡ text_seen (seen value.now)) }
 {
     match value {

@@ -6,6 +6,7 @@ pub mod ValueCodes
 pub mod Keyed
 pub mod CellCodes
 pub mod Held
+pub mod Lying
 pub mod Shape
 pub mod Seeing
 pub mod Visits

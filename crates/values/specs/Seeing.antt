@@ -20,9 +20,10 @@ use Rattle.values.specs.declared.sees.Seen.TheVariants as see
 -- the value that an item is, wherever it lies: of the program, in a frozen value, or a key of a
 -- dict
 abbrev pub item_value : Item → Value
-item_value (item.Value v) = v.now
-item_value (item.Tree t) = value_of t.now
 item_value (item.Key k) = value.Key k.now
+item_value (item.Leaf l) = value.Leaf l.now
+item_value (item.Cell n) = value.Cell n
+item_value (item.Branch b) = value.Frozen b.now
 
 -- the value that there is, if any
 abbrev pub option_value : Option Item → Option Value
@@ -33,11 +34,13 @@ option_value None = None
 abbrev pub group_items : Group → List Value
 group_items (group.Values s) = s.now
 group_items (group.Trees s) = map value_of s.now
+group_items (group.Lent s) = map value_of s.now
 
 -- the entries of a dict in their order, whether it is frozen or not
 abbrev pub table_entries : Table → List (Key × Value)
 table_entries (table.Values e) = e.now
 table_entries (table.Trees ks ts) = zip ks.now.keys ts.now
+table_entries (table.Lent ks ts) = zip ks.now.keys ts.now
 
 -- an entry of a dict as a view lends it: its key, and the value that its item is
 abbrev pub entry_value : Bor Key × Item → Key × Value
@@ -47,6 +50,7 @@ entry_value e = (e.0.now, item_value e.1)
 abbrev pub slot_values : Slots → List (Option Value)
 slot_values (slot.Values s) = s.now
 slot_values (slot.Trees s) = map slot_of s.now
+slot_values (slot.Lent s) = map slot_of s.now
 
 -- what a view of a value shows, in the words that equality, freezing and `str` are told in
 abbrev pub seen : Seen → Shape

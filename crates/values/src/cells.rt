@@ -8,7 +8,7 @@ ghost use Rattle.std.specs.Prelude.{◌≡◌, ◌++◌, ◌∷◌, [], ◌<◌,
 ghost use Rattle.std.specs.Prelude.{slice_set, option_copied, MatchOption, ◌≤◌, Some};
 
 use crate::held::{HeldEntries, HeldItems};
-use crate::{Key, Provider, Value};
+use crate::{Key, Operand, Provider};
 use indexmap::{IndexMap, IndexSet};
 use plain::{Shared, push_last};
 use std::alloc::{AllocError, Global};
@@ -19,20 +19,20 @@ pub const LARGEST: usize = 1_048_576;
 
 /// A cell: a list or a dict with the number of walks over it that go on, or a tuple or an instance,
 /// which never changes. An instance has its fields by the places of their names in the provider.
-pub enum Cell {
-    List(HeldItems, u64),
-    Tuple(HeldItems),
-    Dict(HeldEntries, u64),
-    Instance(Shared<Provider>, Fields),
+pub enum Cell<'a> {
+    List(HeldItems<'a>, u64),
+    Tuple(HeldItems<'a>),
+    Dict(HeldEntries<'a>, u64),
+    Instance(Shared<Provider>, Fields<'a>),
 }
 
 /// The items of a list or a tuple.
 #[derive(Drop)]
-pub struct Items {
-    items: Vec<Value>,
+pub struct Items<'a> {
+    items: Vec<Operand<'a>>,
 }
 
-impl Model for Items {
+impl<'a> Model for Items<'a> {
     ghost use Rattle.std.specs.Prelude.{List};
     ghost use Rattle.values.specs.declared.value.Value.{Value as Held};
     ghost use Rattle.values.specs.ValueCodes.{items_code};
@@ -44,9 +44,9 @@ impl Model for Items {
     ghost view = { λ i. i.items.items };
 }
 
-impl Items {
+impl<'a> Items<'a> {
     /// No items.
-    pub fn new(alloc: Global) -> Items
+    pub fn new(alloc: Global) -> Items<'a>
         ensures { result ≡ [] }
     {
         Items {
@@ -59,7 +59,7 @@ impl Items {
     /// # Errors
     ///
     /// `AllocError` where memory was refused.
-    pub fn with_capacity(alloc: Global, items: usize) -> Result<Items, AllocError>
+    pub fn with_capacity(alloc: Global, items: usize) -> Result<Items<'a>, AllocError>
         ensures { IfOk result (λ i. i ≡ []) }
     {
         let items = Vec::with_capacity(alloc, items)?;
@@ -76,7 +76,7 @@ impl Items {
 
     /// All of them, in order.
     #[inline(always)]
-    pub fn as_slice(&self) -> &[Value]
+    pub fn as_slice(&self) -> &[Operand<'a>]
         ensures { result.now ≡ self.now }
     {
         self.items.as_slice()
@@ -87,8 +87,8 @@ impl Items {
     /// # Errors
     ///
     /// `AllocError` where memory was refused.
-    pub fn append(&mut self, more: Items) -> Result<(), AllocError>
-        ensures ok { OnOk result (self.new ≡ self.old ++ more) }
+    pub fn append(&mut self, more: Items<'a>) -> Result<(), AllocError>
+        ensures ok { OnOk result (self.new ≡ self.old ++ more.entry) }
         ensures err { OnErr result (self.new ≡ self.old) }
     {
         let mut more = more.items;
@@ -97,9 +97,9 @@ impl Items {
     }
 
     /// Sets the item at a place.
-    pub fn set(&mut self, place: usize, value: Value)
+    pub fn set(&mut self, place: usize, value: Operand<'a>)
         requires { place < length self.old }
-        ensures { self.new ≡ slice_set self.old place value }
+        ensures { self.new ≡ slice_set self.old place value.entry }
     {
         self.items[place] = value;
     }
@@ -110,18 +110,18 @@ impl Items {
     ///
     /// `AllocError` where memory was refused.
     #[inline(always)]
-    pub fn push(&mut self, value: Value) -> Result<(), AllocError>
-        ensures ok { OnOk result (self.new ≡ self.old ++ value ∷ []) }
+    pub fn push(&mut self, value: Operand<'a>) -> Result<(), AllocError>
+        ensures ok { OnOk result (self.new ≡ self.old ++ value.entry ∷ []) }
         ensures err { OnErr result (self.new ≡ self.old) }
     {
         push_last(&mut self.items, value)
     }
 }
 
-impl Clone for Items {
+impl<'a> Clone for Items<'a> {
     ghost is_clone = { λ i j. j ≡ i };
 
-    fn clone(&self) -> Result<Items, AllocError> {
+    fn clone(&self) -> Result<Items<'a>, AllocError> {
         let items = self.items.clone()?;
         Ok(Items { items })
     }
@@ -130,11 +130,11 @@ impl Clone for Items {
 /// The fields of an instance, by the places of their names in the provider: None for each that
 /// wasn't given.
 #[derive(Drop)]
-pub struct Fields {
-    fields: Vec<Option<Value>>,
+pub struct Fields<'a> {
+    fields: Vec<Option<Operand<'a>>>,
 }
 
-impl Model for Fields {
+impl<'a> Model for Fields<'a> {
     ghost use Rattle.std.specs.Prelude.{List, Option};
     ghost use Rattle.values.specs.declared.value.Value.{Value as Held};
     ghost use Rattle.values.specs.ValueCodes.{fields_code};
@@ -146,14 +146,14 @@ impl Model for Fields {
     ghost view = { λ f. f.fields.items };
 }
 
-impl Fields {
+impl<'a> Fields<'a> {
     /// No fields, with memory for so many.
     ///
     /// # Errors
     ///
     /// `AllocError` where memory was refused.
     #[inline(always)]
-    pub fn with_capacity(alloc: Global, fields: usize) -> Result<Fields, AllocError>
+    pub fn with_capacity(alloc: Global, fields: usize) -> Result<Fields<'a>, AllocError>
         ensures { IfOk result (λ f. f ≡ []) }
     {
         let fields = Vec::with_capacity(alloc, fields)?;
@@ -166,23 +166,23 @@ impl Fields {
     ///
     /// `AllocError` where memory was refused.
     #[inline(always)]
-    pub fn push(&mut self, value: Option<Value>) -> Result<(), AllocError>
-        ensures ok { OnOk result (self.new ≡ self.old ++ value ∷ []) }
+    pub fn push(&mut self, value: Option<Operand<'a>>) -> Result<(), AllocError>
+        ensures ok { OnOk result (self.new ≡ self.old ++ value.entry ∷ []) }
         ensures err { OnErr result (self.new ≡ self.old) }
     {
         push_last(&mut self.fields, value)
     }
 
     /// Sets the value of the field at a place.
-    pub fn set(&mut self, place: usize, value: Option<Value>)
+    pub fn set(&mut self, place: usize, value: Option<Operand<'a>>)
         requires { place < length self.old }
-        ensures { self.new ≡ slice_set self.old place value }
+        ensures { self.new ≡ slice_set self.old place value.entry }
     {
         self.fields[place] = value;
     }
 
     /// All of them, in order.
-    pub fn as_slice(&self) -> &[Option<Value>]
+    pub fn as_slice(&self) -> &[Option<Operand<'a>>]
         ensures { result.now ≡ self.now }
     {
         self.fields.as_slice()
@@ -191,11 +191,11 @@ impl Fields {
 
 /// The entries of a dict, in order of insertion, with hashed looks.
 #[derive(Drop)]
-pub struct Entries {
-    map: IndexMap<Key, Value>,
+pub struct Entries<'a> {
+    map: IndexMap<Key, Operand<'a>>,
 }
 
-impl Model for Entries {
+impl<'a> Model for Entries<'a> {
     ghost use Rattle.std.specs.Prelude.{List};
     ghost use Rattle.values.specs.declared.value.Value.{Value as Held};
     ghost use Rattle.keys.specs.declared.key.Key.{Key as Index};
@@ -208,13 +208,13 @@ impl Model for Entries {
     ghost view = { λ e. e.map.entries };
 }
 
-impl Entries {
+impl<'a> Entries<'a> {
     /// No entries, with memory for so many.
     ///
     /// # Errors
     ///
     /// `AllocError` where memory was refused.
-    pub fn with_capacity(alloc: Global, entries: usize) -> Result<Entries, AllocError>
+    pub fn with_capacity(alloc: Global, entries: usize) -> Result<Entries<'a>, AllocError>
         ensures { IfOk result (λ e. e ≡ []) }
     {
         let map = IndexMap::with_capacity(alloc, entries)?;
@@ -227,8 +227,8 @@ impl Entries {
     /// # Errors
     ///
     /// `AllocError` where memory was refused.
-    pub fn put(&mut self, key: Key, value: Value) -> Result<(), AllocError>
-        ensures ok { OnOk result (self.new ≡ insert_entry same_key self.old key value) }
+    pub fn put(&mut self, key: Key, value: Operand<'a>) -> Result<(), AllocError>
+        ensures ok { OnOk result (self.new ≡ insert_entry same_key self.old key value.entry) }
         ensures err { OnErr result (self.new ≡ self.old) }
     {
         self.map.insert(key, value)?;
@@ -236,7 +236,7 @@ impl Entries {
     }
 
     /// The value of the key, if there is one.
-    pub fn get(&self, key: &Key) -> Option<&Value>
+    pub fn get(&self, key: &Key) -> Option<&Operand<'a>>
         ensures { option_copied result ≡ lookup (same_key key.now) self.now }
     {
         self.map.get(key)
@@ -250,7 +250,7 @@ impl Entries {
     }
 
     /// The key and the value at a place, by order of insertion.
-    pub fn at(&self, place: usize) -> Option<(&Key, &Value)>
+    pub fn at(&self, place: usize) -> Option<(&Key, &Operand<'a>)>
         ensures { MatchOption result (length self.now ≤ place)
             (λ e. slice_get self.now place ≡ Some (e.0.now, e.1.now)) }
     {
@@ -293,16 +293,16 @@ impl Entries {
     }
 }
 
-impl Clone for Entries {
+impl<'a> Clone for Entries<'a> {
     ghost is_clone = { λ e f. f ≡ e };
 
-    fn clone(&self) -> Result<Entries, AllocError> {
+    fn clone(&self) -> Result<Entries<'a>, AllocError> {
         let map = self.map.clone()?;
         Ok(Entries { map })
     }
 }
 
-impl Drop for Cell {
+impl<'a> Drop for Cell<'a> {
     #[inline(always)]
     fn drop(self) {
         match self {

@@ -10,10 +10,10 @@ ghost use Rattle.ticks.specs.Extents.{IsExtent};
 ghost use Rattle.values.specs.Extents.{branch_measure, measure, parts_measure};
 ghost use Rattle.values.specs.View.{tree_of, node_branch, is_list, is_dict, is_walkable, IsPaired};
 ghost use Rattle.values.specs.Shape.{tree_shape, branch_shape, value_of};
-ghost use Rattle.values.specs.Seeing.{seen};
+ghost use Rattle.values.specs.Seeing.{item_value, seen};
 
 use crate::extent::{of_entries, of_fields, of_items};
-use crate::sees::{Group, Seen, Slots, Table};
+use crate::sees::{Group, Item, Seen, Slots, Table};
 use crate::{Extent, Key, Leaf, Provider, Value};
 use indexmap::IndexSet;
 use plain::Shared;
@@ -163,6 +163,18 @@ impl Frozen {
         &self.held
     }
 
+    /// It, where it lies.
+    #[inline(always)]
+    pub fn item(&self) -> Item<'_>
+        ensures { item_value result ≡ value_of self.now }
+    {
+        match &self.held {
+            Held::Key(key) => Item::Key(key),
+            Held::Leaf(leaf) => Item::Leaf(leaf),
+            Held::Branch(branch) => Item::Branch(branch),
+        }
+    }
+
     /// A name of it as a value: at most a count more.
     ///
     /// # Errors
@@ -191,7 +203,7 @@ impl Frozen {
 
     /// What it shows, as a value.
     #[inline(always)]
-    pub fn see(&self) -> Seen<'_>
+    pub fn see<'b, 'a>(&'b self) -> Seen<'b, 'a>
         ensures { seen result ≡ tree_shape self.now }
     {
         match &self.held {
@@ -327,17 +339,25 @@ impl Branch {
 
     /// What it shows, as a value.
     #[inline(always)]
-    pub fn see(&self) -> Seen<'_>
+    pub fn see<'b, 'a>(&'b self) -> Seen<'b, 'a>
         ensures { seen result ≡ branch_shape self.now }
     {
         self.parts.node.see()
+    }
+
+    /// What it shows, as a value that is lent.
+    #[inline(always)]
+    pub fn lend(&self) -> Seen<'_, '_>
+        ensures { seen result ≡ branch_shape self.now }
+    {
+        self.parts.node.lend()
     }
 }
 
 impl Node {
     /// What a branch of these parts shows.
     #[inline(always)]
-    fn see(&self) -> Seen<'_>
+    fn see<'b, 'a>(&'b self) -> Seen<'b, 'a>
         ensures { seen result ≡ branch_shape (node_branch self.now) }
     {
         match self {
@@ -346,6 +366,21 @@ impl Node {
             Node::Dict(keys, values) => Seen::Dict(Table::Trees(keys, values.as_slice())),
             Node::Instance(provider, fields) => {
                 Seen::Instance(provider.get(), Slots::Trees(fields.as_slice()))
+            }
+        }
+    }
+
+    /// What a branch of these parts shows, as a value that is lent.
+    #[inline(always)]
+    fn lend(&self) -> Seen<'_, '_>
+        ensures { seen result ≡ branch_shape (node_branch self.now) }
+    {
+        match self {
+            Node::List(items) => Seen::List(Group::Lent(items.as_slice())),
+            Node::Tuple(items) => Seen::Tuple(Group::Lent(items.as_slice())),
+            Node::Dict(keys, values) => Seen::Dict(Table::Lent(keys, values.as_slice())),
+            Node::Instance(provider, fields) => {
+                Seen::Instance(provider.get(), Slots::Lent(fields.as_slice()))
             }
         }
     }

@@ -9,7 +9,7 @@ ghost use Rattle.leaves.specs.Leaves.{same_key};
 ghost use Rattle.values.specs.Held.{kept_items};
 ghost use Rattle.std.specs.Prelude.{◌≡◌, ◌++◌, ◌∷◌, [], ◌<◌, IfOk, OnOk, OnErr, length, slice_set};
 
-use crate::{Entries, Items, Key, Value};
+use crate::{Entries, Items, Key, Operand};
 use std::alloc::{AllocError, Global};
 use std::marker::Model;
 use std::mem::replace;
@@ -17,17 +17,17 @@ use std::rc::Rc;
 
 /// The items of a list or a tuple, as its cell holds them.
 #[derive(Drop)]
-pub struct HeldItems {
-    kept: KeptItems,
+pub struct HeldItems<'a> {
+    kept: KeptItems<'a>,
 }
 
 /// Where items lie: with the cell, or behind a count since the first walk.
-enum KeptItems {
-    Own(Items),
-    Shared(Rc<Items>),
+enum KeptItems<'a> {
+    Own(Items<'a>),
+    Shared(Rc<Items<'a>>),
 }
 
-impl Drop for KeptItems {
+impl<'a> Drop for KeptItems<'a> {
     fn drop(self) {
         match self {
             KeptItems::Own(_) => {}
@@ -36,7 +36,7 @@ impl Drop for KeptItems {
     }
 }
 
-impl Model for HeldItems {
+impl<'a> Model for HeldItems<'a> {
     ghost use Rattle.std.specs.Prelude.{List};
     ghost use Rattle.values.specs.declared.value.Value.{Value as Held};
     ghost use Rattle.values.specs.ValueCodes.{items_code};
@@ -49,11 +49,11 @@ impl Model for HeldItems {
     ghost view = { λ h. kept_items h.kept };
 }
 
-impl HeldItems {
+impl<'a> HeldItems<'a> {
     /// These items.
     #[inline(always)]
-    pub fn new(items: Items) -> HeldItems
-        ensures { result ≡ items }
+    pub fn new(items: Items<'a>) -> HeldItems<'a>
+        ensures { result ≡ items.entry }
     {
         HeldItems {
             kept: KeptItems::Own(items),
@@ -67,7 +67,7 @@ impl HeldItems {
     /// # Errors
     ///
     /// `AllocError` where there is no memory for the count, or where it is at its greatest.
-    pub fn share(&mut self, alloc: Global) -> Result<HeldItems, AllocError>
+    pub fn share(&mut self, alloc: Global) -> Result<HeldItems<'a>, AllocError>
         ensures same { self.new ≡ self.old }
         ensures ok { IfOk result (λ h. h ≡ self.old) }
     {
@@ -93,7 +93,7 @@ impl HeldItems {
 
     /// All of them, in order.
     #[inline(always)]
-    pub fn as_slice(&self) -> &[Value]
+    pub fn as_slice(&self) -> &[Operand<'a>]
         ensures { result.now ≡ self.now }
     {
         match &self.kept {
@@ -109,8 +109,8 @@ impl HeldItems {
     /// `AllocError` where memory was refused; or, where another name holds them and they are
     /// copied, a count is at its greatest.
     #[inline(always)]
-    pub fn push(&mut self, value: Value) -> Result<(), AllocError>
-        ensures ok { OnOk result (self.new ≡ self.old ++ value ∷ []) }
+    pub fn push(&mut self, value: Operand<'a>) -> Result<(), AllocError>
+        ensures ok { OnOk result (self.new ≡ self.old ++ value.entry ∷ []) }
         ensures err { OnErr result (self.new ≡ self.old) }
     {
         match &mut self.kept {
@@ -125,8 +125,8 @@ impl HeldItems {
     ///
     /// `AllocError` where memory was refused; or, where another name holds them and they are
     /// copied, a count is at its greatest.
-    pub fn append(&mut self, more: Items) -> Result<(), AllocError>
-        ensures ok { OnOk result (self.new ≡ self.old ++ more) }
+    pub fn append(&mut self, more: Items<'a>) -> Result<(), AllocError>
+        ensures ok { OnOk result (self.new ≡ self.old ++ more.entry) }
         ensures err { OnErr result (self.new ≡ self.old) }
     {
         match &mut self.kept {
@@ -141,9 +141,9 @@ impl HeldItems {
     ///
     /// `AllocError` where another name holds them, and memory for a copy was refused or a count is
     /// at its greatest.
-    pub fn set(&mut self, place: usize, value: Value) -> Result<(), AllocError>
+    pub fn set(&mut self, place: usize, value: Operand<'a>) -> Result<(), AllocError>
         requires { place < length self.old }
-        ensures ok { OnOk result (self.new ≡ slice_set self.old place value) }
+        ensures ok { OnOk result (self.new ≡ slice_set self.old place value.entry) }
         ensures err { OnErr result (self.new ≡ self.old) }
     {
         match &mut self.kept {
@@ -154,12 +154,12 @@ impl HeldItems {
     }
 }
 
-impl KeptItems {
+impl<'a> KeptItems<'a> {
     /// These behind a count, and another name of them. After a refusal they are as they were, or
     /// behind a count.
-    fn shared(self, alloc: Global) -> (KeptItems, Result<Rc<Items>, AllocError>)
-        ensures same { kept_items result.0 ≡ kept_items self }
-        ensures ok { IfOk result.1 (λ items. items.value ≡ kept_items self) }
+    fn shared(self, alloc: Global) -> (KeptItems<'a>, Result<Rc<Items<'a>>, AllocError>)
+        ensures same { kept_items result.0 ≡ kept_items self.entry }
+        ensures ok { IfOk result.1 (λ items. items.value ≡ kept_items self.entry) }
     {
         let items = match self {
             KeptItems::Shared(items) => items,
@@ -168,18 +168,18 @@ impl KeptItems {
                 Err(refused) => return (KeptItems::Own(refused.value), Err(AllocError)),
             },
         };
-        let another: Result<Rc<Items>, AllocError> = items.clone();
+        let another: Result<Rc<Items<'a>>, AllocError> = items.clone();
         (KeptItems::Shared(items), another)
     }
 }
 
 /// The entries of a dict, as its cell holds them.
 #[derive(Drop)]
-pub struct HeldEntries {
-    entries: Rc<Entries>,
+pub struct HeldEntries<'a> {
+    entries: Rc<Entries<'a>>,
 }
 
-impl Model for HeldEntries {
+impl<'a> Model for HeldEntries<'a> {
     ghost use Rattle.std.specs.Prelude.{List};
     ghost use Rattle.values.specs.declared.value.Value.{Value as Held};
     ghost use Rattle.keys.specs.declared.key.Key.{Key as Index};
@@ -192,14 +192,14 @@ impl Model for HeldEntries {
     ghost view = { λ h. h.entries.value };
 }
 
-impl HeldEntries {
+impl<'a> HeldEntries<'a> {
     /// These entries.
     ///
     /// # Errors
     ///
     /// `AllocError` where memory was refused.
-    pub fn new(alloc: Global, entries: Entries) -> Result<HeldEntries, AllocError>
-        ensures { IfOk result (λ h. h ≡ entries) }
+    pub fn new(alloc: Global, entries: Entries<'a>) -> Result<HeldEntries<'a>, AllocError>
+        ensures { IfOk result (λ h. h ≡ entries.entry) }
     {
         let entries = Rc::new(alloc, entries)?;
         Ok(HeldEntries { entries })
@@ -210,7 +210,7 @@ impl HeldEntries {
     /// # Errors
     ///
     /// `AllocError` where a count is at its greatest.
-    pub fn share(&self) -> Result<HeldEntries, AllocError>
+    pub fn share(&self) -> Result<HeldEntries<'a>, AllocError>
         ensures { IfOk result (λ h. h ≡ self.now) }
     {
         let entries = self.entries.clone()?;
@@ -219,7 +219,7 @@ impl HeldEntries {
 
     /// All of them.
     #[inline(always)]
-    pub fn get(&self) -> &Entries
+    pub fn get(&self) -> &Entries<'a>
         ensures { result.now ≡ self.now }
     {
         &self.entries
@@ -232,8 +232,8 @@ impl HeldEntries {
     ///
     /// `AllocError` where memory was refused; or, where another name holds them and they are
     /// copied, a count is at its greatest.
-    pub fn put(&mut self, key: Key, value: Value) -> Result<(), AllocError>
-        ensures ok { OnOk result (self.new ≡ insert_entry same_key self.old key value) }
+    pub fn put(&mut self, key: Key, value: Operand<'a>) -> Result<(), AllocError>
+        ensures ok { OnOk result (self.new ≡ insert_entry same_key self.old key value.entry) }
         ensures err { OnErr result (self.new ≡ self.old) }
     {
         Rc::make_mut(&mut self.entries)?.put(key, value)
@@ -242,11 +242,11 @@ impl HeldEntries {
 
 /// What a walk over a cell goes over, shared with the cell.
 #[derive(Drop)]
-pub enum Walked {
+pub enum Walked<'a> {
     /// The items of a list or a tuple.
-    Items(HeldItems),
+    Items(HeldItems<'a>),
     /// The entries of a dict, whose keys are walked.
-    Entries(HeldEntries),
+    Entries(HeldEntries<'a>),
     /// Nothing: an instance isn't walked, and no more is a cell that isn't there.
     Nothing,
 }

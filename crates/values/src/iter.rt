@@ -6,12 +6,12 @@ use std::marker::Model;
 
 /// The items of a list or tuple that are left, from the first on.
 #[derive(Drop)]
-pub struct GroupIter<'a> {
-    items: Group<'a>,
+pub struct GroupIter<'b, 'a> {
+    items: Group<'b, 'a>,
     next: usize,
 }
 
-impl<'a> Model for GroupIter<'a> {
+impl<'b, 'a> Model for GroupIter<'b, 'a> {
     ghost use Rattle.std.specs.Prelude.{List, drop};
     ghost use Rattle.values.specs.declared.value.Value.{Value as Held};
     ghost use Rattle.values.specs.Seeing.{group_items};
@@ -24,18 +24,18 @@ impl<'a> Model for GroupIter<'a> {
     ghost view = { λ i. drop i.next (group_items i.items) };
 }
 
-impl<'a> Iterator for GroupIter<'a> {
+impl<'b, 'a> Iterator for GroupIter<'b, 'a> {
     ghost use Rattle.std.specs.Iterator.{YieldsFirstBy, item_count};
     ghost use Rattle.values.specs.Seeing.{item_value};
 
-    type Item = Item<'a>;
+    type Item = Item<'b>;
 
     ghost next_gives = { YieldsFirstBy item_value (λ items. items) };
 
     ghost remaining = { item_count (λ items. items) };
 
     #[inline(always)]
-    fn next(&mut self) -> Option<Item<'a>> {
+    fn next(&mut self) -> Option<Item<'b>> {
         if self.next >= self.items.len() {
             return None;
         }
@@ -45,17 +45,17 @@ impl<'a> Iterator for GroupIter<'a> {
     }
 }
 
-impl<'a> IntoIterator for Group<'a> {
+impl<'b, 'a> IntoIterator for Group<'b, 'a> {
     ghost use Rattle.values.specs.Seeing.{group_items};
 
-    type Item = Item<'a>;
+    type Item = Item<'b>;
 
-    type IntoIter = GroupIter<'a>;
+    type IntoIter = GroupIter<'b, 'a>;
 
     ghost into_iter_gives = { λ s r. r ≡ group_items s };
 
     #[inline(always)]
-    fn into_iter(self) -> GroupIter<'a> {
+    fn into_iter(self) -> GroupIter<'b, 'a> {
         GroupIter {
             items: self,
             next: 0,
@@ -65,12 +65,12 @@ impl<'a> IntoIterator for Group<'a> {
 
 /// The entries of a dict that are left, from the first on.
 #[derive(Drop)]
-pub struct TableIter<'a> {
-    table: Table<'a>,
+pub struct TableIter<'b, 'a> {
+    table: Table<'b, 'a>,
     next: usize,
 }
 
-impl<'a> Model for TableIter<'a> {
+impl<'b, 'a> Model for TableIter<'b, 'a> {
     ghost use Rattle.std.specs.Prelude.{List, drop};
     ghost use Rattle.values.specs.declared.value.Value.{Value as Held};
     ghost use Rattle.keys.specs.declared.key.Key.{Key as Index};
@@ -84,18 +84,18 @@ impl<'a> Model for TableIter<'a> {
     ghost view = { λ i. drop i.next (table_entries i.table) };
 }
 
-impl<'a> Iterator for TableIter<'a> {
+impl<'b, 'a> Iterator for TableIter<'b, 'a> {
     ghost use Rattle.std.specs.Iterator.{YieldsFirstBy, item_count};
     ghost use Rattle.values.specs.Seeing.{entry_value};
 
-    type Item = (&'a Key, Item<'a>);
+    type Item = (&'b Key, Item<'b>);
 
     ghost next_gives = { YieldsFirstBy entry_value (λ entries. entries) };
 
     ghost remaining = { item_count (λ entries. entries) };
 
     #[inline(always)]
-    fn next(&mut self) -> Option<(&'a Key, Item<'a>)> {
+    fn next(&mut self) -> Option<(&'b Key, Item<'b>)> {
         if self.next >= self.table.len() {
             return None;
         }
@@ -105,17 +105,17 @@ impl<'a> Iterator for TableIter<'a> {
     }
 }
 
-impl<'a> IntoIterator for Table<'a> {
+impl<'b, 'a> IntoIterator for Table<'b, 'a> {
     ghost use Rattle.values.specs.Seeing.{table_entries};
 
-    type Item = (&'a Key, Item<'a>);
+    type Item = (&'b Key, Item<'b>);
 
-    type IntoIter = TableIter<'a>;
+    type IntoIter = TableIter<'b, 'a>;
 
     ghost into_iter_gives = { λ s r. r ≡ table_entries s };
 
     #[inline(always)]
-    fn into_iter(self) -> TableIter<'a> {
+    fn into_iter(self) -> TableIter<'b, 'a> {
         TableIter {
             table: self,
             next: 0,

@@ -13,6 +13,7 @@ mod extent;
 mod frozen;
 mod held;
 mod iter;
+mod operand;
 mod sees;
 mod value;
 
@@ -28,6 +29,7 @@ pub use leaves::{
     AttributeKind, AttributeRef, BuiltIn, ExportName, Exported, FunctionRef, Leaf, MadeId, Names,
     Object, Provider, ProviderRef, RuleRef,
 };
+pub use operand::Operand;
 pub use sees::{Group, Item, Seen, Slots, Table};
 pub use ticks::{Broken, Extent, Kind, Ticks, VISITED_LEVELS};
 pub use value::Value;

@@ -1,7 +1,10 @@
 //! A value, as a name holds it.
 ghost use Rattle.std.specs.Prelude.{◌≡◌, IfOk};
+ghost use Rattle.values.specs.Lying.{lying};
+ghost use Rattle.values.specs.Seeing.{item_value};
 
-use crate::{Branch, Key, Leaf};
+use crate::operand::Lies;
+use crate::{Branch, Item, Key, Leaf};
 use std::alloc::AllocError;
 
 /// A value: a key, a leaf, a cell of the heap by its number, or a frozen value with parts. A frozen
@@ -28,6 +31,32 @@ impl Value {
             Value::Leaf(leaf) => Ok(Value::Leaf(leaf.share()?)),
             Value::Cell(number) => Ok(Value::Cell(*number)),
             Value::Frozen(branch) => Ok(Value::Frozen(branch.share()?)),
+        }
+    }
+
+    /// It, as an operand's own.
+    #[inline(always)]
+    pub(crate) fn lies<'a>(self) -> Lies<'a>
+        ensures { lying result ≡ self }
+    {
+        match self {
+            Value::Key(key) => Lies::Key(key),
+            Value::Leaf(leaf) => Lies::Leaf(leaf),
+            Value::Cell(number) => Lies::Cell(number),
+            Value::Frozen(branch) => Lies::Branch(branch),
+        }
+    }
+
+    /// The value, where it lies.
+    #[inline(always)]
+    pub fn item(&self) -> Item<'_>
+        ensures { item_value result ≡ self.now }
+    {
+        match self {
+            Value::Key(key) => Item::Key(key),
+            Value::Leaf(leaf) => Item::Leaf(leaf),
+            Value::Cell(number) => Item::Cell(*number),
+            Value::Frozen(branch) => Item::Branch(branch),
         }
     }
 }

@@ -21,8 +21,8 @@ use std::time::Instant;
 use std::{env, io};
 use turns::turns;
 use values::{
-    Broken, Cell, Depset, Element, Entries, Fields, Frozen, FunctionRef, Id, Item, Items, Key,
-    Leaf, MadeId, Order, Provider, Seen, Slots, Ticks, Value,
+    Broken, Cell, Depset, Element, Entries, Fields, Frozen, FunctionRef, Id, Items, Key, Leaf,
+    MadeId, Operand, Order, Provider, Seen, Slots, Ticks, Value,
 };
 use visits::{equal, freeze};
 
@@ -103,23 +103,23 @@ fn chain(alloc: Global) -> Option<Depset> {
 fn add_list(
     alloc: Global,
     heap: &mut Heap,
-    values: &mut Items,
+    values: &mut Items<'_>,
     length: usize,
 ) -> Result<(), Broken> {
     let mut items = Items::new(alloc);
     for _ in 0..length {
-        items.push(Value::Key(Key::Number(7)))?;
+        items.push(Operand::own(Value::Key(Key::Number(7))))?;
     }
     let list = heap.new_list(items)?;
-    values.push(list)?;
+    values.push(Operand::own(list))?;
     Ok(())
 }
 
 /// Freezes a list of three numbers again and again, and gives the ticks.
-fn freezes(alloc: Global, heap: &Heap, list: &Value) -> u64 {
+fn freezes(alloc: Global, heap: &Heap, list: &Operand<'_>) -> u64 {
     let mut ticks = Ticks::new(u64::MAX);
     for _ in 0..LISTS {
-        if freeze(alloc, Item::Value(list), heap, &mut ticks).is_err() {
+        if freeze(alloc, list.item(), heap, &mut ticks).is_err() {
             return ticks.used();
         }
     }
@@ -130,7 +130,7 @@ fn freezes(alloc: Global, heap: &Heap, list: &Value) -> u64 {
 fn freezes_again(alloc: Global, heap: &Heap, tree: &Frozen) -> u64 {
     let mut ticks = Ticks::new(u64::MAX);
     for turn in 0..LISTS {
-        if freeze(alloc, Item::Tree(tree), heap, &mut ticks).is_err() {
+        if freeze(alloc, tree.item(), heap, &mut ticks).is_err() {
             return turn;
         }
     }
@@ -138,9 +138,9 @@ fn freezes_again(alloc: Global, heap: &Heap, tree: &Frozen) -> u64 {
 }
 
 /// Compares two long lists, and gives the ticks if they are equal.
-fn compares(heap: &Heap, a: &Value, b: &Value) -> u64 {
+fn compares(heap: &Heap, a: &Operand<'_>, b: &Operand<'_>) -> u64 {
     let mut ticks = Ticks::new(u64::MAX);
-    match equal(Item::Value(a), Item::Value(b), heap, &mut ticks) {
+    match equal(a.item(), b.item(), heap, &mut ticks) {
         Ok(true) => ticks.used(),
         _ => 0,
     }
@@ -153,10 +153,10 @@ fn key(alloc: Global, number: u64) -> Result<Key, AllocError> {
 }
 
 /// A dict of so many keys.
-fn dict(alloc: Global, count: u64) -> Result<Entries, AllocError> {
+fn dict<'a>(alloc: Global, count: u64) -> Result<Entries<'a>, AllocError> {
     let mut entries = Entries::with_capacity(alloc, 0)?;
     for number in 0..count {
-        entries.put(key(alloc, number)?, Value::Leaf(Leaf::None))?;
+        entries.put(key(alloc, number)?, Operand::own(Value::Leaf(Leaf::None)))?;
     }
     Ok(entries)
 }
@@ -222,14 +222,14 @@ fn joins(alloc: Global, a: &str, b: &str) -> Result<u64, AllocError> {
 /// An instance of two fields.
 fn instance(alloc: Global, heap: &mut Heap, provider: &Shared<Provider>) -> Result<Value, Broken> {
     let mut fields = Fields::with_capacity(alloc, 2)?;
-    fields.push(Some(Value::Key(Key::Number(1))))?;
-    fields.push(Some(Value::Key(Key::Number(2))))?;
+    fields.push(Some(Operand::own(Value::Key(Key::Number(1)))))?;
+    fields.push(Some(Operand::own(Value::Key(Key::Number(2)))))?;
     heap.new_instance(provider.share()?, fields)
 }
 
 /// Whether a value is an instance that has its second field.
 fn has_second(heap: &Heap, made: &Value) -> bool {
-    match heap.see(made) {
+    match heap.see_item(made.item()) {
         Seen::Instance(_, Slots::Values(fields)) => matches!(fields.get(1), Some(Some(_))),
         _ => false,
     }
@@ -244,7 +244,7 @@ fn is_read(
 ) -> Result<bool, Broken> {
     let made = instance(alloc, heap, provider)?;
     let has_second = has_second(heap, &made);
-    freeze(alloc, Item::Value(&made), heap, ticks)?;
+    freeze(alloc, made.item(), heap, ticks)?;
     Ok(has_second)
 }
 
@@ -334,7 +334,7 @@ fn time_lists<R: Print + Clock>(
     rt: &R,
     alloc: Global,
     heap: &Heap,
-    values: &[Value],
+    values: &[Operand<'_>],
     timed: bool,
 ) -> io::Result<()> {
     let [small, long, also_long] = values else {
@@ -342,7 +342,7 @@ fn time_lists<R: Print + Clock>(
     };
     let start = begin(rt, timed);
     report(rt, "values frozen", freezes(alloc, heap, small), start)?;
-    match freeze(alloc, Item::Value(long), heap, &mut Ticks::new(u64::MAX)) {
+    match freeze(alloc, long.item(), heap, &mut Ticks::new(u64::MAX)) {
         Ok(tree) => freeze_again(rt, alloc, heap, &tree, timed)?,
         Err(_) => return println!(rt; "no frozen list"),
     }
@@ -351,7 +351,7 @@ fn time_lists<R: Print + Clock>(
 }
 
 /// A small list and two long ones.
-fn three_lists(alloc: Global, heap: &mut Heap) -> Result<Items, Broken> {
+fn three_lists<'a>(alloc: Global, heap: &mut Heap<'a>) -> Result<Items<'a>, Broken> {
     let mut values = Items::new(alloc);
     add_list(alloc, heap, &mut values, 3)?;
     add_list(alloc, heap, &mut values, PAIRS)?;

@@ -12,7 +12,7 @@ use numbers::Comparison;
 use operands::{Bindings, Operand};
 use plain::Text;
 use state::{
-    Arithmetic, Defaults, State, append, calculate, compare, equals, find, item, new_dict,
+    Arithmetic, Defaults, State, append, calculate, compare, equals, item, key_of, new_dict,
     new_list, new_tuple, plus, set_item, tick,
 };
 use std::alloc::{AllocError, Global};
@@ -121,14 +121,19 @@ fn empty<'a>(alloc: Global) -> Result<State<'a>, AllocError> {
 fn small_list(alloc: Global, state: &mut State) -> Result<Value, Broken> {
     let mut items = Items::new(alloc);
     for n in 1..4 {
-        items.push(number(n))?;
+        items.push(Operand::own(number(n)))?;
     }
     new_list(state, items)
 }
 
 /// Gives a dict the entry `n: n`.
 fn put(state: &mut State, dict: &Value, n: i64) -> Result<(), Broken> {
-    set_item(state, dict, Item::Key(&Key::Number(n)), number(n))
+    set_item(
+        state,
+        dict,
+        Item::Key(&Key::Number(n)),
+        Operand::own(number(n)),
+    )
 }
 
 /// The dict `{k: k for k in range(64)}`.
@@ -143,7 +148,7 @@ fn small_dict(alloc: Global, state: &mut State) -> Result<Value, Broken> {
 /// The instance `P(x = 1)`.
 fn small_instance(alloc: Global, state: &mut State) -> Result<Value, Broken> {
     let mut fields = Fields::with_capacity(alloc, 1)?;
-    fields.push(Some(number(1)))?;
+    fields.push(Some(Operand::own(number(1))))?;
     let provider = provider(alloc, &[FIELD])?;
     state.heap.new_instance(provider, fields)
 }
@@ -162,47 +167,45 @@ fn made(alloc: Global, state: &mut State, what: Turn) -> Result<Value, Broken> {
 
 fn modulo(state: &State, a: &Value, b: i64) -> Result<Value, Broken> {
     let b = number(b);
-    let rest = calculate(state, Arithmetic::Modulo, Item::Value(a), Item::Value(&b))?;
+    let rest = calculate(state, Arithmetic::Modulo, a.item(), b.item())?;
     Ok(rest)
 }
 
 fn product_and_sum(alloc: Global, state: &mut State, i: &Value) -> Result<Value, Broken> {
     let (three, one) = (number(3), number(1));
-    let product = calculate(
-        state,
-        Arithmetic::Times,
-        Item::Value(i),
-        Item::Value(&three),
-    )?;
-    plus(alloc, state, Item::Value(&product), Item::Value(&one))
+    let product = calculate(state, Arithmetic::Times, i.item(), three.item())?;
+    plus(alloc, state, product.item(), one.item())
 }
 
 fn below_or_equal(state: &mut State, i: &Value) -> Result<Value, Broken> {
     let (five, seven) = (number(5), number(7));
-    if compare(state, Comparison::Below, Item::Value(i), Item::Value(&five))? {
+    if compare(state, Comparison::Below, i.item(), five.item())? {
         return Ok(truth(true));
     }
-    let same = equals(state, Item::Value(i), Item::Value(&seven))?;
+    let same = equals(state, i.item(), seven.item())?;
     Ok(truth(same))
 }
 
 /// Sets an item of a list or of a dict.
 fn set(state: &mut State, base: &Value, i: Value, modulus: i64) -> Result<Value, Broken> {
     let index = modulo(state, &i, modulus)?;
-    set_item(state, base, Item::Value(&index), i)?;
+    set_item(state, base, index.item(), Operand::own(i))?;
     Ok(none())
 }
 
 fn is_in(state: &State, i: &Value, dict: &Value) -> Result<Value, Broken> {
-    let Seen::Dict(entries) = state.heap.see(dict) else {
+    let Seen::Dict(entries) = state.heap.see_item(dict.item()) else {
         return Err(Broken::Kind(Kind::Wrong));
     };
-    let found = find(entries, &state.heap.see(i))?;
-    Ok(truth(found.is_some()))
+    let key = state.heap.see_item(i.item());
+    match key_of(&key) {
+        Some(key) => Ok(truth(entries.get(key).is_some())),
+        None => Err(Broken::Kind(Kind::Wrong)),
+    }
 }
 
 fn field(state: &State, instance: &Value, name: &str) -> Result<Value, Broken> {
-    let Seen::Instance(provider, slots) = state.heap.see(instance) else {
+    let Seen::Instance(provider, slots) = state.heap.see_item(instance.item()) else {
         return Err(Broken::Kind(Kind::Name));
     };
     let fields = provider.fields.as_slice();
@@ -220,22 +223,22 @@ fn field(state: &State, instance: &Value, name: &str) -> Result<Value, Broken> {
 
 fn indexed(alloc: Global, state: &State, list: &Value, i: &Value) -> Result<Value, Broken> {
     let index = modulo(state, i, 3)?;
-    let base = Operand::lent(Item::Value(list));
-    let found = item(alloc, state, &base, Item::Value(&index))?;
+    let base = Operand::own(list.share()?);
+    let found = item(alloc, state, &base, index.item())?;
     Ok(found.into_value()?)
 }
 
 fn pair(alloc: Global, state: &mut State, i: Value) -> Result<Value, Broken> {
     let mut items = Items::with_capacity(alloc, 2)?;
-    items.push(i.share()?)?;
-    items.push(i)?;
+    items.push(Operand::own(i.share()?))?;
+    items.push(Operand::own(i))?;
     new_tuple(state, items)
 }
 
 #[inline(never)]
 fn successor(alloc: Global, state: &mut State, i: &Value) -> Result<Value, Broken> {
     let one = number(1);
-    plus(alloc, state, Item::Value(i), Item::Value(&one))
+    plus(alloc, state, i.item(), one.item())
 }
 
 /// Does what a turn does to a value, and gives what it makes. It isn't inlined, so that nothing is
@@ -258,7 +261,7 @@ fn take_turn(
         Turn::Membership => is_in(state, &i, base),
         Turn::Field => field(state, base, FIELD),
         Turn::Index => indexed(alloc, state, base, &i),
-        Turn::Append => append(state, base, i),
+        Turn::Append => append(state, base, Operand::own(i)),
         Turn::Tuple => pair(alloc, state, i),
         Turn::Call => successor(alloc, state, &i),
     }

@@ -91,8 +91,8 @@ fn equal_within(
     if let Err(kind) = ticks.enter(left) {
         return Err(kind);
     }
-    let x = heap.see_item(a);
-    let y = heap.see_item(b);
+    let x = (&*heap).see_item(a);
+    let y = (&*heap).see_item(b);
     shapes(left - 1, &x, &y, heap, ticks)
 }
 
@@ -100,8 +100,8 @@ fn equal_within(
 #[cycle(equal)]
 fn shapes(
     left: u32,
-    a: &Seen<'_>,
-    b: &Seen<'_>,
+    a: &Seen<'_, '_>,
+    b: &Seen<'_, '_>,
     heap: &Heap,
     ticks: &mut Ticks,
 ) -> Result<bool, Kind>
@@ -129,8 +129,8 @@ fn shapes(
 #[cycle(equal)]
 fn groups(
     left: u32,
-    xs: &Group<'_>,
-    ys: &Group<'_>,
+    xs: &Group<'_, '_>,
+    ys: &Group<'_, '_>,
     heap: &Heap,
     ticks: &mut Ticks,
 ) -> Result<bool, Kind>
@@ -157,8 +157,8 @@ fn groups(
 #[cycle(equal)]
 fn tables(
     left: u32,
-    xs: &Table<'_>,
-    ys: &Table<'_>,
+    xs: &Table<'_, '_>,
+    ys: &Table<'_, '_>,
     heap: &Heap,
     ticks: &mut Ticks,
 ) -> Result<bool, Kind>
@@ -196,7 +196,7 @@ fn are_alike(x: Option<Item<'_>>, y: Option<Item<'_>>) -> bool
 }
 
 /// Whether the same fields were given, field by field.
-fn have_same_fields(xs: &Slots<'_>, ys: &Slots<'_>) -> bool
+fn have_same_fields(xs: &Slots<'_, '_>, ys: &Slots<'_, '_>) -> bool
     ensures { result ≡ same_given (slot_values xs.now) (slot_values ys.now) }
 {
     if xs.len() != ys.len() {
@@ -217,8 +217,8 @@ fn have_same_fields(xs: &Slots<'_>, ys: &Slots<'_>) -> bool
 #[cycle(equal)]
 fn slots(
     left: u32,
-    xs: &Slots<'_>,
-    ys: &Slots<'_>,
+    xs: &Slots<'_, '_>,
+    ys: &Slots<'_, '_>,
     heap: &Heap,
     ticks: &mut Ticks,
 ) -> Result<bool, Kind>

@@ -5,20 +5,21 @@
 ghost use Rattle.std.specs.Prelude.{◌≡◌, Ok, Some, MatchResult, length};
 ghost use Rattle.ticks.specs.Ticking.{Says, FaultOr, after_tick, with_count, entered};
 ghost use Rattle.values.specs.Visits.{all_of};
+ghost use Rattle.values.specs.declared.value.Value.TheVariants as held;
 ghost use Rattle.values.specs.Seeing.{item_value};
 ghost use Rattle.values.specs.Shape.{cell_shape};
 ghost use Rattle.values.specs.Tree.{key as key_tree, branch, list, tuple, dict, instance, trees};
 ghost use Rattle.values.specs.Tree.{pairs, slots};
 ghost use Rattle.visits.specs.Freeze.{freeze_at, built, frozen_leaf, frozen_entry, frozen_slot};
 
-use crate::revisit::{freeze_branch, freeze_tree};
+use crate::revisit::freeze_branch;
 use heap::Heap;
 use indexmap::IndexSet;
 use plain::{Shared, push_last};
 use std::alloc::Global;
 use values::{
-    Branch, Broken, Cell, Entries, Frozen, Item, Key, Kind, Leaf, Provider, Ticks, VISITED_LEVELS,
-    Value,
+    Branch, Broken, Cell, Entries, Frozen, Item, Key, Kind, Leaf, Operand, Provider, Ticks,
+    VISITED_LEVELS,
 };
 
 /// The tree of a value. Each value that is visited costs a tick, one that is frozen already too.
@@ -38,11 +39,7 @@ pub fn freeze(
     ensures { Says (freeze_at VISITED_LEVELS heap.now (item_value item.entry) ticks.old) result
         ticks.new }
 {
-    match item {
-        Item::Value(value) => freeze_within(alloc, VISITED_LEVELS, value, heap, ticks),
-        Item::Tree(tree) => freeze_tree(VISITED_LEVELS, tree, ticks),
-        Item::Key(key) => freeze_key(VISITED_LEVELS, key, ticks),
-    }
+    freeze_within(alloc, VISITED_LEVELS, item, heap, ticks)
 }
 
 /// The visit of a key, and its frozen value.
@@ -126,17 +123,17 @@ fn instance_of(
 fn freeze_within(
     alloc: Global,
     left: u32,
-    value: &Value,
+    item: Item<'_>,
     heap: &Heap,
     ticks: &mut Ticks,
 ) -> Result<Frozen, Broken>
-    ensures { Says (freeze_at left heap.now value.now ticks.old) result ticks.new }
+    ensures { Says (freeze_at left heap.now (item_value item.entry) ticks.old) result ticks.new }
 {
-    match value {
-        Value::Key(key) => freeze_key(left, key, ticks),
-        Value::Leaf(leaf) => freeze_leaf(left, leaf, ticks),
-        Value::Cell(number) => freeze_cell(alloc, left, *number, heap, ticks),
-        Value::Frozen(limb) => freeze_branch(left, limb, ticks),
+    match item {
+        Item::Key(key) => freeze_key(left, key, ticks),
+        Item::Leaf(leaf) => freeze_leaf(left, leaf, ticks),
+        Item::Cell(number) => freeze_cell(alloc, left, number, heap, ticks),
+        Item::Branch(limb) => freeze_branch(left, limb, ticks),
     }
 }
 
@@ -149,7 +146,7 @@ fn freeze_cell(
     heap: &Heap,
     ticks: &mut Ticks,
 ) -> Result<Frozen, Broken>
-    ensures { Says (freeze_at left heap.now (Value.Cell number) ticks.old) result ticks.new }
+    ensures { Says (freeze_at left heap.now (held.Cell number) ticks.old) result ticks.new }
 {
     if let Err(kind) = ticks.enter(left) {
         return Err(Broken::Kind(kind));
@@ -203,7 +200,7 @@ fn freeze_parts(
 fn freeze_all(
     alloc: Global,
     left: u32,
-    values: &[Value],
+    values: &[Operand<'_>],
     heap: &Heap,
     ticks: &mut Ticks,
 ) -> Result<Vec<Frozen>, Broken>
@@ -213,7 +210,7 @@ fn freeze_all(
 {
     let mut kept = Vec::with_capacity(alloc, values.len())?;
     for value in values {
-        match freeze_within(alloc, left, value, heap, ticks) {
+        match freeze_within(alloc, left, value.item(), heap, ticks) {
             Ok(tree) => push_last(&mut kept, tree)?,
             Err(broken) => return Err(broken),
         }
@@ -253,7 +250,7 @@ fn freeze_entries(
 fn freeze_entry(
     alloc: Global,
     left: u32,
-    value: &Value,
+    value: &Operand<'_>,
     heap: &Heap,
     ticks: &mut Ticks,
 ) -> Result<Frozen, Broken>
@@ -261,7 +258,7 @@ fn freeze_entry(
         result ticks.new }
 {
     ticks.enter(left)?;
-    freeze_within(alloc, left, value, heap, ticks)
+    freeze_within(alloc, left, value.item(), heap, ticks)
 }
 
 /// The trees of the fields that were given, in order.
@@ -269,7 +266,7 @@ fn freeze_entry(
 fn freeze_slots(
     alloc: Global,
     left: u32,
-    fields: &[Option<Value>],
+    fields: &[Option<Operand<'_>>],
     heap: &Heap,
     ticks: &mut Ticks,
 ) -> Result<Vec<Option<Frozen>>, Broken>
@@ -293,14 +290,14 @@ fn freeze_slots(
 fn freeze_slot(
     alloc: Global,
     left: u32,
-    field: &Option<Value>,
+    field: &Option<Operand<'_>>,
     heap: &Heap,
     ticks: &mut Ticks,
 ) -> Result<Option<Frozen>, Broken>
     ensures { Says (frozen_slot (freeze_at left heap.now) field.now ticks.old) result ticks.new }
 {
     match field {
-        Some(value) => match freeze_within(alloc, left, value, heap, ticks) {
+        Some(value) => match freeze_within(alloc, left, value.item(), heap, ticks) {
             Ok(tree) => Ok(Some(tree)),
             Err(broken) => Err(broken),
         },

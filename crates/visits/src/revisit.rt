@@ -13,16 +13,6 @@ ghost use Rattle.visits.specs.Revisit.{values_in};
 use indexmap::IndexSet;
 use values::{Branch, Broken, Extent, Frozen, Held, Key, Kind, Leaf, Node, Ticks};
 
-/// A second name of a frozen value, after its visit.
-pub(crate) fn freeze_tree(left: u32, tree: &Frozen, ticks: &mut Ticks) -> Result<Frozen, Broken>
-    ensures { Says (after_tick (visit_at left tree.now ticks.old) (λ d. Ok (tree.now, d))) result
-        ticks.new }
-{
-    visit_tree(left, tree, ticks)?;
-    let shared = tree.share()?;
-    Ok(shared)
-}
-
 /// A second name of a frozen value with parts, after its visit.
 pub(crate) fn freeze_branch(left: u32, limb: &Branch, ticks: &mut Ticks) -> Result<Frozen, Broken>
     ensures { Says (after_tick (visit_at left (branch limb.now) ticks.old)

@@ -25,14 +25,13 @@ loop-place-preserved c =
     let e : place ≡ suc k = omega (arith, c.loop-place-test.true) in
     let above : place ≡ k + 1 = omega (arith, c.loop-place-test.true) in
     let inside : k < length items = omega (arith, c.loop-place-test.true, c.loop-place.invariant.0, c.loop-place.auto.place) in (
-      ap length c.set.ensures ∙ length-set items k c.in_ok-into_value-in-Some.field-0 ∙ c.loop-place.invariant.0,
+      ap length c.set.ensures ∙ length-set items k c.in-Some.value ∙ c.loop-place.invariant.0,
       c.loop-place.invariant.1
           ∙ ap (popped place (drop place items)) c.in-Some.ensures
           ∙ popped-falls place k (drop place items) c.in-Some.value c.pop.new.self e
           ∙ ap (λ vs. popped k vs c.pop.new.self) (
-          ap (λ v. v ∷ drop place items) (sym c.in_ok-into_value-in-Some.ensures)
-          ∙ ap (λ n. c.in_ok-into_value-in-Some.field-0 ∷ drop n items) above
-          ∙ sym (drop-set items k c.in_ok-into_value-in-Some.field-0 inside)
+          ap (λ n. c.in-Some.value ∷ drop n items) above
+          ∙ sym (drop-set items k c.in-Some.value inside)
           ∙ sym (ap (drop k) c.set.ensures)),
     )
 

@@ -1,4 +1,4 @@
-use Rattle.std.proofs.Common.{◌≡◌, ◌≤◌, length, sym, subst, refl, slice_get, Some, MatchOption, arith}
+use Rattle.std.proofs.Common.{◌≡◌, ◌≤◌, length, sym, subst, refl, ap, ◌∙◌, slice_get, Some, MatchOption, arith}
 use Rattle.std.proofs.lemmas.Option.{slice_get_read}
 use Rattle.values.specs.Seeing.{entry_value}
 use Rattle.values.specs.Shape.{zip}
@@ -24,3 +24,4 @@ pub returns : goal.returns
 returns c =
     zip-place c.args.keys.now.keys c.args.values.now c.args.place c.in_ok-get_index.field-0.now c.in_ok-get.field-0.now
     (sym c.in_ok-get_index.ensures.key) (slice_get_read c.args.values.now (length c.args.values.now) c.args.place c.in_ok-get.field-0.now refl c.in_ok-get.ensures.lookup.3.0 c.in_ok-get.ensures.lookup.1)
+    ∙ ap (λ v. Some (c.in_ok-get_index.field-0.now, v)) (sym c.item.ensures)

@@ -1,17 +1,17 @@
-use Rattle.std.proofs.Common.{length, refl, sym, ap, ◌∙◌}
+use Rattle.std.proofs.Common.{length, refl, sym, ap, ◌∙◌, option_map, option_copied}
 use Rattle.std.proofs.lemmas.Option.{slice_get_read}
-use Rattle.values.specs.Seeing.{option_value}
+use Rattle.values.specs.Shape.{value_of}
 use Rattle.values.proofs.SeeLemmas.{lookup-found, lookup-past, lookup-none}
 use Rattle.values.proofs.sees.tree_of_key.Goals as goal
 
 pub returns-in_err-place : goal.returns-in_err-place
 returns-in_err-place c =
-    ap option_value c.from_residual.ensures
+    ap (λ r. option_map value_of (option_copied r)) c.from_residual.ensures
     ∙ sym (lookup-none c.args.key.now c.args.keys.now.keys c.args.values.now (sym c.in_err-place.ensures.index))
 
 pub returns-in_err-get : goal.returns-in_err-get
 returns-in_err-get c =
-    ap option_value c.from_residual-in_err-get.ensures
+    ap (λ r. option_map value_of (option_copied r)) c.from_residual-in_err-get.ensures
     ∙ sym (lookup-past c.args.key.now c.args.keys.now.keys c.args.values.now c.in_ok-place.place (sym c.in_ok-place.ensures.index)
     c.in_err-get.ensures.lookup.3)
 

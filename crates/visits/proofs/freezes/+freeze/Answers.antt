@@ -1,9 +1,10 @@
-use Rattle.std.proofs.Common.{◌+◌, ◌-◌, drop, length, Ok, Some, option_copied, refl, sym, ap, ◌∙◌, subst}
+use Rattle.std.proofs.Common.{◌≡◌, ◌+◌, ◌-◌, drop, length, Ok, Some, option_copied, refl, sym, ap, ◌∙◌, subst}
 use Rattle.std.proofs.lemmas.Option.{slice_get_read}
 use Rattle.ticks.specs.Ticking.{Count, FaultOr, Says, after_tick, entered}
 use Rattle.values.specs.Visits.{all_of, keys_of}
 use Rattle.values.specs.Tree.{branch}
 use Rattle.values.specs.Shape.{shape, cell_shape}
+use Rattle.values.specs.Seeing.{item_value}
 use Rattle.visits.specs.Freeze.{freeze_at, built, frozen_entry, frozen_slot}
 use Rattle.values.specs.declared.value.Value.TheVariants as value
 use Rattle.values.proofs.VisitLemmas.{with_done, all_of-next, all_of-fault, all_of-length}
@@ -14,19 +15,19 @@ use Rattle.visits.proofs.freezes.+freeze.Goals as goal
 pub freeze_within-returns-in-Leaf : goal.freeze_within-returns-in-Leaf
 freeze_within-returns-in-Leaf t c =
     subst (λ r. Says r c.freeze_leaf.result c.freeze_leaf.new.ticks)
-    (sym (ap (λ v. freeze_at c.args.left c.args.heap.now v c.args.ticks.now) c.in-Leaf.is ∙ opened c.args.left c.args.heap.now (value.Leaf c.in-Leaf.leaf) c.args.ticks.now))
+    (sym (ap (λ i. freeze_at c.args.left c.args.heap.now (item_value i) c.args.ticks.now) c.in-Leaf.is ∙ opened c.args.left c.args.heap.now (value.Leaf c.in-Leaf.leaf.now) c.args.ticks.now))
     c.freeze_leaf.ensures
 
-pub freeze_within-returns-in-Frozen : goal.freeze_within-returns-in-Frozen
-freeze_within-returns-in-Frozen t c =
+pub freeze_within-returns-in-Branch : goal.freeze_within-returns-in-Branch
+freeze_within-returns-in-Branch t c =
     subst (λ r. Says r c.freeze_branch.result c.freeze_branch.new.ticks)
-    (sym (ap (λ v. freeze_at c.args.left c.args.heap.now v c.args.ticks.now) c.in-Frozen.is ∙ frozen-again c.args.left c.args.heap.now (branch c.in-Frozen.limb) c.args.ticks.now))
+    (sym (ap (λ i. freeze_at c.args.left c.args.heap.now (item_value i) c.args.ticks.now) c.in-Branch.is ∙ frozen-again c.args.left c.args.heap.now (branch c.in-Branch.limb.now) c.args.ticks.now))
     c.freeze_branch.ensures
 
 pub freeze_within-returns-in-Key : goal.freeze_within-returns-in-Key
 freeze_within-returns-in-Key t c =
     subst (λ r. Says r c.freeze_key.result c.freeze_key.new.ticks)
-    (sym (ap (λ v. freeze_at c.args.left c.args.heap.now v c.args.ticks.now) c.in-Key.is ∙ opened c.args.left c.args.heap.now (value.Key c.in-Key.key) c.args.ticks.now))
+    (sym (ap (λ i. freeze_at c.args.left c.args.heap.now (item_value i) c.args.ticks.now) c.in-Key.is ∙ opened c.args.left c.args.heap.now (value.Key c.in-Key.key.now) c.args.ticks.now))
     c.freeze_key.ensures
 
 pub freeze_cell-returns-in-Err : goal.freeze_cell-returns-in-Err
@@ -62,13 +63,15 @@ pub freeze_all-returns-in-Err : goal.freeze_all-returns-in-Err
 freeze_all-returns-in-Err t c =
     subst (λ r. FaultOr r c.in-Err.broken) c.loop-value.invariant
     (all_of-fault (freeze_at c.args.left c.args.heap.now) c.args.values.now c.loop-value.value-index c.value-item.result (slice_get_read c.args.values.now (length c.args.values.now) c.loop-value.value-index c.value-item.result refl c.loop-value-test.true c.value-item.is)
-    c.loop-value.kept.items c.loop-value.ticks c.in-Err.broken c.in-Err.ensures)
+    c.loop-value.kept.items c.loop-value.ticks c.in-Err.broken
+    (subst (λ v. FaultOr (freeze_at c.args.left c.args.heap.now v c.loop-value.ticks) c.in-Err.broken) c.item.ensures c.in-Err.ensures))
 
 pub freeze_all-loop-value-preserved : goal.freeze_all-loop-value-preserved
 freeze_all-loop-value-preserved t c =
     ap (λ l. with_done l (all_of (freeze_at c.args.left c.args.heap.now) (drop (c.loop-value.value-index + 1) c.args.values.now) c.freeze_within.new.ticks)) c.in_ok-push_last-in-Ok.ensures.ok
     ∙ all_of-next (freeze_at c.args.left c.args.heap.now) c.args.values.now c.loop-value.value-index c.value-item.result (slice_get_read c.args.values.now (length c.args.values.now) c.loop-value.value-index c.value-item.result refl c.loop-value-test.true c.value-item.is)
-    c.loop-value.kept.items c.loop-value.ticks c.in-Ok.tree c.freeze_within.new.ticks c.in-Ok.ensures
+    c.loop-value.kept.items c.loop-value.ticks c.in-Ok.tree c.freeze_within.new.ticks
+    (subst (λ v. freeze_at c.args.left c.args.heap.now v c.loop-value.ticks ≡ Ok (c.in-Ok.tree, c.freeze_within.new.ticks)) c.item.ensures c.in-Ok.ensures)
     ∙ c.loop-value.invariant
 
 pub freeze_entries-returns-in-Err : goal.freeze_entries-returns-in-Err

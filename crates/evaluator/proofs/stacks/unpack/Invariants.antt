@@ -1,6 +1,6 @@
 use Rattle.std.proofs.Common.{◌≡◌, ◌≤◌, ◌++◌, length, drop}
 use Rattle.values.specs.Seeing.{group_items}
-use Rattle.evaluator.proofs.stacks.unpack_lent.Given as goal
+use Rattle.evaluator.proofs.stacks.unpack.Given as goal
 
 abbrev pub invariant-loop-place : goal.invariant-loop-place
 invariant-loop-place l = record {
