@@ -1,9 +1,8 @@
 //! The methods of dicts.
-ghost use Rattle.std.specs.Prelude.{◌≡◌, ◌++◌, ◌∷◌, [], Ok, Err, Some, None, IfOk};
-ghost use Rattle.std.specs.Prelude.{OnOk, map};
+ghost use Rattle.std.specs.Prelude.{◌≡◌, [], Ok, Err, Some, None, IfOk, map};
 ghost use Rattle.values.specs.Visits.{keys_of};
 ghost use Rattle.values.specs.Shape.{shape};
-ghost use Rattle.values.specs.Seeing.{seen, item_value, table_entries};
+ghost use Rattle.values.specs.Seeing.{seen, table_entries};
 ghost use Rattle.operations.specs.States.{Does, Gives};
 ghost use Rattle.operations.specs.Making.{entries_in, none};
 ghost use Rattle.operations.specs.Items.{found, got};
@@ -14,7 +13,7 @@ use operands::Operand;
 use operations::State;
 use state::{key_of, new_list};
 use std::alloc::{AllocError, Global};
-use values::{Broken, Item, Items, Key, Kind, Leaf, Seen, Table, Value};
+use values::{Broken, Items, Kind, Leaf, Seen, Table, Value};
 
 /// `dict.get(key, default)`: the value of the key, or the default, which is None where it is
 /// missing. The value of a key of a dict that is lent is lent, and so is a default that is.
@@ -120,19 +119,10 @@ pub(crate) fn key_items<'a>(alloc: Global, entries: Table<'_, 'a>) -> Result<Ite
     ensures { IfOk result (λ items. items ≡ map Value.Key (keys_of (table_entries entries.entry))) }
 {
     let mut items = Items::with_capacity(alloc, entries.len())?;
-    for (key, _) in entries {
-        put_key(key, &mut items)?;
+    for place in 0..entries.len() {
+        items.push(entries.key_at(place)?)?;
     }
     Ok(items)
-}
-
-/// Puts a key last, as a value.
-fn put_key(key: &Key, items: &mut Items) -> Result<(), AllocError>
-    ensures { OnOk result (items.new ≡ items.old ++ Value.Key key.now ∷ []) }
-{
-    let key = key.share()?;
-    items.push(Operand::own(Value::Key(key)))?;
-    Ok(())
 }
 
 /// `dict.values()`: a new list.
@@ -163,17 +153,8 @@ fn value_items<'a>(alloc: Global, entries: Table<'_, 'a>) -> Result<Items<'a>, A
     ensures { IfOk result (λ items. items ≡ map (λ e. e.1) (table_entries entries.entry)) }
 {
     let mut items = Items::with_capacity(alloc, entries.len())?;
-    for (_, value) in entries {
-        put_value(value, &mut items)?;
+    for place in 0..entries.len() {
+        items.push(entries.value_at(place)?)?;
     }
     Ok(items)
-}
-
-/// Puts a value last.
-fn put_value(value: Item<'_>, items: &mut Items<'_>) -> Result<(), AllocError>
-    ensures { OnOk result (items.new ≡ items.old ++ item_value value.entry ∷ []) }
-{
-    let value = value.to_value()?;
-    items.push(Operand::own(value))?;
-    Ok(())
 }

@@ -19,13 +19,15 @@ use crate::joins::join;
 use crate::pairs::items;
 use crate::receivers::{depset_of, string_of};
 use crate::splits::split;
+use arena::Arena;
 use operands::{Operand, owned};
 use operations::{Arguments, Method, State};
 use std::alloc::Global;
-use values::{Broken, Item, Kind, Value};
+use values::{Broken, Depset, Item, Kind, Value};
 
 /// The call of a method of a list, a dict, a string or a depset. What `get` finds in a dict that is
-/// lent is lent, and so is a default that is.
+/// lent is lent, and so is a default that is. A depset of the evaluation's own that is listed is
+/// kept, so that it lends what the list holds.
 ///
 /// # Errors
 ///
@@ -33,6 +35,7 @@ use values::{Broken, Item, Kind, Value};
 /// (`docs/PROFILE.md`, "Calls of the language"). `NoMemory` where memory was refused.
 pub fn call_method<'a>(
     alloc: Global,
+    kept: &'a Arena<Depset>,
     state: &mut State<'a>,
     method: Method,
     receiver: &Operand<'a>,
@@ -42,7 +45,7 @@ pub fn call_method<'a>(
         state.new }
 {
     match positions(arguments) {
-        Ok(values) => method_of(alloc, state, method, receiver, values),
+        Ok(values) => method_of(alloc, kept, state, method, receiver, values),
         Err(kind) => Err(Broken::Kind(kind)),
     }
 }
@@ -50,6 +53,7 @@ pub fn call_method<'a>(
 /// The same, of positions alone.
 fn method_of<'a>(
     alloc: Global,
+    kept: &'a Arena<Depset>,
     state: &mut State<'a>,
     method: Method,
     receiver: &Operand<'a>,
@@ -69,7 +73,7 @@ fn method_of<'a>(
         Method::Split => owned(split_one(alloc, state, of, items)),
         Method::StartsWith => owned(starts_with_one(state, of, items)),
         Method::EndsWith => owned(ends_with_one(state, of, items)),
-        Method::ToList => owned(list_of(alloc, state, of, items)),
+        Method::ToList => owned(list_of(alloc, kept, state, receiver, items)),
     }
 }
 
@@ -218,16 +222,17 @@ fn ends_with_one(state: &State, receiver: Item<'_>, items: &[Operand<'_>]) -> Re
     }
 }
 
-fn list_of(
+fn list_of<'a>(
     alloc: Global,
-    state: &mut State,
-    receiver: Item<'_>,
+    kept: &'a Arena<Depset>,
+    state: &mut State<'a>,
+    receiver: &Operand<'a>,
     items: &[Operand<'_>],
 ) -> Result<Value, Broken>
-    ensures { Does (of_depset (depset_in (shape state.old.heap (item_value receiver.entry)))
-        items.now) state.old result state.new }
+    ensures { Does (of_depset (depset_in (shape state.old.heap receiver.now)) items.now) state.old
+        result state.new }
 {
-    let Some(depset) = depset_of(receiver) else {
+    let Some(depset) = depset_of(alloc, kept, receiver)? else {
         return Err(Broken::Kind(Kind::Wrong));
     };
     if !items.is_empty() {

@@ -1,4 +1,5 @@
 //! Fields of targets, of `ctx` and of its parts.
+ghost use Rattle.leaves.specs.Lent.{leaf_at};
 ghost use Rattle.std.specs.Prelude.{◌≡◌, Ok, Err, Some, None, IfOk};
 ghost use Rattle.std.specs.Prelude.{slice_get};
 ghost use Rattle.depsets.specs.Listed.{walked};
@@ -15,7 +16,7 @@ use crate::kept::FileLists;
 use field_names::{FieldName, KnownName};
 use operands::Operand;
 use std::alloc::{AllocError, Global};
-use values::{Broken, Item, Kind, Leaf, Object, Value};
+use values::{Broken, Item, Kind, Leaf, LeafRef, Object, Value};
 
 /// A field of a target or of an object, in the implementation of a target. Each is lent, or is soon
 /// made; a list of `ctx.files` is made at its first read.
@@ -27,17 +28,17 @@ use values::{Broken, Item, Kind, Leaf, Object, Value};
 pub fn field<'a, 'b, I: FileLists>(
     alloc: Global,
     context: &'a TargetContext<'b, I>,
-    owner: &Leaf,
+    owner: LeafRef<'_>,
     name: &FieldName,
 ) -> Result<Operand<'a>, Broken>
     ensures { Gives (field walked context.now.target.now context.now.dependencies
-        context.now.label.now owner.now name.now) result }
+        context.now.label.now (leaf_at owner.entry) name.now) result }
 {
     match owner {
-        Leaf::Target(place) => or_name(target_field(&context.dependencies, *place, name)),
-        Leaf::Object(Object::Context) => { or_name(context_field(context, name)) }
-        Leaf::Object(Object::ContextAttr) => { or_name(attr_field(alloc, context, name)?) }
-        Leaf::Object(Object::ContextFiles) => files_field(alloc, context, name),
+        LeafRef::Target(place) => or_name(target_field(&context.dependencies, place, name)),
+        LeafRef::Object(Object::Context) => { or_name(context_field(context, name)) }
+        LeafRef::Object(Object::ContextAttr) => { or_name(attr_field(alloc, context, name)?) }
+        LeafRef::Object(Object::ContextFiles) => files_field(alloc, context, name),
         _ => Err(Broken::Kind(Kind::Name)),
     }
 }

@@ -1,4 +1,5 @@
 //! `files` of a target.
+ghost use Rattle.leaves.specs.Lent.{leaf_at};
 ghost use Rattle.std.specs.Prelude.{◌≡◌, Some, None, option_map, option_copied, codes};
 ghost use Rattle.values.specs.Seeing.{item_value};
 ghost use Rattle.operations.specs.Instances.{default_info};
@@ -12,7 +13,7 @@ use making::field;
 use operands::Operand;
 use operations::DefaultInfo;
 use plain::Text;
-use values::{Frozen, Item, Leaf, Provider, Seen};
+use values::{Frozen, Item, LeafRef, Provider, Seen};
 
 /// The depset in `files` of the `DefaultInfo` among instances, if there is one, where it lies.
 pub(crate) fn files_in<'a>(instances: &'a [Frozen], info: &DefaultInfo) -> Option<Operand<'a>>
@@ -68,11 +69,11 @@ pub(crate) fn item_depset<'a>(item: Item<'a>) -> Option<&'a Depset>
     }
 }
 
-fn leaf_depset(leaf: &Leaf) -> Option<&Depset>
-    ensures { option_copied result ≡ leaf_depset leaf.now }
+fn leaf_depset<'a>(leaf: LeafRef<'a>) -> Option<&'a Depset>
+    ensures { option_copied result ≡ leaf_depset (leaf_at leaf.entry) }
 {
     match leaf {
-        Leaf::Depset(depset) => Some(depset),
+        LeafRef::Depset(depset) => Some(depset),
         _ => None,
     }
 }

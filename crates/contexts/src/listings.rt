@@ -143,7 +143,7 @@ fn element_tree(element: &Element) -> Result<Frozen, AllocError>
     ensures { IfOk result (λ t. t ≡ element_tree element.now) }
 {
     match element {
-        Element::Text(text) => Ok(Frozen::of_key(Key::Text(text.share()?))),
+        Element::Text(key) => Ok(Frozen::of_key(Key::Text(key.text().share()?))),
         Element::Number(number) => Ok(Frozen::of_key(Key::Number(*number))),
         Element::Truth(truth) => Ok(Frozen::of_key(Key::Truth(*truth))),
         Element::Label(label) => Ok(Frozen::of_leaf(Leaf::Label(label.share()?))),

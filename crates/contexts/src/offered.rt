@@ -11,7 +11,7 @@ use crate::dependencies::Dependencies;
 use analysis::is_of;
 use heap::Heap;
 use operands::Operand;
-use values::{Frozen, Item, Kind, Leaf, Provider, Seen};
+use values::{Frozen, Item, Kind, LeafRef, Provider, Seen};
 
 /// The instance of a provider that the target at a place offers, where it lies.
 ///
@@ -60,7 +60,7 @@ fn provider_of<'a>(value: &Seen<'a, '_>) -> Option<&'a Provider>
     ensures { option_copied result ≡ provider_in (seen value.now) }
 {
     match value {
-        Seen::Leaf(Leaf::Provider(provider)) => Some(provider.get()),
+        Seen::Leaf(LeafRef::Provider(provider)) => Some(provider.get()),
         _ => None,
     }
 }

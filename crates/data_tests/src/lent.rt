@@ -1,7 +1,7 @@
 //! Operands of one's own and operands that are lent: what no clause says.
 use operands::Operand;
 use std::alloc::{AllocError, Global};
-use values::{Branch, Frozen, Group, Item, Items, Key, Seen, Value};
+use values::{Branch, Entries, Frozen, Group, Item, Items, Key, MaybeLent, Seen, Value};
 
 /// A frozen list of one number.
 fn listed(alloc: Global) -> Result<Frozen, AllocError> {
@@ -66,6 +66,24 @@ fn lists_give_what_is_lent_as_lent(rt: HostRuntime) -> Result<(), AllocError> {
     let tree = listed(rt.alloc())?;
     assert!(rt; is_held_lent(rt.alloc(), &tree)?);
     assert!(rt; is_part_lent(&tree)?);
+    Ok(())
+}
+
+/// Whether a key of a dict of a heap is lent when it is walked.
+fn is_key_lent(alloc: Global, key: MaybeLent<'_, Key>) -> Result<bool, AllocError> {
+    let mut entries = Entries::with_capacity(alloc, 1)?;
+    entries.put(key, Operand::own(Value::Cell(0)))?;
+    if entries.len() == 0 {
+        return Ok(false);
+    }
+    Ok(entries.key_at(0)?.lent_seen().is_some())
+}
+
+#[test]
+fn dicts_give_keys_that_are_lent_as_lent(rt: HostRuntime) -> Result<(), AllocError> {
+    let key = Key::Number(9);
+    assert!(rt; is_key_lent(rt.alloc(), MaybeLent::lent(&key))?);
+    assert!(rt; !is_key_lent(rt.alloc(), MaybeLent::own(Key::Number(9)))?);
     Ok(())
 }
 

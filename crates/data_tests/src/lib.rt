@@ -1,4 +1,4 @@
-//! Tests of the crates that hold texts, values and lists of them: `plain`, `strings`,
+//! Tests of the crates that hold texts, values and lists of them: `plain`, `arena`, `strings`,
 //! `first_places`, `depsets`, `values`, `operands`, `printing`, `claims` and `graph`; and of what
 //! crosses threads. They are a crate of their own, so that these are proved once.
 //!
@@ -7,6 +7,8 @@
 //! labels in which order, are shown by the stored runs of `serve_check` and `module_check`.
 #![tactic(auto)]
 
+#[cfg(test)]
+mod arenas;
 #[cfg(test)]
 mod conflicts;
 #[cfg(test)]

@@ -14,7 +14,7 @@ use operations::State;
 use plain::{Shared, Text};
 use std::alloc::{AllocError, Global};
 use targets::{Attribute, Declarations, NamedAttribute, Sequence, is_private};
-use values::{AttributeRef, Item, Key, Leaf, Seen, Table, Value};
+use values::{AttributeRef, Item, Key, LeafRef, Seen, Table, Value};
 
 /// What a module sees of declarations while it is evaluated: its own, and those of the modules
 /// before it.
@@ -126,7 +126,7 @@ fn declaration_in<'a, A: Attributes>(
         known.now.state.now known.now.declared.now (seen value.now) }
 {
     match value {
-        Seen::Leaf(Leaf::Attribute(attribute)) => declaration(known, attribute.get()),
+        Seen::Leaf(LeafRef::Attribute(attribute)) => declaration(known, attribute.get()),
         _ => None,
     }
 }

@@ -12,7 +12,7 @@ use operands::Operand;
 use plain::Shared;
 use std::alloc::{AllocError, Global};
 use targets::{AttributeValue, TextDict, TextList};
-use values::{AttributeKind, Group, Key, Leaf, Seen};
+use values::{AttributeKind, Group, Key, LeafRef, Seen};
 
 /// What `default` says, which may be missing; None where it is of another type.
 pub(crate) fn default_in(
@@ -125,7 +125,7 @@ fn label_default(alloc: Global, value: &Seen<'_, '_>) -> Result<Option<Attribute
         (λ o. o ≡ default_typed h AttributeKind.Label (seen value.now)) }
 {
     match value {
-        Seen::Leaf(Leaf::None) => Ok(Some(AttributeValue::Label(None))),
+        Seen::Leaf(LeafRef::None) => Ok(Some(AttributeValue::Label(None))),
         Seen::Key(Key::Text(text)) => match whole_label(alloc, text.as_str())? {
             Some(label) => Ok(Some(AttributeValue::Label(Some(label)))),
             None => Ok(None),

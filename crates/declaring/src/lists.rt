@@ -16,7 +16,7 @@ use plain::{Shared, Text};
 use state::{sequence_of, text_of};
 use std::alloc::{AllocError, Global};
 use targets::Sequence;
-use values::{AttributeKind, Group, Key, Leaf, Names, Provider, Seen};
+use values::{AttributeKind, Group, Key, LeafRef, Names, Provider, Seen};
 use workspace::{Label, LabelRefused};
 
 /// Strings.
@@ -171,7 +171,7 @@ fn provider_in(value: &Seen<'_, '_>) -> Result<Option<Shared<Provider>>, AllocEr
     ensures { IfOk result (λ o. o ≡ provider_in (seen value.now)) }
 {
     match value {
-        Seen::Leaf(Leaf::Provider(provider)) => Ok(Some(provider.share()?)),
+        Seen::Leaf(LeafRef::Provider(provider)) => Ok(Some(provider.share()?)),
         _ => Ok(None),
     }
 }

@@ -8,7 +8,7 @@ use heap::Heap;
 use operands::Operand;
 use plain::Text;
 use state::text_of;
-use values::{Key, Leaf, Seen};
+use values::{Key, LeafRef, Seen};
 
 /// The name that a value is, if it is one.
 pub(crate) fn name_of<'a>(value: &Seen<'a, '_>) -> Option<&'a Text>
@@ -46,7 +46,7 @@ fn is_doc(value: &Seen<'_, '_>) -> bool
 {
     match value {
         Seen::Key(Key::Text(_)) => true,
-        Seen::Leaf(Leaf::None) => true,
+        Seen::Leaf(LeafRef::None) => true,
         _ => false,
     }
 }

@@ -19,7 +19,9 @@ use operations::{Arguments, State};
 use plain::Shared;
 use std::alloc::{AllocError, Global};
 use targets::{Declarations, Rule, RuleAttributes};
-use values::{Broken, ExportName, Exported, FunctionRef, Kind, Leaf, MadeId, RuleRef, Seen, Value};
+use values::{
+    Broken, ExportName, Exported, FunctionRef, Kind, Leaf, LeafRef, MadeId, RuleRef, Seen, Value,
+};
 
 /// A call of `rule`, which makes a rule of a function and of attributes. Those may be of this
 /// module, or of the modules before it, which are linked.
@@ -98,7 +100,7 @@ fn function_in<'a>(value: &Seen<'a, '_>) -> Option<&'a Shared<FunctionRef>>
     ensures { option_copied result ≡ function_in (seen value.now) }
 {
     match value {
-        Seen::Leaf(Leaf::Function(function)) => Some(function),
+        Seen::Leaf(LeafRef::Function(function)) => Some(function),
         _ => None,
     }
 }

@@ -31,10 +31,12 @@ impl FileRef {
 }
 
 /// An element of a depset. A label is its text.
+///
+/// A string is kept as a key, so that a listing can lend it as a value.
 #[derive(PartialEq, Eq, Hash, Drop)]
 pub enum Element {
     /// A string.
-    Text(Text),
+    Text(TextKey),
     /// A whole number of 64 bits, signed.
     Number(i64),
     /// A bool.
@@ -65,7 +67,7 @@ impl Element {
         ensures { IfOk result (λ e. e ≡ self.now) }
     {
         match self {
-            Element::Text(text) => Ok(Element::Text(text.share()?)),
+            Element::Text(key) => Ok(Element::Text(TextKey::new(key.text().share()?))),
             Element::Number(number) => Ok(Element::Number(*number)),
             Element::Truth(truth) => Ok(Element::Truth(*truth)),
             Element::Label(text) => Ok(Element::Label(text.share()?)),

@@ -1,4 +1,5 @@
 //! Calls of what isn't written in Starlark.
+ghost use Rattle.leaves.specs.Lent.{leaf_at};
 ghost use Rattle.std.specs.Prelude.{◌≡◌, Err, Some, None};
 ghost use Rattle.values.specs.Seeing.{item_value};
 ghost use Rattle.leaves.specs.declared.leaf.Leaf.{Leaf as Plain};
@@ -22,14 +23,14 @@ use operands::{Operand, owned};
 use operations::Arguments;
 use plain::Text;
 use std::mem::replace;
-use values::{Broken, BuiltIn, Item, Kind, Leaf, Value};
+use values::{Broken, BuiltIn, Item, Kind, LeafRef, Value};
 
 /// A call of what isn't written in Starlark: its values by position, of which the first is at the
 /// top, and those by name with their names. They are left where they were, in another order, so
 /// that their memory serves again.
 #[inline(always)]
 pub(crate) fn call<'a, L: Link<'a>, P: Place<'a>>(
-    world: &World<'_, L, P>,
+    world: &World<'a, L, P>,
     whole: &mut Whole<'a, P::Work>,
     callee: &Callee<'a>,
     items: &mut Stack<Operand<'a>>,
@@ -76,7 +77,7 @@ fn arguments<'a, 'v>(
 /// A call with arguments.
 #[inline(always)]
 fn call_with<'a, L: Link<'a>, P: Place<'a>>(
-    world: &World<'_, L, P>,
+    world: &World<'a, L, P>,
     whole: &mut Whole<'a, P::Work>,
     callee: &Callee<'a>,
     arguments: &Arguments<'_, 'a>,
@@ -111,18 +112,18 @@ fn call_value<'a, L: Link<'a>, P: Place<'a>>(
 fn call_leaf<'a, L: Link<'a>, P: Place<'a>>(
     world: &World<'_, L, P>,
     whole: &mut Whole<'a, P::Work>,
-    leaf: &Leaf,
+    leaf: LeafRef<'_>,
     arguments: &Arguments<'_, 'a>,
 ) -> Result<Value, Broken>
     ensures { Says (leaf_call (L.linked world.now.linked.now) (P.place world.now.place.now)
-        leaf.now (given arguments.now) whole.old) result whole.new }
+        (leaf_at leaf.entry) (given arguments.now) whole.old) result whole.new }
 {
     match leaf {
-        Leaf::BuiltIn(function) => call_built_in(world, whole, *function, arguments),
-        Leaf::Provider(provider) => {
+        LeafRef::BuiltIn(function) => call_built_in(world, whole, function, arguments),
+        LeafRef::Provider(provider) => {
             calls::call_provider(world.alloc, &mut whole.state, provider, arguments)
         }
-        Leaf::Rule(_) => world.place.call(world.alloc, whole, leaf, arguments),
+        LeafRef::Rule(_) => world.place.call(world.alloc, whole, leaf, arguments),
         _ => Err(Broken::Kind(Kind::Wrong)),
     }
 }
@@ -141,16 +142,28 @@ fn call_built_in<'a, L: Link<'a>, P: Place<'a>>(
 {
     match calls::call_built_in(world.alloc, &mut whole.state, function, arguments) {
         Some(answer) => answer,
-        None => {
-            let leaf = Leaf::BuiltIn(function);
-            world.place.call(world.alloc, whole, &leaf, arguments)
-        }
+        None => call_at_place(world, whole, function, arguments),
     }
+}
+
+/// A call of a built-in function that the language leaves to the place.
+fn call_at_place<'a, L: Link<'a>, P: Place<'a>>(
+    world: &World<'_, L, P>,
+    whole: &mut Whole<'a, P::Work>,
+    function: BuiltIn,
+    arguments: &Arguments<'_, 'a>,
+) -> Result<Value, Broken>
+    ensures { Says ((P.place world.now.place.now).call (Plain.BuiltIn function)
+        (given arguments.now) whole.old) result whole.new }
+{
+    world
+        .place
+        .call(world.alloc, whole, LeafRef::BuiltIn(function), arguments)
 }
 
 /// A call of a method of a value.
 fn call_method<'a, L: Link<'a>, P: Place<'a>>(
-    world: &World<'_, L, P>,
+    world: &World<'a, L, P>,
     whole: &mut Whole<'a, P::Work>,
     value: &Operand<'a>,
     name: &FieldName,
@@ -162,7 +175,14 @@ fn call_method<'a, L: Link<'a>, P: Place<'a>>(
 {
     match method_named(&whole.state.heap.see_item(value.item()), name) {
         Some(method) => {
-            calls::call_method(world.alloc, &mut whole.state, method, value, arguments)
+            calls::call_method(
+                world.alloc,
+                world.kept,
+                &mut whole.state,
+                method,
+                value,
+                arguments,
+            )
         }
         None => owned(call_placed(world, whole, value.item(), name, arguments)),
     }

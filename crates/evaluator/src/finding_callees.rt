@@ -1,4 +1,5 @@
 //! What is called where a name of a value is called.
+ghost use Rattle.leaves.specs.Lent.{leaf_at};
 ghost use Rattle.std.specs.Prelude.{Ok, Err, Some, None};
 ghost use Rattle.language.specs.Language.{of_place, find_of};
 ghost use Rattle.frames.specs.Answers.{SaysAs, callee_seen};
@@ -11,7 +12,7 @@ use frames::Callee;
 use language::{Link, Place, Whole};
 use language_calls::of_place;
 use operands::Operand;
-use values::{Broken, Leaf};
+use values::{Broken, LeafRef};
 
 /// What `owner.name` is where it is called: of a target or an object its place's. The owner of a
 /// method is moved, and its name lies in the code.
@@ -53,12 +54,12 @@ fn found_at_place<'a, L: Link<'a>, P: Place<'a>>(
     world: &World<'_, L, P>,
     whole: &Whole<'a, P::Work>,
     _owner: &Operand<'a>,
-    leaf: &Leaf,
+    leaf: LeafRef<'_>,
     name: &FieldName,
 ) -> Result<Option<Operand<'a>>, Broken>
     ensures { SaysAs (callee_found _owner.now name.now)
         (find_of (L.linked world.now.linked.now) (P.place world.now.place.now)
-        _owner.now name.now (Some leaf.now) whole.now) result whole.now }
+        _owner.now name.now (Some (leaf_at leaf.entry)) whole.now) result whole.now }
 {
     if world.place.has_method(leaf, name) {
         return Ok(None);

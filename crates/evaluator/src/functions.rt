@@ -9,7 +9,7 @@ ghost use Rattle.frames.specs.Answers.{id_seen};
 use frames::FunctionId;
 use language_calls::leaf_of;
 use std::alloc::AllocError;
-use values::{Item, Key, Leaf, MadeId, Value};
+use values::{Item, Key, LeafRef, MadeId, Value};
 
 /// A number that a file writes out. One from 2^63 on, which no text that is read has, is answered
 /// as want of memory.
@@ -48,7 +48,7 @@ pub(crate) fn function_of(value: Item<'_>) -> Option<FunctionId>
         ≡ option_map function_id (function_of (item_value value.entry)) }
 {
     match leaf_of(value) {
-        Some(Leaf::Function(function)) => Some(function_id(function.get().id)),
+        Some(LeafRef::Function(function)) => Some(function_id(function.get().id)),
         _ => None,
     }
 }

@@ -12,8 +12,8 @@ use heap::Heap;
 use operands::Operand;
 use std::alloc::AllocError;
 use values::{
-    Branch, Group, GroupIter, HeldEntries, HeldItems, Item, Key, Seen, Table, TableIter, Value,
-    Walked,
+    Branch, Entries, Group, GroupIter, HeldEntries, HeldItems, Item, Key, Seen, Table, TableIter,
+    Value, Walked,
 };
 
 /// The items that a walk has left. Of a value of this evaluation it holds a share, and copies
@@ -148,7 +148,6 @@ fn item_at<'b>(items: Group<'b, '_>, place: usize) -> Option<Item<'b>>
 }
 
 /// The key at a place, None from the end on.
-#[inline(always)]
 fn key_at<'b>(entries: Table<'b, '_>, place: usize) -> Option<&'b Key>
     ensures { MatchOption result (drop place (table_keys entries.entry) ≡ []) (λ key.
         (drop place (table_keys entries.entry)
@@ -161,6 +160,20 @@ fn key_at<'b>(entries: Table<'b, '_>, place: usize) -> Option<&'b Key>
     match entries.at(place) {
         Some((key, _)) => Some(key),
         None => None,
+    }
+}
+
+/// The key of a dict of the heap at a place, None from the end on.
+#[inline(always)]
+fn held_key<'a>(entries: &Entries<'a>, place: usize) -> Result<Option<Operand<'a>>, AllocError>
+    ensures { IfOk result (λ next. MatchOption next (drop place (keys_as_values entries.now) ≡ [])
+        (λ key. (drop place (keys_as_values entries.now)
+        ≡ key ∷ drop (place + 1) (keys_as_values entries.now)) × (place + 1 < 2 ^ 64))) }
+{
+    if place < entries.len() {
+        Ok(Some(entries.key_at(place)?))
+    } else {
+        Ok(None)
     }
 }
 
@@ -189,11 +202,10 @@ impl<'a> HeldKeysLeft<'a> {
         ensures { IfOk result (λ next. Gives (held_keys_seen self.old) next
             (held_keys_seen self.new)) }
     {
-        match key_at(Table::Values(self.entries.get()), self.place) {
+        match held_key(self.entries.get(), self.place)? {
             Some(key) => {
-                let key = key.share()?;
                 self.place += 1;
-                Ok(Some(Operand::own(Value::Key(key))))
+                Ok(Some(key))
             }
             None => Ok(None),
         }

@@ -9,6 +9,7 @@ use crate::world::World;
 use grammar::{Operator, Sign};
 use language::{Link, Place, Whole};
 use language_calls::target_of;
+use operands::Operand;
 use values::{Broken, Item, Key, Value};
 
 /// An operator between two values, but `and` and `or`.
@@ -17,14 +18,14 @@ pub(crate) fn binary<'a, L: Link<'a>, P: Place<'a>>(
     world: &World<'_, L, P>,
     whole: &mut Whole<'a, P::Work>,
     operator: Operator,
-    left: Item<'_>,
-    right: Item<'_>,
+    left: &Operand<'a>,
+    right: &Operand<'a>,
 ) -> Result<Value, Broken>
     ensures { Says (with_target (L.linked world.now.linked.now) (P.place world.now.place.now)
-        (operator_seen operator) (item_value left.entry) (item_value right.entry)
-        (target_of (item_value right.entry)) whole.old) result whole.new }
+        (operator_seen operator) left.now right.now (target_of right.now) whole.old) result
+        whole.new }
 {
-    match target_of(right) {
+    match target_of(right.item()) {
         Some(target) => binary_with(world, whole, operator, left, right, target),
         None => language_calls::binary(world.alloc, &mut whole.state, operator, left, right),
     }
@@ -35,21 +36,20 @@ fn binary_with<'a, L: Link<'a>, P: Place<'a>>(
     world: &World<'_, L, P>,
     whole: &mut Whole<'a, P::Work>,
     operator: Operator,
-    left: Item<'_>,
-    right: Item<'_>,
+    left: &Operand<'a>,
+    right: &Operand<'a>,
     target: usize,
 ) -> Result<Value, Broken>
     ensures { Says (with_target (L.linked world.now.linked.now) (P.place world.now.place.now)
-        (operator_seen operator) (item_value left.entry) (item_value right.entry) (Some target)
-        whole.old) result whole.new }
+        (operator_seen operator) left.now right.now (Some target) whole.old) result whole.new }
 {
     match operator {
         Operator::In => {
-            let offered = world.place.offers(whole, target, left)?;
+            let offered = world.place.offers(whole, target, left.item())?;
             Ok(Value::Key(Key::Truth(offered)))
         }
         Operator::NotIn => {
-            let offered = world.place.offers(whole, target, left)?;
+            let offered = world.place.offers(whole, target, left.item())?;
             Ok(Value::Key(Key::Truth(!offered)))
         }
         _ => language_calls::binary(world.alloc, &mut whole.state, operator, left, right),

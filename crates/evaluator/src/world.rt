@@ -4,6 +4,7 @@ ghost use Rattle.evaluator.specs.Walked.{left_seen};
 
 use crate::left::Left;
 use crate::{binding, calling, finding_callees, functions, looks, operating, turns};
+use arena::Arena;
 use field_names::FieldName;
 use frames::{Callee, Defaults, FunctionId, Operate, Refusal, Stack};
 use grammar::{Operator, Sign};
@@ -14,7 +15,7 @@ use operations::DefaultInfo;
 use plain::Text;
 use program_tree::Predeclared;
 use std::alloc::{AllocError, Global};
-use values::{Broken, Item, Items, Kind, Leaf, Value};
+use values::{Broken, Depset, Item, Items, Kind, Leaf, Value};
 
 /// The linked files and the place of an evaluation. Its operations are those of the language.
 #[derive(Drop)]
@@ -27,6 +28,9 @@ pub struct World<'a, L, P> {
     pub place: &'a P,
     /// The provider `DefaultInfo`.
     pub default_info: &'a DefaultInfo,
+    /// The depsets that were listed and aren't lent: they are kept to the end of the evaluation, so
+    /// that they lend what their lists hold.
+    pub kept: &'a Arena<Depset>,
 }
 
 impl<'a, L: Link<'a>, P: Place<'a>> Operate<'a> for World<'a, L, P> {
@@ -85,8 +89,8 @@ impl<'a, L: Link<'a>, P: Place<'a>> Operate<'a> for World<'a, L, P> {
         &self,
         state: &mut Whole<'a, P::Work>,
         operator: Operator,
-        left: Item<'_>,
-        right: Item<'_>,
+        left: &Operand<'a>,
+        right: &Operand<'a>,
     ) -> Result<Value, Broken> {
         operating::binary(self, state, operator, left, right)
     }
@@ -105,7 +109,7 @@ impl<'a, L: Link<'a>, P: Place<'a>> Operate<'a> for World<'a, L, P> {
         &self,
         state: &mut Whole<'a, P::Work>,
         old: Operand<'a>,
-        more: Item<'_>,
+        more: &Operand<'a>,
     ) -> Result<Value, Broken> {
         state::add_in_place(self.alloc, &mut state.state, old, more)
     }
@@ -134,7 +138,7 @@ impl<'a, L: Link<'a>, P: Place<'a>> Operate<'a> for World<'a, L, P> {
         &self,
         state: &mut Whole<'a, P::Work>,
         base: Item<'_>,
-        index: Item<'_>,
+        index: &Operand<'a>,
         value: Operand<'a>,
     ) -> Result<(), Broken> {
         let base = base.to_value()?;
@@ -167,7 +171,7 @@ impl<'a, L: Link<'a>, P: Place<'a>> Operate<'a> for World<'a, L, P> {
         &self,
         state: &mut Whole<'a, P::Work>,
         dict: Item<'_>,
-        key: Item<'_>,
+        key: &Operand<'a>,
         value: Operand<'a>,
     ) -> Result<(), Broken> {
         let dict = dict.to_value()?;
@@ -178,7 +182,7 @@ impl<'a, L: Link<'a>, P: Place<'a>> Operate<'a> for World<'a, L, P> {
         &self,
         state: &mut Whole<'a, P::Work>,
         dict: Item<'_>,
-        key: Item<'_>,
+        key: &Operand<'a>,
         value: Operand<'a>,
     ) -> Result<(), Broken> {
         let dict = dict.to_value()?;

@@ -17,7 +17,7 @@ use plain::Shared;
 use rule_calls::{PackageTargets, call_rule};
 use std::alloc::Global;
 use targets::Rule;
-use values::{Broken, BuiltIn, Item, Kind, Leaf, MadeId, Value};
+use values::{Broken, BuiltIn, Item, Kind, Leaf, LeafRef, MadeId, Value};
 
 /// The rules of the modules that are linked.
 pub trait Rules {
@@ -49,17 +49,17 @@ impl<'a, 'p, R: Rules> Place<'p> for BuildPlace<'a, R> {
         &self,
         alloc: Global,
         whole: &mut Whole<PackageTargets>,
-        callee: &Leaf,
+        callee: LeafRef<'_>,
         arguments: &Arguments<'_, '_>,
     ) -> Result<Value, Broken> {
         match callee {
-            Leaf::BuiltIn(function) => refuse_call(*function),
-            Leaf::Rule(rule) => call(alloc, self.linked, whole, rule.get().id, arguments),
+            LeafRef::BuiltIn(function) => refuse_call(function),
+            LeafRef::Rule(rule) => call(alloc, self.linked, whole, rule.get().id, arguments),
             _ => Err(Broken::Kind(Kind::Wrong)),
         }
     }
 
-    fn has_method(&self, owner: &Leaf, name: &FieldName) -> bool {
+    fn has_method(&self, owner: LeafRef<'_>, name: &FieldName) -> bool {
         has_method(owner, name)
     }
 
@@ -67,7 +67,7 @@ impl<'a, 'p, R: Rules> Place<'p> for BuildPlace<'a, R> {
         &self,
         _alloc: Global,
         _whole: &mut Whole<PackageTargets>,
-        owner: &Leaf,
+        owner: LeafRef<'_>,
         name: &FieldName,
         _arguments: &Arguments<'_, '_>,
     ) -> Result<Value, Broken> {
@@ -81,7 +81,7 @@ impl<'a, 'p, R: Rules> Place<'p> for BuildPlace<'a, R> {
         &self,
         _alloc: Global,
         _whole: &Whole<PackageTargets>,
-        _owner: &Leaf,
+        _owner: LeafRef<'_>,
         _name: &FieldName,
     ) -> Result<Operand<'p>, Broken> {
         Err(Broken::Kind(Kind::Name))

@@ -12,7 +12,7 @@ use operands::Operand;
 use operations::Arguments;
 use std::alloc::Global;
 use targets::Declarations;
-use values::{AttributeKind, Broken, BuiltIn, Item, Kind, Leaf, Value};
+use values::{AttributeKind, Broken, BuiltIn, Item, Kind, LeafRef, Value};
 
 /// The place of a module, beside those that were evaluated before: calls of `provider`, `rule` and
 /// the methods of `attr` declare; calls of rules are `place`.
@@ -35,17 +35,17 @@ impl<'a, 'p, A: Attributes> Place<'p> for ModulePlace<'a, A> {
         &self,
         alloc: Global,
         whole: &mut Whole<Declarations>,
-        callee: &Leaf,
+        callee: LeafRef<'_>,
         arguments: &Arguments<'_, '_>,
     ) -> Result<Value, Broken> {
         match callee {
-            Leaf::BuiltIn(function) => call(alloc, self.linked, whole, *function, arguments),
-            Leaf::Rule(_) => Err(Broken::Kind(Kind::Place)),
+            LeafRef::BuiltIn(function) => call(alloc, self.linked, whole, function, arguments),
+            LeafRef::Rule(_) => Err(Broken::Kind(Kind::Place)),
             _ => Err(Broken::Kind(Kind::Wrong)),
         }
     }
 
-    fn has_method(&self, owner: &Leaf, name: &FieldName) -> bool {
+    fn has_method(&self, owner: LeafRef<'_>, name: &FieldName) -> bool {
         has_method(owner, name)
     }
 
@@ -53,7 +53,7 @@ impl<'a, 'p, A: Attributes> Place<'p> for ModulePlace<'a, A> {
         &self,
         alloc: Global,
         whole: &mut Whole<Declarations>,
-        owner: &Leaf,
+        owner: LeafRef<'_>,
         name: &FieldName,
         arguments: &Arguments<'_, '_>,
     ) -> Result<Value, Broken> {
@@ -67,7 +67,7 @@ impl<'a, 'p, A: Attributes> Place<'p> for ModulePlace<'a, A> {
         &self,
         _alloc: Global,
         _whole: &Whole<Declarations>,
-        _owner: &Leaf,
+        _owner: LeafRef<'_>,
         _name: &FieldName,
     ) -> Result<Operand<'p>, Broken> {
         Err(Broken::Kind(Kind::Name))

@@ -1,4 +1,5 @@
 //! Fields.
+ghost use Rattle.leaves.specs.Lent.{leaf_at};
 ghost use Rattle.std.specs.Prelude.{◌≡◌, Ok, Err, Some, None, IfOk};
 ghost use Rattle.values.specs.Seeing.{seen};
 ghost use Rattle.values.specs.Shape.{shape};
@@ -12,7 +13,7 @@ use operands::Operand;
 use operations::State;
 use plain::Text;
 use std::alloc::{AllocError, Global};
-use values::{Broken, FileRef, Item, Key, Kind, Leaf, Seen, Value};
+use values::{Broken, FileRef, Item, Key, Kind, LeafRef, Seen, Value};
 
 /// `value.name` of an instance, a label or a File. What is lent in an instance is lent, and so is
 /// the path of a File that is.
@@ -68,7 +69,7 @@ fn lent_field<'a>(
             *slots,
             name.text(),
         )?),
-        Seen::Leaf(leaf) => leaf_field(alloc, leaf, name),
+        Seen::Leaf(leaf) => leaf_field(alloc, *leaf, name),
         _ => Ok(None),
     }
 }
@@ -76,10 +77,10 @@ fn lent_field<'a>(
 /// The field of a label or a File of one's own.
 fn own_field<'a>(
     alloc: Global,
-    leaf: &Leaf,
+    leaf: LeafRef<'_>,
     name: &FieldName,
 ) -> Result<Option<Operand<'a>>, Broken>
-    ensures { Gives (Ok (leaf_field leaf.now name.now)) result }
+    ensures { Gives (Ok (leaf_field (leaf_at leaf.entry) name.now)) result }
 {
     match leaf_field(alloc, leaf, name)? {
         Some(value) => Ok(Some(value.into_own()?)),
@@ -90,14 +91,14 @@ fn own_field<'a>(
 /// The field of a label or a File.
 fn leaf_field<'a>(
     alloc: Global,
-    leaf: &'a Leaf,
+    leaf: LeafRef<'a>,
     name: &FieldName,
 ) -> Result<Option<Operand<'a>>, Broken>
-    ensures { Gives (Ok (leaf_field leaf.now name.now)) result }
+    ensures { Gives (Ok (leaf_field (leaf_at leaf.entry) name.now)) result }
 {
     match leaf {
-        Leaf::Label(label) => label_field(alloc, label, name),
-        Leaf::File(file) => Ok(file_field(alloc, file.get(), name)?),
+        LeafRef::Label(label) => label_field(alloc, label, name),
+        LeafRef::File(file) => Ok(file_field(alloc, file.get(), name)?),
         _ => Ok(None),
     }
 }

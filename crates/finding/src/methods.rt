@@ -6,7 +6,7 @@ ghost use Rattle.operations.specs.Fields.{depset_method};
 
 use field_names::{FieldName, KnownName};
 use operations::Method;
-use values::{Key, Leaf, Seen};
+use values::{Key, LeafRef, Seen};
 
 /// The method of this name that a value has.
 pub fn method_named(value: &Seen<'_, '_>, name: &FieldName) -> Option<Method>
@@ -16,7 +16,7 @@ pub fn method_named(value: &Seen<'_, '_>, name: &FieldName) -> Option<Method>
         Seen::List(_) => list_method(name),
         Seen::Dict(_) => dict_method(name),
         Seen::Key(Key::Text(_)) => string_method(name),
-        Seen::Leaf(Leaf::Depset(_)) => depset_method(name),
+        Seen::Leaf(LeafRef::Depset(_)) => depset_method(name),
         _ => None,
     }
 }

@@ -135,7 +135,7 @@ pub fn enter<'a, W: Operate<'a>>(
     let Some(dict) = f.values.pop() else {
         return Ok(Step::Stuck);
     };
-    if let Err(broken) = world.enter(state, dict.item(), key.item(), value) {
+    if let Err(broken) = world.enter(state, dict.item(), &key, value) {
         return Err(stop_at(broken, f.function.file, line));
     }
     put(f, dict)
@@ -166,7 +166,7 @@ pub fn keep<'a, W: Operate<'a>>(
     let Some(dict) = f.values.pop() else {
         return Ok(Step::Stuck);
     };
-    if let Err(broken) = world.keep(state, dict.item(), key.item(), value) {
+    if let Err(broken) = world.keep(state, dict.item(), &key, value) {
         return Err(stop_at(broken, f.function.file, line));
     }
     put(f, dict)

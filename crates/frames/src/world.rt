@@ -86,11 +86,11 @@ pub trait Operate<'a> {
         &self,
         state: &mut Self::State,
         operator: Operator,
-        left: Item<'_>,
-        right: Item<'_>,
+        left: &Operand<'a>,
+        right: &Operand<'a>,
     ) -> Result<Value, Broken>
-        ensures { Says ((operations self.now).binary (operator_seen operator)
-            (item_value left.entry) (item_value right.entry) state.old) result state.new };
+        ensures { Says ((operations self.now).binary (operator_seen operator) left.now right.now
+            state.old) result state.new };
 
     /// `not` or `-`.
     fn sign(&self, state: &mut Self::State, sign: Sign, value: Item<'_>) -> Result<Value, Broken>
@@ -102,10 +102,10 @@ pub trait Operate<'a> {
         &self,
         state: &mut Self::State,
         old: Operand<'a>,
-        more: Item<'_>,
+        more: &Operand<'a>,
     ) -> Result<Value, Broken>
-        ensures { Says ((operations self.now).increase old.entry (item_value more.entry) state.old)
-            result state.new };
+        ensures { Says ((operations self.now).increase old.entry more.now state.old) result
+            state.new };
 
     /// `x.NAME`: of what is lent it may be lent.
     fn field(
@@ -132,11 +132,11 @@ pub trait Operate<'a> {
         &self,
         state: &mut Self::State,
         base: Item<'_>,
-        index: Item<'_>,
+        index: &Operand<'a>,
         value: Operand<'a>,
     ) -> Result<(), Broken>
-        ensures { Says ((operations self.now).set_item (item_value base.entry)
-            (item_value index.entry) value.entry state.old) result state.new };
+        ensures { Says ((operations self.now).set_item (item_value base.entry) index.now
+            value.entry state.old) result state.new };
 
     /// A new list of these items.
     fn new_list(&self, state: &mut Self::State, items: Items<'a>) -> Result<Value, Broken>
@@ -165,22 +165,22 @@ pub trait Operate<'a> {
         &self,
         state: &mut Self::State,
         dict: Item<'_>,
-        key: Item<'_>,
+        key: &Operand<'a>,
         value: Operand<'a>,
     ) -> Result<(), Broken>
-        ensures { Says ((operations self.now).enter (item_value dict.entry) (item_value key.entry)
-            value.entry state.old) result state.new };
+        ensures { Says ((operations self.now).enter (item_value dict.entry) key.now value.entry
+            state.old) result state.new };
 
     /// An entry more of a comprehension's dict, where the later value of a key stays.
     fn keep(
         &self,
         state: &mut Self::State,
         dict: Item<'_>,
-        key: Item<'_>,
+        key: &Operand<'a>,
         value: Operand<'a>,
     ) -> Result<(), Broken>
-        ensures { Says ((operations self.now).keep (item_value dict.entry) (item_value key.entry)
-            value.entry state.old) result state.new };
+        ensures { Says ((operations self.now).keep (item_value dict.entry) key.now value.entry
+            state.old) result state.new };
 
     /// A walk over a value begins, and gives the items that it goes over.
     fn begin(&self, state: &mut Self::State, walked: &Operand<'a>) -> Result<Self::Walk, Broken>

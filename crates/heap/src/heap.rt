@@ -21,8 +21,8 @@ use plain::{Shared, push_last};
 use std::alloc::{AllocError, Global};
 use std::marker::Model;
 use values::{
-    Broken, Cell, Entries, Fields, HeldEntries, HeldItems, Items, Key, Kind, LARGEST, Operand,
-    Provider, Value, Walked,
+    Broken, Cell, Entries, Fields, HeldEntries, HeldItems, Items, Key, Kind, LARGEST, MaybeLent,
+    Operand, Provider, Value, Walked,
 };
 
 /// Numbered cells. To a contract it is the list of them.
@@ -115,7 +115,8 @@ impl<'a> Heap<'a> {
     /// The heap stays as it was.
     pub fn new_dict(&mut self, entries: Entries<'a>) -> Result<Value, Broken>
         ensures { MatchResult result
-            (λ v. made self.old (Cell.Dict entries.entry 0) (length entries.entry) ≡ Ok (v, self.new))
+            (λ v. made self.old (Cell.Dict entries.entry 0) (length entries.entry)
+            ≡ Ok (v, self.new))
             (λ e. (self.new ≡ self.old)
             × FaultOr (made self.old (Cell.Dict entries.entry 0) (length entries.entry)) e) }
     {
@@ -221,10 +222,16 @@ impl<'a> Heap<'a> {
     /// `type` where it is no dict, `frozen` where it is frozen, `iterating` where it is walked, or
     /// `large` where the key is new and the dict has as many entries as one may have; `NoMemory`
     /// where memory was refused. The heap stays as it was.
-    pub fn set_key(&mut self, dict: &Value, key: Key, item: Operand<'a>) -> Result<(), Broken>
-        ensures { MatchResult result (λ _. dict_changed (keyed key item.entry) self.old dict.now
-            ≡ Ok self.new) (λ e. (self.new ≡ self.old)
-            × FaultOr (dict_changed (keyed key item.entry) self.old dict.now) e) }
+    pub fn set_key(
+        &mut self,
+        dict: &Value,
+        key: MaybeLent<'a, Key>,
+        item: Operand<'a>,
+    ) -> Result<(), Broken>
+        ensures { MatchResult result
+            (λ _. dict_changed (keyed key.entry item.entry) self.old dict.now ≡ Ok self.new)
+            (λ e. (self.new ≡ self.old)
+            × FaultOr (dict_changed (keyed key.entry item.entry) self.old dict.now) e) }
     {
         let number = self.dict_cell(dict)?;
         let cell = &mut self.cells[number];
@@ -400,9 +407,9 @@ fn set_in<'a>(cell: &mut Cell<'a>, index: i64, item: Operand<'a>) -> Result<(), 
 }
 
 /// Gives a key of the dict of a cell the value.
-fn put_in<'a>(cell: &mut Cell<'a>, key: Key, item: Operand<'a>) -> Result<(), Broken>
-    ensures { MatchResult result (λ _. keyed key item.entry cell.old ≡ Ok cell.new)
-        (λ e. (cell.new ≡ cell.old) × FaultOr (keyed key item.entry cell.old) e) }
+fn put_in<'a>(cell: &mut Cell<'a>, key: MaybeLent<'a, Key>, item: Operand<'a>) -> Result<(), Broken>
+    ensures { MatchResult result (λ _. keyed key.entry item.entry cell.old ≡ Ok cell.new)
+        (λ e. (cell.new ≡ cell.old) × FaultOr (keyed key.entry item.entry cell.old) e) }
 {
     match cell {
         Cell::Dict(_, walks) if *walks > 0 => Err(Broken::Kind(Kind::Iterating)),
@@ -452,12 +459,17 @@ fn set<'a>(items: &mut HeldItems<'a>, index: i64, item: Operand<'a>) -> Result<(
 }
 
 /// Gives a key the value, unless it would be one more than a dict may have.
-fn put<'a>(entries: &mut HeldEntries<'a>, key: Key, item: Operand<'a>) -> Result<(), Broken>
-    ensures { MatchResult result (λ _. keyed_entries key item.entry entries.old ≡ Ok entries.new)
+fn put<'a>(
+    entries: &mut HeldEntries<'a>,
+    key: MaybeLent<'a, Key>,
+    item: Operand<'a>,
+) -> Result<(), Broken>
+    ensures { MatchResult result
+        (λ _. keyed_entries key.entry item.entry entries.old ≡ Ok entries.new)
         (λ e. (entries.new ≡ entries.old)
-        × FaultOr (keyed_entries key item.entry entries.old) e) }
+        × FaultOr (keyed_entries key.entry item.entry entries.old) e) }
 {
-    if entries.get().len() >= LARGEST && !entries.get().has(&key) {
+    if entries.get().len() >= LARGEST && !entries.get().has(key.get()) {
         return Err(Broken::Kind(Kind::Large));
     }
     entries.put(key, item)?;

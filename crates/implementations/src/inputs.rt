@@ -1,4 +1,5 @@
 //! What else an action is given: inputs, words and a mnemonic.
+ghost use Rattle.leaves.specs.Lent.{leaf_at};
 ghost use Rattle.std.specs.Prelude.{◌≡◌, Ok, Err, Some, option_copied};
 ghost use Rattle.std.specs.Char.{is_ascii_alphabetic};
 ghost use Rattle.std.specs.List.{list_all};
@@ -20,7 +21,7 @@ use operands::Operand;
 use plain::Text;
 use state::{sequence_of, text_of};
 use std::alloc::Global;
-use values::{Broken, Group, Kind, Leaf, Seen};
+use values::{Broken, Group, Kind, LeafRef, Seen};
 
 /// The inputs of an argument: a sequence of Files, or a depset that is empty or of Files; no Files,
 /// where there is none.
@@ -51,11 +52,11 @@ fn file_inputs<'b>(alloc: Global, heap: &'b Heap, items: Group<'b, '_>) -> Resul
 }
 
 /// A depset that is empty or of Files, or `type`.
-fn leaf_inputs(leaf: &Leaf) -> Result<Inputs, Broken>
-    ensures { Gives (leaf_inputs leaf.now) result }
+fn leaf_inputs(leaf: LeafRef<'_>) -> Result<Inputs, Broken>
+    ensures { Gives (leaf_inputs (leaf_at leaf.entry)) result }
 {
     match leaf {
-        Leaf::Depset(depset) => depset_inputs(depset),
+        LeafRef::Depset(depset) => depset_inputs(depset),
         _ => Err(Broken::Kind(Kind::Wrong)),
     }
 }

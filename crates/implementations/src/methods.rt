@@ -1,4 +1,5 @@
 //! Which calls an implementation may make, and which methods its objects have.
+ghost use Rattle.leaves.specs.Lent.{leaf_at};
 ghost use Rattle.std.specs.Prelude.{◌≡◌};
 ghost use Rattle.contexts.specs.Actions.{method_named};
 ghost use Rattle.implementations.specs.Implementations.{refused, attr_refused, has_method};
@@ -6,15 +7,15 @@ ghost use Rattle.implementations.specs.Implementations.{refused, attr_refused, h
 use contexts::ActionMethod;
 use field_names::{FieldName, KnownName};
 use language::kind_named;
-use values::{BuiltIn, Kind, Leaf, Object};
+use values::{BuiltIn, Kind, LeafRef, Object};
 
 /// The fault of a call that an implementation may not make: `place` for `provider`, `rule` and
 /// rules, else `type`.
-pub(crate) fn refused(callee: &Leaf) -> Kind
-    ensures { result ≡ refused callee.now }
+pub(crate) fn refused(callee: LeafRef<'_>) -> Kind
+    ensures { result ≡ refused (leaf_at callee.entry) }
 {
     match callee {
-        Leaf::BuiltIn(BuiltIn::Provider | BuiltIn::Rule) | Leaf::Rule(_) => Kind::Place,
+        LeafRef::BuiltIn(BuiltIn::Provider | BuiltIn::Rule) | LeafRef::Rule(_) => Kind::Place,
         _ => Kind::Wrong,
     }
 }
@@ -48,12 +49,12 @@ pub(crate) fn action_named(name: &FieldName) -> Option<ActionMethod>
 }
 
 /// Whether a value has a method of this name: `attr` and `ctx.actions` alone have some.
-pub(crate) fn has_method(owner: &Leaf, name: &FieldName) -> bool
-    ensures { result ≡ has_method owner.now name.now }
+pub(crate) fn has_method(owner: LeafRef<'_>, name: &FieldName) -> bool
+    ensures { result ≡ has_method (leaf_at owner.entry) name.now }
 {
     match owner {
-        Leaf::Object(Object::Attr) => kind_named(name).is_some(),
-        Leaf::Object(Object::ContextActions) => action_named(name).is_some(),
+        LeafRef::Object(Object::Attr) => kind_named(name).is_some(),
+        LeafRef::Object(Object::ContextActions) => action_named(name).is_some(),
         _ => false,
     }
 }

@@ -13,14 +13,14 @@ use heap::Heap;
 use plain::Shared;
 use state::text_of;
 use std::alloc::Global;
-use values::{Broken, Group, Kind, Leaf, Seen};
+use values::{Broken, Group, Kind, LeafRef, Seen};
 
 /// The File that a value is, if it is one.
 pub(crate) fn file_of<'a>(value: &Seen<'a, '_>) -> Option<&'a Shared<FileRef>>
     ensures { option_copied result ≡ file_in (seen value.now) }
 {
     match value {
-        Seen::Leaf(Leaf::File(file)) => Some(file),
+        Seen::Leaf(LeafRef::File(file)) => Some(file),
         _ => None,
     }
 }

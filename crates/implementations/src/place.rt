@@ -1,4 +1,5 @@
 //! The place of an implementation.
+ghost use Rattle.leaves.specs.Lent.{leaf_at};
 ghost use Rattle.std.specs.Prelude.{Err, Some};
 ghost use Rattle.operations.specs.Arguments.{given};
 ghost use Rattle.ticks.specs.Ticking.{Says};
@@ -14,7 +15,7 @@ use language::{Place, Whole, Works};
 use operands::Operand;
 use operations::Arguments;
 use std::alloc::Global;
-use values::{Broken, Item, Kind, Leaf, Object, Value};
+use values::{Broken, Item, Kind, LeafRef, Object, Value};
 use workspace::Label;
 
 /// What the implementation of the target of a label sees: the target, and its dependencies with
@@ -42,13 +43,13 @@ impl<'a, 'b, I: FileLists> Place<'a> for ImplementationPlace<'a, 'b, I> {
         &self,
         _alloc: Global,
         _whole: &mut Whole<Work>,
-        callee: &Leaf,
+        callee: LeafRef<'_>,
         _arguments: &Arguments<'_, '_>,
     ) -> Result<Value, Broken> {
         Err(Broken::Kind(refused(callee)))
     }
 
-    fn has_method(&self, owner: &Leaf, name: &FieldName) -> bool {
+    fn has_method(&self, owner: LeafRef<'_>, name: &FieldName) -> bool {
         has_method(owner, name)
     }
 
@@ -56,7 +57,7 @@ impl<'a, 'b, I: FileLists> Place<'a> for ImplementationPlace<'a, 'b, I> {
         &self,
         alloc: Global,
         whole: &mut Whole<Work>,
-        owner: &Leaf,
+        owner: LeafRef<'_>,
         name: &FieldName,
         arguments: &Arguments<'_, '_>,
     ) -> Result<Value, Broken> {
@@ -75,7 +76,7 @@ impl<'a, 'b, I: FileLists> Place<'a> for ImplementationPlace<'a, 'b, I> {
         &self,
         alloc: Global,
         _whole: &Whole<Work>,
-        owner: &Leaf,
+        owner: LeafRef<'_>,
         name: &FieldName,
     ) -> Result<Operand<'a>, Broken> {
         field(alloc, self.context, owner, name)
@@ -117,16 +118,16 @@ fn call_method(
     label: &Label,
     mnemonics: &Mnemonics,
     whole: &mut Whole<Work>,
-    owner: &Leaf,
+    owner: LeafRef<'_>,
     name: &FieldName,
     arguments: &Arguments<'_, '_>,
 ) -> Result<Value, Broken>
-    ensures { Says (call_method label.now owner.now name.now (given arguments.now) whole.old) result
-        whole.new }
+    ensures { Says (call_method label.now (leaf_at owner.entry) name.now (given arguments.now)
+        whole.old) result whole.new }
 {
     match owner {
-        Leaf::Object(Object::Attr) => Err(Broken::Kind(attr_refused(name))),
-        Leaf::Object(Object::ContextActions) => {
+        LeafRef::Object(Object::Attr) => Err(Broken::Kind(attr_refused(name))),
+        LeafRef::Object(Object::ContextActions) => {
             call_action(
                 alloc,
                 label,

@@ -6,7 +6,7 @@ ghost use Rattle.implementations.specs.Programs.{parameter, program_in};
 
 use plain::Text;
 use state::text_of;
-use values::{Key, Leaf, Seen};
+use values::{Key, LeafRef, Seen};
 
 /// What an action runs.
 #[derive(Clone, Copy, PartialEq, Eq, Debug)]
@@ -45,7 +45,7 @@ fn executable<'a>(value: &Seen<'a, '_>) -> Option<&'a Text>
 {
     match value {
         Seen::Key(Key::Text(text)) => Some(text),
-        Seen::Leaf(Leaf::File(file)) => Some(file.get().path.text()),
+        Seen::Leaf(LeafRef::File(file)) => Some(file.get().path.text()),
         _ => None,
     }
 }

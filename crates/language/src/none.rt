@@ -8,7 +8,7 @@ use operands::Operand;
 use operations::Arguments;
 use plain::Text;
 use std::alloc::{AllocError, Global};
-use values::{Broken, Item, Kind, Leaf, Value};
+use values::{Broken, Item, Kind, LeafRef, Value};
 
 /// No files are linked: no name is known, and no load gives anything.
 #[derive(Clone, Copy)]
@@ -51,13 +51,13 @@ impl<'a> Place<'a> for NoPlace {
         &self,
         _alloc: Global,
         _whole: &mut Whole<()>,
-        _callee: &Leaf,
+        _callee: LeafRef<'_>,
         _arguments: &Arguments<'_, '_>,
     ) -> Result<Value, Broken> {
         Err(Broken::Kind(Kind::Place))
     }
 
-    fn has_method(&self, _owner: &Leaf, _name: &FieldName) -> bool {
+    fn has_method(&self, _owner: LeafRef<'_>, _name: &FieldName) -> bool {
         false
     }
 
@@ -65,7 +65,7 @@ impl<'a> Place<'a> for NoPlace {
         &self,
         _alloc: Global,
         _whole: &mut Whole<()>,
-        _owner: &Leaf,
+        _owner: LeafRef<'_>,
         _name: &FieldName,
         _arguments: &Arguments<'_, '_>,
     ) -> Result<Value, Broken> {
@@ -76,7 +76,7 @@ impl<'a> Place<'a> for NoPlace {
         &self,
         _alloc: Global,
         _whole: &Whole<()>,
-        _owner: &Leaf,
+        _owner: LeafRef<'_>,
         _name: &FieldName,
     ) -> Result<Operand<'a>, Broken> {
         Err(Broken::Kind(Kind::Name))

@@ -1,4 +1,5 @@
 //! What only one place has.
+ghost use Rattle.leaves.specs.Lent.{leaf_at};
 ghost use Rattle.std.specs.Prelude.{◌≡◌};
 ghost use Rattle.values.specs.Seeing.{item_value};
 ghost use Rattle.operations.specs.Arguments.{given};
@@ -11,7 +12,7 @@ use field_names::FieldName;
 use operands::Operand;
 use operations::Arguments;
 use std::alloc::Global;
-use values::{Broken, Item, Leaf, Value};
+use values::{Broken, Item, LeafRef, Value};
 
 /// What has work of its own.
 pub trait Works {
@@ -32,37 +33,37 @@ pub trait Place<'a>: Works {
         &self,
         alloc: Global,
         whole: &mut Whole<Self::Work>,
-        callee: &Leaf,
+        callee: LeafRef<'_>,
         arguments: &Arguments<'_, '_>,
     ) -> Result<Value, Broken>
-        ensures { Says ((place self.now).call callee.now (given arguments.now) whole.old) result
-            whole.new };
+        ensures { Says ((place self.now).call (leaf_at callee.entry) (given arguments.now)
+            whole.old) result whole.new };
 
     /// Whether a target or an object has a method of this name.
-    fn has_method(&self, owner: &Leaf, name: &FieldName) -> bool
-        ensures { result ≡ (place self.now).has_method owner.now name.now };
+    fn has_method(&self, owner: LeafRef<'_>, name: &FieldName) -> bool
+        ensures { result ≡ (place self.now).has_method (leaf_at owner.entry) name.now };
 
     /// A call of a method of a target or an object.
     fn method(
         &self,
         alloc: Global,
         whole: &mut Whole<Self::Work>,
-        owner: &Leaf,
+        owner: LeafRef<'_>,
         name: &FieldName,
         arguments: &Arguments<'_, '_>,
     ) -> Result<Value, Broken>
-        ensures { Says ((place self.now).method owner.now name.now (given arguments.now) whole.old)
-            result whole.new };
+        ensures { Says ((place self.now).method (leaf_at owner.entry) name.now
+            (given arguments.now) whole.old) result whole.new };
 
     /// A field of a target or an object.
     fn field(
         &self,
         alloc: Global,
         whole: &Whole<Self::Work>,
-        owner: &Leaf,
+        owner: LeafRef<'_>,
         name: &FieldName,
     ) -> Result<Operand<'a>, Broken>
-        ensures { Gives ((place self.now).field owner.now name.now whole.now) result };
+        ensures { Gives ((place self.now).field (leaf_at owner.entry) name.now whole.now) result };
 
     /// `t[P]` of the target at a place among the dependencies.
     fn item(

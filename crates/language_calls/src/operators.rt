@@ -10,6 +10,7 @@ ghost use Rattle.language.specs.Language.{as_truth, as_opposite, binary_of};
 
 use grammar::Operator;
 use numbers::Comparison;
+use operands::Operand;
 use operations::{Arithmetic, State};
 use std::alloc::Global;
 use values::{Broken, Item, Key, Kind, Value};
@@ -21,30 +22,32 @@ use values::{Broken, Item, Key, Kind, Value};
 ///
 /// Those of the operator; `NoMemory` where memory was refused.
 #[inline(always)]
-pub fn binary(
+pub fn binary<'a>(
     alloc: Global,
-    state: &mut State,
+    state: &mut State<'a>,
     operator: Operator,
-    left: Item<'_>,
-    right: Item<'_>,
+    left: &Operand<'a>,
+    right: &Operand<'a>,
 ) -> Result<Value, Broken>
-    ensures { Does (binary_of (operator_seen operator) (item_value left.entry)
-        (item_value right.entry)) state.old result state.new }
+    ensures { Does (binary_of (operator_seen operator) left.now right.now) state.old result
+        state.new }
 {
+    let x = left.item();
+    let y = right.item();
     match operator {
-        Operator::Equal => equal(state, left, right),
-        Operator::NotEqual => not_equal(state, left, right),
-        Operator::Less => compared(state, Comparison::Below, left, right),
-        Operator::LessEqual => compared(state, Comparison::AtMost, left, right),
-        Operator::Greater => compared(state, Comparison::Above, left, right),
-        Operator::GreaterEqual => compared(state, Comparison::AtLeast, left, right),
-        Operator::In => within(state, left, right),
-        Operator::NotIn => not_within(state, left, right),
+        Operator::Equal => equal(state, x, y),
+        Operator::NotEqual => not_equal(state, x, y),
+        Operator::Less => compared(state, Comparison::Below, x, y),
+        Operator::LessEqual => compared(state, Comparison::AtMost, x, y),
+        Operator::Greater => compared(state, Comparison::Above, x, y),
+        Operator::GreaterEqual => compared(state, Comparison::AtLeast, x, y),
+        Operator::In => within(state, x, y),
+        Operator::NotIn => not_within(state, x, y),
         Operator::Add => state::plus(alloc, state, left, right),
-        Operator::Subtract => calculated(state, Arithmetic::Minus, left, right),
-        Operator::Multiply => calculated(state, Arithmetic::Times, left, right),
-        Operator::FloorDivide => calculated(state, Arithmetic::FloorDiv, left, right),
-        Operator::Remainder => calculated(state, Arithmetic::Modulo, left, right),
+        Operator::Subtract => calculated(state, Arithmetic::Minus, x, y),
+        Operator::Multiply => calculated(state, Arithmetic::Times, x, y),
+        Operator::FloorDivide => calculated(state, Arithmetic::FloorDiv, x, y),
+        Operator::Remainder => calculated(state, Arithmetic::Modulo, x, y),
         Operator::Or | Operator::And => Err(Broken::Kind(Kind::Wrong)),
     }
 }

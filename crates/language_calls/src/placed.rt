@@ -1,14 +1,15 @@
 //! Values that are leaves, and those that are asked of their place.
-ghost use Rattle.std.specs.Prelude.{◌≡◌, Some, None, option_copied};
+ghost use Rattle.std.specs.Prelude.{◌≡◌, Some, None, option_map};
+ghost use Rattle.leaves.specs.Lent.{leaf_at};
 ghost use Rattle.values.specs.Seeing.{item_value};
 ghost use Rattle.language.specs.Language.{leaf_of, target_of, of_place};
 
-use values::{Item, Leaf};
+use values::{Item, LeafRef};
 
 /// The leaf that a value is, if it is one.
 #[inline(always)]
-pub fn leaf_of<'a>(value: Item<'a>) -> Option<&'a Leaf>
-    ensures { option_copied result ≡ leaf_of (item_value value.entry) }
+pub fn leaf_of<'a>(value: Item<'a>) -> Option<LeafRef<'a>>
+    ensures { option_map leaf_at result ≡ leaf_of (item_value value.entry) }
 {
     match value {
         Item::Leaf(leaf) => Some(leaf),
@@ -22,7 +23,7 @@ pub fn target_of(value: Item<'_>) -> Option<usize>
     ensures { result ≡ target_of (item_value value.entry) }
 {
     match leaf_of(value) {
-        Some(Leaf::Target(place)) => Some(*place),
+        Some(LeafRef::Target(place)) => Some(place),
         _ => None,
     }
 }
@@ -30,12 +31,12 @@ pub fn target_of(value: Item<'_>) -> Option<usize>
 /// The target or the object that a value is, if it is one: their fields and methods are those of
 /// their place.
 #[inline(always)]
-pub fn of_place<'a>(value: Item<'a>) -> Option<&'a Leaf>
-    ensures { option_copied result ≡ of_place (item_value value.entry) }
+pub fn of_place<'a>(value: Item<'a>) -> Option<LeafRef<'a>>
+    ensures { option_map leaf_at result ≡ of_place (item_value value.entry) }
 {
     match leaf_of(value) {
         Some(leaf) => match leaf {
-            Leaf::Target(_) | Leaf::Object(_) => Some(leaf),
+            LeafRef::Target(_) | LeafRef::Object(_) => Some(leaf),
             _ => None,
         },
         None => None,

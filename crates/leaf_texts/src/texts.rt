@@ -6,12 +6,13 @@ ghost use Rattle.depsets.specs.Listed.{walked};
 ghost use Rattle.leaf_texts.specs.Texts.{separator, joined, truth_text, file_text, export_text};
 ghost use Rattle.leaf_texts.specs.Texts.{exported_text, provider_text, order_text, attribute_text};
 ghost use Rattle.leaf_texts.specs.Texts.{object_text, depset_text, element_text, leaf_text};
+ghost use Rattle.leaves.specs.Lent.{leaf_at};
 ghost use Rattle.leaf_texts.specs.Texts.{key_text, field_head, tuple_end};
 
 use crate::quoting::put_quoted;
 use depsets::{Depset, Element, Elements, FileRef, Order};
 use keys::Key;
-use leaves::{AttributeKind, ExportName, Exported, FunctionRef, Leaf, Object, ProviderRef};
+use leaves::{AttributeKind, ExportName, Exported, FunctionRef, LeafRef, Object, ProviderRef};
 use plain::Text;
 use std::alloc::{AllocError, Global};
 
@@ -228,24 +229,24 @@ fn put_depset(alloc: Global, out: &mut String, depset: &Depset) -> Result<(), Al
 /// # Errors
 ///
 /// `AllocError` where memory is refused. A part of the text may have been appended then.
-pub fn put_leaf(alloc: Global, out: &mut String, leaf: &Leaf) -> Result<(), AllocError>
+pub fn put_leaf(alloc: Global, out: &mut String, leaf: LeafRef<'_>) -> Result<(), AllocError>
     ensures { OnOk result (string_bytes out.new
-        ≡ string_bytes out.old ++ leaf_text walked leaf.now) }
+        ≡ string_bytes out.old ++ leaf_text walked (leaf_at leaf.entry)) }
 {
     match leaf {
-        Leaf::None => out.push_str("None"),
-        Leaf::Label(text) => out.push_str(text.as_str()),
-        Leaf::File(file) => put_file(out, file.get()),
-        Leaf::Depset(depset) => put_depset(alloc, out, depset),
-        Leaf::Function(function) => put_function(out, function.get()),
-        Leaf::BuiltIn(function) => put_between(out, "<built-in ", function.name(), ">"),
-        Leaf::Provider(provider) => put_provider_value(out, &provider.get().name),
-        Leaf::Rule(rule) => put_rule(out, &rule.get().name),
-        Leaf::Attribute(attribute) => {
+        LeafRef::None => out.push_str("None"),
+        LeafRef::Label(text) => out.push_str(text.as_str()),
+        LeafRef::File(file) => put_file(out, file.get()),
+        LeafRef::Depset(depset) => put_depset(alloc, out, depset),
+        LeafRef::Function(function) => put_function(out, function.get()),
+        LeafRef::BuiltIn(function) => put_between(out, "<built-in ", function.name(), ">"),
+        LeafRef::Provider(provider) => put_provider_value(out, &provider.get().name),
+        LeafRef::Rule(rule) => put_rule(out, &rule.get().name),
+        LeafRef::Attribute(attribute) => {
             put_between(out, "<attr ", attribute_name(attribute.get().kind), ">")
         }
-        Leaf::Target(_) => out.push_str("<target>"),
-        Leaf::Object(object) => out.push_str(object_name(*object)),
+        LeafRef::Target(_) => out.push_str("<target>"),
+        LeafRef::Object(object) => out.push_str(object_name(object)),
     }
 }
 

@@ -261,7 +261,7 @@ impl Leaf {
     pub fn can_be_frozen(&self) -> bool
         ensures { result ≡ can_freeze self.now }
     {
-        !matches!(self, Leaf::Target(_) | Leaf::Object(_))
+        self.lend().can_be_frozen()
     }
 
     /// Another name of the same value: at most one count more, and nothing is copied.
@@ -273,19 +273,7 @@ impl Leaf {
     pub fn share(&self) -> Result<Leaf, AllocError>
         ensures { IfOk result (λ l. l ≡ self.now) }
     {
-        match self {
-            Leaf::None => Ok(Leaf::None),
-            Leaf::Label(text) => Ok(Leaf::Label(text.share()?)),
-            Leaf::File(file) => Ok(Leaf::File(file.share()?)),
-            Leaf::Depset(depset) => Ok(Leaf::Depset(depset.share()?)),
-            Leaf::Function(function) => Ok(Leaf::Function(function.share()?)),
-            Leaf::BuiltIn(function) => Ok(Leaf::BuiltIn(*function)),
-            Leaf::Provider(provider) => Ok(Leaf::Provider(provider.share()?)),
-            Leaf::Rule(rule) => Ok(Leaf::Rule(rule.share()?)),
-            Leaf::Attribute(attribute) => Ok(Leaf::Attribute(attribute.share()?)),
-            Leaf::Target(place) => Ok(Leaf::Target(*place)),
-            Leaf::Object(object) => Ok(Leaf::Object(*object)),
-        }
+        self.lend().share()
     }
 }
 

@@ -12,6 +12,7 @@ use crate::evaluating::Evaluator;
 use crate::made::KnownMade;
 use crate::top::Top;
 use crate::{Files, KnownModules, Loaded};
+use arena::Arena;
 use evaluation::Module;
 use file_places::BuildPlace;
 use language::Whole;
@@ -22,7 +23,7 @@ use plain::Text;
 use rule_calls::PackageTargets;
 use running::{Setting, run_top};
 use std::alloc::{AllocError, Global};
-use values::Kind;
+use values::{Depset, Kind};
 use workspace::package_of;
 
 /// What a `BUILD` file comes to: its targets, or why it fails.
@@ -48,6 +49,7 @@ fn declared(whole: Box<Whole<'_, PackageTargets>>) -> PackageTargets
 /// known; or the fault of its top level.
 fn run_build<K: KnownModules>(
     alloc: Global,
+    kept: &Arena<Depset>,
     evaluator: &Evaluator,
     known: K,
     path: &Text,
@@ -76,6 +78,7 @@ where
         linked: &files,
         place: &place,
         default_info: &evaluator.info,
+        kept,
         codes: evaluator.sources.linked(),
         paths,
         limit: evaluator.limit,
@@ -103,7 +106,14 @@ fn run_linked(
         (targets_of files limit (of_build (paths_of files))) path.now number None in
         IfOk result (λ r. MatchResult r (λ d. meant ≡ Ok d.targets) (λ f. meant ≡ Err f)) }
 {
-    match run_build(alloc, evaluator, Loaded { modules }, path, number)? {
+    match run_build(
+        alloc,
+        &Arena::new(),
+        evaluator,
+        Loaded { modules },
+        path,
+        number,
+    )? {
         Ok(targets) => Ok(Ok(targets)),
         Err(placed) => Ok(Err(Placed {
             kind: LoadFaultKind::Evaluation(placed.kind),

@@ -2,6 +2,7 @@
 
 use crate::Before;
 use crate::modular::run_module;
+use arena::Arena;
 use evaluation::Module;
 use lexer::FaultKind;
 use loading::{Ending, FileRead};
@@ -62,6 +63,13 @@ impl Evaluate<usize, Module, FaultKind, Kind> for Evaluator {
         path: &Text,
         tree: &usize,
     ) -> Result<Result<Module, Ending<Kind>>, AllocError> {
-        run_module(alloc, self, Before { modules: known }, path, *tree)
+        run_module(
+            alloc,
+            &Arena::new(),
+            self,
+            Before { modules: known },
+            path,
+            *tree,
+        )
     }
 }

@@ -9,6 +9,7 @@ use crate::evaluating::Evaluator;
 use crate::made::KnownMade;
 use crate::top::Top;
 use crate::{Files, KnownModules};
+use arena::Arena;
 use evaluation::Module;
 use file_places::ModulePlace;
 use language::Whole;
@@ -17,7 +18,7 @@ use plain::Text;
 use running::{Setting, TopFile, end_run, run_top};
 use std::alloc::{AllocError, Global};
 use targets::Declarations;
-use values::Kind;
+use values::{Depset, Kind};
 
 /// What a module comes to whose top level has ended.
 fn ended(
@@ -36,6 +37,7 @@ fn ended(
 /// its top level, or what it hands on once that has ended.
 pub(crate) fn run_module<K: KnownModules>(
     alloc: Global,
+    kept: &Arena<Depset>,
     evaluator: &Evaluator,
     known: K,
     path: &Text,
@@ -63,6 +65,7 @@ where
         linked: &files,
         place: &place,
         default_info: &evaluator.info,
+        kept,
         codes: evaluator.sources.linked(),
         paths,
         limit: evaluator.limit,

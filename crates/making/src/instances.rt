@@ -21,7 +21,7 @@ use operations::{Arguments, State};
 use plain::{Shared, Text};
 use std::alloc::{AllocError, Global};
 use values::{
-    Broken, Depset, ElementType, Fields, Item, Kind, Leaf, Order, Provider, Seen, Slots, Value,
+    Broken, Depset, ElementType, Fields, Item, Kind, LeafRef, Order, Provider, Seen, Slots, Value,
 };
 
 /// An instance of a provider, with the fields that were given; the values themselves are kept.
@@ -242,7 +242,7 @@ fn are_files(value: &Seen<'_, '_>) -> bool
     ensures { result ≡ is_ok (files_in (seen value.now)) }
 {
     match value {
-        Seen::Leaf(Leaf::Depset(depset)) => has_only_files(depset),
+        Seen::Leaf(LeafRef::Depset(depset)) => has_only_files(depset),
         _ => false,
     }
 }

@@ -9,15 +9,19 @@ use depsets::Elements;
 use operands::Operand;
 use operations::State;
 use std::alloc::{AllocError, Global};
-use values::{Broken, Depset, Element, Items, Key, Leaf, Value};
+use values::{Broken, Depset, Element, Items, Key, LeafRef, Value};
 
 /// A new list of the listing, or `large`. The walk visits no id twice; of a coherent depset it
-/// gives the plain listing.
+/// gives the plain listing. The strings, labels and Files of the list are lent by the depset.
 ///
 /// # Errors
 ///
 /// `large` where the list would be too large, and `NoMemory` where memory was refused.
-pub fn to_list(alloc: Global, state: &mut State, depset: &Depset) -> Result<Value, Broken>
+pub fn to_list<'a>(
+    alloc: Global,
+    state: &mut State<'a>,
+    depset: &'a Depset,
+) -> Result<Value, Broken>
     ensures list { Does (to_list depset.now) state.old result state.new }
     ensures plain { IsCoherent depset.now
         → Does (new_list (map element_value (flat depset.now))) state.old result state.new }
@@ -27,7 +31,7 @@ pub fn to_list(alloc: Global, state: &mut State, depset: &Depset) -> Result<Valu
 }
 
 /// The elements of the listing as values.
-fn listing<'a>(alloc: Global, depset: &Depset) -> Result<Items<'a>, AllocError>
+fn listing<'a>(alloc: Global, depset: &'a Depset) -> Result<Items<'a>, AllocError>
     ensures walk { IfOk result (λ items. items ≡ map element_value (walked depset.now)) }
     ensures plain { IfOk result (λ items. IsCoherent depset.now
         → items ≡ map element_value (flat depset.now)) }
@@ -37,7 +41,7 @@ fn listing<'a>(alloc: Global, depset: &Depset) -> Result<Items<'a>, AllocError>
 }
 
 /// Elements as values.
-fn element_values<'a>(alloc: Global, elements: &Elements<'_>) -> Result<Items<'a>, AllocError>
+fn element_values<'a>(alloc: Global, elements: &Elements<'a>) -> Result<Items<'a>, AllocError>
     ensures { IfOk result (λ items. items ≡ map element_value elements.now) }
 {
     let mut items = Items::with_capacity(alloc, elements.len())?;
@@ -48,23 +52,22 @@ fn element_values<'a>(alloc: Global, elements: &Elements<'_>) -> Result<Items<'a
 }
 
 /// Puts an element last, as a value.
-fn put_element(element: &Element, items: &mut Items) -> Result<(), AllocError>
+fn put_element<'a>(element: &'a Element, items: &mut Items<'a>) -> Result<(), AllocError>
     ensures { OnOk result (items.new ≡ items.old ++ element_value element.now ∷ []) }
 {
-    let value = element_value(element)?;
-    items.push(Operand::own(value))?;
+    items.push(element_value(element))?;
     Ok(())
 }
 
-/// An element as a value.
-fn element_value(element: &Element) -> Result<Value, AllocError>
-    ensures { IfOk result (λ v. v ≡ element_value element.now) }
+/// An element as a value: what is behind a count is lent.
+fn element_value<'a>(element: &'a Element) -> Operand<'a>
+    ensures { result ≡ element_value element.now }
 {
     match element {
-        Element::Text(text) => Ok(Value::Key(Key::Text(text.share()?))),
-        Element::Number(number) => Ok(Value::Key(Key::Number(*number))),
-        Element::Truth(truth) => Ok(Value::Key(Key::Truth(*truth))),
-        Element::Label(label) => Ok(Value::Leaf(Leaf::Label(label.share()?))),
-        Element::File(file) => Ok(Value::Leaf(Leaf::File(file.share()?))),
+        Element::Text(text) => Operand::lent_key(text.key()),
+        Element::Number(number) => Operand::own(Value::Key(Key::Number(*number))),
+        Element::Truth(truth) => Operand::own(Value::Key(Key::Truth(*truth))),
+        Element::Label(label) => Operand::lent_leaf(LeafRef::Label(label)),
+        Element::File(file) => Operand::lent_leaf(LeafRef::File(file)),
     }
 }

@@ -6,8 +6,9 @@ ghost use Rattle.operations.specs.Depsets.{element_in, all_in, put_last};
 ghost use Rattle.operations.specs.Reading.{depset_in};
 
 use heap::Heap;
+use keys::TextKey;
 use std::alloc::{AllocError, Global};
-use values::{Broken, Depset, Element, Group, Key, Kind, Leaf, Seen};
+use values::{Broken, Depset, Element, Group, Key, Kind, LeafRef, Seen};
 
 /// The elements that items are, or `type`.
 pub(crate) fn elements<'b>(
@@ -49,11 +50,11 @@ fn element_of(value: &Seen<'_, '_>) -> Result<Option<Element>, AllocError>
     ensures { IfOk result (λ e. e ≡ element_in (seen value.now)) }
 {
     match value {
-        Seen::Key(Key::Text(text)) => Ok(Some(Element::Text(text.share()?))),
+        Seen::Key(Key::Text(text)) => Ok(Some(Element::Text(TextKey::new(text.share()?)))),
         Seen::Key(Key::Number(number)) => Ok(Some(Element::Number(*number))),
         Seen::Key(Key::Truth(truth)) => Ok(Some(Element::Truth(*truth))),
-        Seen::Leaf(Leaf::Label(label)) => Ok(Some(Element::Label(label.share()?))),
-        Seen::Leaf(Leaf::File(file)) => Ok(Some(Element::File(file.share()?))),
+        Seen::Leaf(LeafRef::Label(label)) => Ok(Some(Element::Label(label.share()?))),
+        Seen::Leaf(LeafRef::File(file)) => Ok(Some(Element::File(file.share()?))),
         _ => Ok(None),
     }
 }
@@ -83,7 +84,7 @@ fn put_depset(value: &Seen<'_, '_>, depsets: &mut Vec<Depset>) -> Result<(), Bro
         (depset_in (seen value.now))) e) }
 {
     match value {
-        Seen::Leaf(Leaf::Depset(depset)) => {
+        Seen::Leaf(LeafRef::Depset(depset)) => {
             let depset = depset.share()?;
             if depsets.push(depset).is_err() {
                 return Err(Broken::NoMemory);

@@ -1,6 +1,7 @@
 //! The evaluation of one module that stands alone.
 
 use anyhow::{Result, bail};
+use arena::Arena;
 use code::compile;
 use evaluator::World;
 use frames::Stop;
@@ -14,7 +15,7 @@ use plain::Text;
 use printing::text;
 use std::alloc::{AllocError, Global};
 use syntax::{FileKind, ParseStop, Parsed, parse};
-use values::{Broken, Fields, Items, Kind, Ticks};
+use values::{Broken, Depset, Fields, Items, Kind, Ticks};
 use visits::freeze;
 
 /// How many ticks a module may use.
@@ -95,6 +96,7 @@ fn globals(alloc: Global, parsed: &Parsed, mut whole: Box<Whole<()>>) -> Result<
 fn run(
     alloc: Global,
     default_info: &DefaultInfo,
+    kept: &Arena<Depset>,
     path: &str,
     parsed: &Parsed,
 ) -> Result<Evaluated> {
@@ -109,6 +111,7 @@ fn run(
         linked: &NoFiles,
         place: &NoPlace,
         default_info,
+        kept,
     };
     let state = state(alloc, path, parsed.globals.len(), functions)?;
     let mut whole = Box::new(alloc, Whole { state, work: () })?;
@@ -127,7 +130,7 @@ pub fn evaluate(
     text: &str,
 ) -> Result<Evaluated> {
     match parse(alloc, text, FileKind::Module) {
-        Ok(parsed) => run(alloc, default_info, path, &parsed),
+        Ok(parsed) => run(alloc, default_info, &Arena::new(), path, &parsed),
         Err(ParseStop::Fault(found)) => Ok(Evaluated::Fault(format!(in alloc;
             "{} syntax {}",
             found.line, found.kind

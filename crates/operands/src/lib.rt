@@ -1,8 +1,9 @@
-//! Operands: values as frames and names hold them.
+//! What names hold, by number; where a value of code is stored; and what an operation made, as an
+//! operand.
 //!
-//! A value that lies in a linked module is lent, so that reading its name touches no count that
-//! other threads touch. A value that an operation made is the operand's own. To a contract both are
-//! the value.
+//! An operand ([`values::Operand`]) is lent where its value lies in what lives longer, such as a
+//! linked module: reading it touches no count that other threads touch. To a contract it is the
+//! value.
 #![tactic(auto)]
 
 mod bindings;

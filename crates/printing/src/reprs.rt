@@ -7,6 +7,7 @@ ghost use Rattle.std.specs.Prelude.{◌≡◌, ◌++◌, true, Ok, codes, length
 ghost use Rattle.std.specs.Prelude.{string_bytes, MatchResult, OnOk};
 ghost use Rattle.depsets.specs.Listed.{flat};
 ghost use Rattle.ticks.specs.Ticking.{FaultOr, after_tick, with_count, entered};
+ghost use Rattle.leaves.specs.Lent.{leaf_at};
 ghost use Rattle.values.specs.Visits.{all_of};
 ghost use Rattle.values.specs.Seeing.{seen, item_value, group_items, table_entries};
 ghost use Rattle.leaf_texts.specs.Texts.{separator, leaf_text, key_text, entry_head};
@@ -18,7 +19,7 @@ use heap::Heap;
 use leaf_texts::{end_of_tuple, put_key, put_leaf, put_separator};
 use plain::Text;
 use std::alloc::{AllocError, Global};
-use values::{Broken, Group, Item, Key, Kind, Leaf, Seen, Table, Ticks, VISITED_LEVELS};
+use values::{Broken, Group, Item, Key, Kind, LeafRef, Seen, Table, Ticks, VISITED_LEVELS};
 
 /// How many bytes a string has at most. (This project's own limit.)
 pub const LARGEST_TEXT: usize = 1_048_576;
@@ -88,17 +89,17 @@ fn put_entry_head(out: &mut String, key: &Key) -> Result<(), AllocError>
 }
 
 /// Whether a leaf has a text in the language.
-fn can_be_printed(leaf: &Leaf) -> bool
-    ensures { result ≡ has_text leaf.now }
+fn can_be_printed(leaf: LeafRef<'_>) -> bool
+    ensures { result ≡ has_text (leaf_at leaf.entry) }
 {
-    matches!(leaf, Leaf::None | Leaf::Label(_) | Leaf::File(_))
+    matches!(leaf, LeafRef::None | LeafRef::Label(_) | LeafRef::File(_))
 }
 
 /// Appends a leaf that has a text.
-fn put_printed(alloc: Global, leaf: &Leaf, out: &mut String) -> Result<(), AllocError>
-    requires { has_text leaf.now ≡ true }
+fn put_printed(alloc: Global, leaf: LeafRef<'_>, out: &mut String) -> Result<(), AllocError>
+    requires { has_text (leaf_at leaf) ≡ true }
     ensures { OnOk result (fits (string_bytes out.new)
-        ≡ fits (string_bytes out.old ++ leaf_text flat leaf.now)) }
+        ≡ fits (string_bytes out.old ++ leaf_text flat (leaf_at leaf.entry))) }
 {
     if is_full(out) {
         return Ok(());
@@ -127,9 +128,14 @@ fn put_key_text(key: &Key, ticks: &Ticks, out: &mut String) -> Result<(), Broken
 }
 
 /// Appends a leaf, if it has a text.
-fn put_plain(alloc: Global, leaf: &Leaf, ticks: &Ticks, out: &mut String) -> Result<(), Broken>
-    ensures { Prints (with_count (printed_leaf leaf.now) ticks.now) result (string_bytes out.old)
-        (string_bytes out.new) ticks.now }
+fn put_plain(
+    alloc: Global,
+    leaf: LeafRef<'_>,
+    ticks: &Ticks,
+    out: &mut String,
+) -> Result<(), Broken>
+    ensures { Prints (with_count (printed_leaf (leaf_at leaf.entry)) ticks.now) result
+        (string_bytes out.old) (string_bytes out.new) ticks.now }
 {
     if !can_be_printed(leaf) {
         return Err(Broken::Kind(Kind::Wrong));
@@ -221,7 +227,7 @@ fn put_shown(
 {
     match shown {
         Seen::Key(key) => put_key_text(key, ticks, out),
-        Seen::Leaf(leaf) => put_plain(alloc, leaf, ticks, out),
+        Seen::Leaf(leaf) => put_plain(alloc, *leaf, ticks, out),
         Seen::List(items) => put_sequence(alloc, left, true, items, heap, ticks, out),
         Seen::Tuple(items) => put_sequence(alloc, left, false, items, heap, ticks, out),
         Seen::Dict(entries) => put_dict(alloc, left, entries, heap, ticks, out),

@@ -50,7 +50,7 @@ pub fn put_tree(alloc: Global, out: &mut String, tree: &Frozen) -> Result<(), Al
 {
     match tree.held() {
         Held::Key(key) => put_key(out, key),
-        Held::Leaf(leaf) => put_leaf(alloc, out, leaf),
+        Held::Leaf(leaf) => put_leaf(alloc, out, leaf.lend()),
         Held::Branch(limb) => put_node(alloc, out, limb.node()),
     }
 }

@@ -11,7 +11,7 @@ use operations::Arguments;
 use plain::Text;
 use std::alloc::{AllocError, Global};
 use std::marker::Model;
-use values::{Item, Leaf};
+use values::{Item, LeafRef};
 
 /// What a call of a rule gives, found by name.
 #[derive(Drop)]
@@ -92,5 +92,5 @@ fn is_none(value: Item<'_>) -> bool
     ensures { unless_none (Some (item_value value.entry))
         ≡ (if result then None else Some (item_value value.entry)) }
 {
-    matches!(value, Item::Leaf(Leaf::None))
+    matches!(value, Item::Leaf(LeafRef::None))
 }

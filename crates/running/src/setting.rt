@@ -1,10 +1,12 @@
 //! What runs.
 
+use arena::Arena;
 use call_stack::Linked;
 use evaluation::TopNames;
 use operations::DefaultInfo;
 use plain::{Shared, Text};
 use std::alloc::Global;
+use values::Depset;
 
 /// What a run stands in.
 #[derive(Drop)]
@@ -17,6 +19,8 @@ pub struct Setting<'a, L, P> {
     pub place: &'a P,
     /// The provider `DefaultInfo`.
     pub default_info: &'a DefaultInfo,
+    /// Keeps the depsets that the run lists and that aren't lent to it.
+    pub kept: &'a Arena<Depset>,
     /// The codes of all files, by number.
     pub codes: &'a Linked,
     /// Their paths, by number.

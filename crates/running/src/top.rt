@@ -68,6 +68,7 @@ pub(crate) fn run<'a, L: Link<'a>, P: Place<'a>>(
         linked: setting.linked,
         place: setting.place,
         default_info: setting.default_info,
+        kept: setting.kept,
     };
     match execute(&world, setting.codes, start, whole) {
         Ok(value) => Ok(Ok(value)),

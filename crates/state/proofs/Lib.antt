@@ -1,3 +1,4 @@
 pub mod Turns
 pub mod Walked
 pub mod Sizes
+pub mod KeyLemmas

@@ -1,20 +1,21 @@
 //! Changes of lists and dicts. Each is refused by the first of `type`, `frozen`, `iterating`,
 //! `index` and `large`.
-ghost use Rattle.std.specs.Prelude.{◌≡◌, ◌++◌, Ok, Err, Some, None, MatchResult, IfOk, OnOk};
+ghost use Rattle.std.specs.Prelude.{◌≡◌, ◌++◌, List, Ok, Err, Some, None, MatchResult, IfOk, OnOk};
 ghost use Rattle.ticks.specs.Ticking.{FaultOr};
 ghost use Rattle.heap.specs.Cells.{list_changed, dict_changed, indexed, keyed};
 ghost use Rattle.values.specs.Shape.{shape};
+ghost use Rattle.values.specs.declared.cells.Cell.{Cell as Kept};
 ghost use Rattle.values.specs.Seeing.{item_value, group_items};
 ghost use Rattle.operations.specs.States.{Does, changed};
 ghost use Rattle.operations.specs.Reading.{number_in, key_in, sequence_in, of_type};
 ghost use Rattle.operations.specs.Changes.{append, extend, set_item};
 
-use crate::reading::{key_of, number_of, sequence_of};
+use crate::reading::{number_of, sequence_of};
 use crate::rooms::room;
 use operands::Operand;
 use operations::State;
 use std::alloc::{AllocError, Global};
-use values::{Broken, Group, Item, Items, Kind, Leaf, Seen, Value};
+use values::{Broken, Group, Item, Items, Key, Kind, Leaf, MaybeLent, Seen, Value};
 
 /// `list.append(item)`.
 ///
@@ -99,15 +100,14 @@ pub(crate) fn copy_into<'a>(group: Group<'_, 'a>, items: &mut Items<'a>) -> Resu
 pub fn set_item<'a>(
     state: &mut State<'a>,
     base: &Value,
-    index: Item<'_>,
+    index: &Operand<'a>,
     value: Operand<'a>,
 ) -> Result<(), Broken>
-    ensures { Does (set_item base.now (item_value index.entry) value.entry) state.old result
-        state.new }
+    ensures { Does (set_item base.now index.now value.entry) state.old result state.new }
 {
     match state.heap.see_item(base.item()) {
-        Seen::List(_) => set_index(state, base, index, value),
-        Seen::Tuple(_) => set_index(state, base, index, value),
+        Seen::List(_) => set_index(state, base, index.item(), value),
+        Seen::Tuple(_) => set_index(state, base, index.item(), value),
         Seen::Dict(_) => set_key(state, base, index, value),
         _ => Err(Broken::Kind(Kind::Wrong)),
     }
@@ -129,19 +129,27 @@ fn set_index<'a>(
     }
 }
 
-/// `dict[key] = value`: a key that is there keeps its place.
+/// `dict[key] = value`: a key that is there keeps its place, and a new one that is lent is kept as
+/// lent.
 pub(crate) fn set_key<'a>(
     state: &mut State<'a>,
     dict: &Value,
-    key: Item<'_>,
+    key: &Operand<'a>,
     value: Operand<'a>,
 ) -> Result<(), Broken>
-    ensures { Does (λ s. changed tt s (of_type (key_in (shape s.heap (item_value key.entry)))
+    ensures { Does (λ s. changed tt s (of_type (key_in (shape s.heap key.now))
         (λ k. dict_changed (keyed k value.entry) s.heap dict.now))) state.old result state.new }
 {
-    let Some(key) = key_of(&state.heap.see_item(key)) else {
+    let Some(key) = key_to_hold(key)? else {
         return Err(Broken::Kind(Kind::Wrong));
     };
-    let key = key.share()?;
     state.heap.set_key(dict, key, value)
+}
+
+/// The key that a value is, if it may be one, for what holds it.
+#[tactic(auto, using(crate::proofs::KeyLemmas::key_shown))]
+fn key_to_hold<'a>(key: &Operand<'a>) -> Result<Option<MaybeLent<'a, Key>>, AllocError>
+    ensures { IfOk result (λ k. (h : List Kept) → k ≡ key_in (shape h key.now)) }
+{
+    key.key()
 }

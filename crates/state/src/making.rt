@@ -86,10 +86,10 @@ pub fn collect<'a>(state: &mut State<'a>, list: &Value, item: Operand<'a>) -> Re
 pub fn keep<'a>(
     state: &mut State<'a>,
     dict: &Value,
-    key: Item<'_>,
+    key: &Operand<'a>,
     value: Operand<'a>,
 ) -> Result<(), Broken>
-    ensures { Does (keep dict.now (item_value key.entry) value.entry) state.old result state.new }
+    ensures { Does (keep dict.now key.now value.entry) state.old result state.new }
 {
     set_key(state, dict, key, value)
 }
@@ -104,12 +104,12 @@ pub fn keep<'a>(
 pub fn enter<'a>(
     state: &mut State<'a>,
     dict: &Value,
-    key: Item<'_>,
+    key: &Operand<'a>,
     value: Operand<'a>,
 ) -> Result<(), Broken>
-    ensures { Does (enter dict.now (item_value key.entry) value.entry) state.old result state.new }
+    ensures { Does (enter dict.now key.now value.entry) state.old result state.new }
 {
-    if holds(&state.heap, dict, key) {
+    if holds(&state.heap, dict, key.item()) {
         return Err(Broken::Kind(Kind::Key));
     }
     set_key(state, dict, key, value)

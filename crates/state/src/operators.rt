@@ -34,8 +34,13 @@ use values::{Broken, Group, Item, Items, Key, Kind, LARGEST, Seen, Value};
 ///
 /// `type` for all else; then `overflow` or `large`. `NoMemory` where memory was refused.
 #[inline(always)]
-pub fn plus(alloc: Global, state: &mut State, a: Item<'_>, b: Item<'_>) -> Result<Value, Broken>
-    ensures { Does (plus (item_value a.entry) (item_value b.entry)) state.old result state.new }
+pub fn plus<'a>(
+    alloc: Global,
+    state: &mut State<'a>,
+    a: &Operand<'a>,
+    b: &Operand<'a>,
+) -> Result<Value, Broken>
+    ensures { Does (plus a.now b.now) state.old result state.new }
 {
     match added_in(alloc, &state.heap, a, b) {
         Ok(made) => place(state, made),
@@ -48,13 +53,12 @@ pub fn plus(alloc: Global, state: &mut State, a: Item<'_>, b: Item<'_>) -> Resul
 fn added_in<'a>(
     alloc: Global,
     heap: &Heap<'a>,
-    a: Item<'_>,
-    b: Item<'_>,
+    a: &Operand<'a>,
+    b: &Operand<'a>,
 ) -> Result<Made<'a>, Broken>
-    ensures { Gives (sum_within (shape heap.now (item_value a.entry))
-        (shape heap.now (item_value b.entry))) result }
+    ensures { Gives (sum_within (shape heap.now a.now) (shape heap.now b.now)) result }
 {
-    added(alloc, &heap.see_item(a), &heap.see_item(b))
+    added(alloc, &heap.see(a), &heap.see(b))
 }
 
 /// What two values add up to, or `large`.
@@ -159,17 +163,17 @@ fn both_copied<'a>(
 ///
 /// Of a list that is extended by a list or a tuple, the first of `frozen`, `iterating` and `large`;
 /// of all else the fault of `x + y`. `NoMemory` where memory was refused.
-pub fn add_in_place(
+pub fn add_in_place<'a>(
     alloc: Global,
-    state: &mut State,
-    x: Operand<'_>,
-    y: Item<'_>,
+    state: &mut State<'a>,
+    x: Operand<'a>,
+    y: &Operand<'a>,
 ) -> Result<Value, Broken>
-    ensures { Does (add_in_place x.entry (item_value y.entry)) state.old result state.new }
+    ensures { Does (add_in_place x.entry y.now) state.old result state.new }
 {
     match extension_in(alloc, state, x.item(), y) {
         Ok(Some(items)) => extended(state, x, items),
-        Ok(None) => plus(alloc, state, x.item(), y),
+        Ok(None) => plus(alloc, state, &x, y),
         Err(broken) => Err(broken),
     }
 }
@@ -180,13 +184,13 @@ fn extension_in<'a>(
     alloc: Global,
     state: &State<'a>,
     x: Item<'_>,
-    y: Item<'_>,
+    y: &Operand<'a>,
 ) -> Result<Option<Items<'a>>, Broken>
     ensures { MatchResult result (λ r. r ≡ extension (shape state.now.heap (item_value x.entry))
-        (shape state.now.heap (item_value y.entry)))
-        (λ e. FaultOr (add_in_place (item_value x.entry) (item_value y.entry) state.now) e) }
+        (shape state.now.heap y.now))
+        (λ e. FaultOr (add_in_place (item_value x.entry) y.now state.now) e) }
 {
-    let Some(more) = extension(&state.heap.see_item(x), &state.heap.see_item(y)) else {
+    let Some(more) = extension(&state.heap.see_item(x), &state.heap.see(y)) else {
         return Ok(None);
     };
     room(&state.heap, x, more)?;
@@ -207,7 +211,7 @@ fn extension<'b, 'a>(x: &Seen<'_, '_>, y: &Seen<'b, 'a>) -> Option<Group<'b, 'a>
 }
 
 /// The list itself, with these items more.
-fn extended<'a>(state: &mut State<'a>, list: Operand<'_>, items: Items<'a>) -> Result<Value, Broken>
+fn extended<'a>(state: &mut State<'a>, list: Operand<'a>, items: Items<'a>) -> Result<Value, Broken>
     ensures { Does (extended items.entry list.entry) state.old result state.new }
 {
     let list = list.into_value()?;

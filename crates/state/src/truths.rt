@@ -1,10 +1,11 @@
 //! Which values count as true.
 ghost use Rattle.std.specs.Prelude.{◌≡◌};
+ghost use Rattle.leaves.specs.Lent.{leaf_at};
 ghost use Rattle.values.specs.Seeing.{item_value};
 ghost use Rattle.operations.specs.Truth.{truth_of, key_truth, leaf_truth};
 
 use operations::State;
-use values::{Depset, Item, Key, Leaf, Seen};
+use values::{Depset, Item, Key, LeafRef, Seen};
 
 /// Whether a value counts as true.
 #[inline(always)]
@@ -34,12 +35,12 @@ fn key_truth(key: &Key) -> bool
 }
 
 #[inline(always)]
-fn leaf_truth(leaf: &Leaf) -> bool
-    ensures { result ≡ leaf_truth leaf.now }
+fn leaf_truth(leaf: LeafRef<'_>) -> bool
+    ensures { result ≡ leaf_truth (leaf_at leaf.entry) }
 {
     match leaf {
-        Leaf::None => false,
-        Leaf::Depset(depset) => !depset.is_empty(),
+        LeafRef::None => false,
+        LeafRef::Depset(depset) => !depset.is_empty(),
         _ => true,
     }
 }

@@ -14,6 +14,7 @@ ghost use Rattle.target_outcomes.specs.Seen.{Implements};
 
 use crate::returning::{Implemented, returned};
 use analysis::Dependency;
+use arena::Arena;
 use contexts::{FileLists, TargetContext, Work};
 use evaluation::Module;
 use implementations::{ImplementationPlace, Mnemonics};
@@ -25,7 +26,7 @@ use running::{Setting, call_implementation};
 use std::alloc::{AllocError, Global};
 use std::marker::Brand;
 use targets::Target;
-use values::{FunctionRef, Kind};
+use values::{Depset, FunctionRef, Kind};
 use workspace::Label;
 
 /// Calls a function with `ctx` alone, in a place where nothing was done.
@@ -74,12 +75,21 @@ pub(crate) fn implement<'a>(
     ensures { IfOk result (Implements (implement files.now.files files.now.limit label.now
         target.now (dependencies_seen dependencies.now))) }
 {
-    run::<Brand>(alloc, files, mnemonics, label, target, dependencies)
+    run::<Brand>(
+        alloc,
+        &Arena::new(),
+        files,
+        mnemonics,
+        label,
+        target,
+        dependencies,
+    )
 }
 
 /// [`implement`], where `I` has the lists of `ctx.files` of this target.
 fn run<'a, I: FileLists>(
     alloc: Global,
+    kept: &'a Arena<Depset>,
     files: &'a LoadedFiles,
     mnemonics: &'a Mnemonics,
     label: &'a Label,
@@ -113,6 +123,7 @@ fn run<'a, I: FileLists>(
         linked: &linked,
         place: &place,
         default_info: info,
+        kept,
         codes: sources.linked(),
         paths,
         limit: files.limit(),

@@ -6,9 +6,10 @@ use Rattle.values.specs.Keyed.{AreDistinct}
 use Rattle.leaves.specs.Leaves.{same_key}
 use Rattle.values.specs.Shape.{zip}
 use Rattle.values.specs.View.{FrozenTree}
-use Rattle.values.specs.Visits.{keys_of}
+use Rattle.values.specs.Visits.{keys_of, keys_as_values, values_of}
 use Rattle.keys.specs.declared.key.Key.{Key}
 use Rattle.values.specs.declared.value.Value.{Value}
+use Rattle.values.specs.declared.value.Value.TheVariants as value
 use Rattle.keys.specs.contracts.key.KeyPartialEq.TheImpl.{eq-value}
 use Rattle.keys.specs.contracts.key.KeyEq.TheImpl.Laws.{laws-law}
 use Rattle.values.proofs.SeeLemmas.{agree}
@@ -39,6 +40,17 @@ pub key_at-entry : (es : List (Key × Value)) (i : ℕ) (k : Key) (v : Value) �
 key_at-entry [] i k v p = absurd (cc)
 key_at-entry (e ∷ es) zero k v p = let q : e ≡ (k, v) = cc in ap (λ x. Some x.0) q
 key_at-entry (e ∷ es) (suc i) k v p = key_at-entry es i k v p
+
+-- the key and the value at a place, as values
+pub key_value_of_entry : (es : List (Key × Value)) (i : ℕ) (k : Key) (v : Value) → slice_get es i ≡ Some (k, v) → slice_get (keys_as_values es) i ≡ Some (value.Key k)
+key_value_of_entry [] i k v p = absurd (cc)
+key_value_of_entry (e ∷ es) zero k v p = let q : e ≡ (k, v) = cc in ap (λ x. Some (value.Key x.0)) q
+key_value_of_entry (e ∷ es) (suc i) k v p = key_value_of_entry es i k v p
+
+pub value_of_entry : (es : List (Key × Value)) (i : ℕ) (k : Key) (v : Value) → slice_get es i ≡ Some (k, v) → slice_get (values_of es) i ≡ Some v
+value_of_entry [] i k v p = absurd (cc)
+value_of_entry (e ∷ es) zero k v p = let q : e ≡ (k, v) = cc in ap (λ x. Some x.1) q
+value_of_entry (e ∷ es) (suc i) k v p = value_of_entry es i k v p
 
 pub length-keys_of : (es : List (Key × Value)) → length (keys_of es) ≡ length es
 length-keys_of [] = refl

@@ -1,5 +1,8 @@
--- Operands, as the values that they are: of one's own, or lent by what lives longer. (This
--- project's own.)
+-- Operands, as the values that they are: of one's own, or lent by what lives longer; and the key
+-- that a value is. (This project's own.)
+use Rattle.std.specs.Prelude.{Option, Some, None}
+use Rattle.keys.specs.declared.key.Key.{Key}
+use Rattle.leaves.specs.Lent.{leaf_at}
 use Rattle.values.specs.declared.value.Value.{Value}
 use Rattle.values.specs.declared.value.Value.TheVariants as value
 use Rattle.values.specs.declared.operand.Lies.{Lies}
@@ -13,5 +16,10 @@ lying (lies.Leaf l) = value.Leaf l
 lying (lies.Cell n) = value.Cell n
 lying (lies.Branch b) = value.Frozen b
 lying (lies.LentKey k) = value.Key k.now
-lying (lies.LentLeaf l) = value.Leaf l.now
+lying (lies.LentLeaf l) = value.Leaf (leaf_at l)
 lying (lies.LentBranch b) = value.Frozen b.now
+
+-- the key that a value is, if it is one
+abbrev pub key_in_value : Value → Option Key
+key_in_value (value.Key k) = Some k
+key_in_value _ = None

@@ -4,6 +4,7 @@ use Rattle.std.specs.Prelude.{List, map, true, false, Option, Some, None}
 use Rattle.values.specs.Shape.{Shape, key, atom, items, entries, fields, nothing, value_of, slot_of}
 use Rattle.values.specs.Shape.{zip}
 use Rattle.keys.specs.declared.key.Key.{Key}
+use Rattle.leaves.specs.Lent.{leaf_at}
 use Rattle.values.specs.declared.value.Value.{Value}
 use Rattle.values.specs.declared.value.Value.TheVariants as value
 use Rattle.values.specs.declared.sees.Item.{Item}
@@ -21,7 +22,7 @@ use Rattle.values.specs.declared.sees.Seen.TheVariants as see
 -- dict
 abbrev pub item_value : Item → Value
 item_value (item.Key k) = value.Key k.now
-item_value (item.Leaf l) = value.Leaf l.now
+item_value (item.Leaf l) = value.Leaf (leaf_at l)
 item_value (item.Cell n) = value.Cell n
 item_value (item.Branch b) = value.Frozen b.now
 
@@ -55,7 +56,7 @@ slot_values (slot.Lent s) = map slot_of s.now
 -- what a view of a value shows, in the words that equality, freezing and `str` are told in
 abbrev pub seen : Seen → Shape
 seen (see.Key k) = key k.now
-seen (see.Leaf l) = atom l.now
+seen (see.Leaf l) = atom (leaf_at l)
 seen (see.List g) = items true (group_items g)
 seen (see.Tuple g) = items false (group_items g)
 seen (see.Dict t) = entries (table_entries t)

@@ -1,16 +1,10 @@
 -- What a walk goes over. (Starlark specification, "For loops"; docs/PROFILE.md, "Walks".)
-use Rattle.std.specs.Prelude.{List, [], map}
+use Rattle.std.specs.Prelude.{List, []}
 use Rattle.values.specs.Shape.{Shape, items, entries}
-use Rattle.values.specs.Visits.{keys_of}
-use Rattle.keys.specs.declared.key.Key.{Key}
+pub use Rattle.values.specs.Visits.{keys_as_values}
 use Rattle.values.specs.declared.value.Value.{Value}
-use Rattle.values.specs.declared.value.Value.TheVariants as value
 use Rattle.values.specs.declared.held.Walked.{Walked}
 use Rattle.values.specs.declared.held.Walked.TheVariants as walked
-
--- the keys of entries, as values
-abbrev pub keys_as_values : List (Key × Value) → List Value
-keys_as_values es = map value.Key (keys_of es)
 
 -- what a walk goes over: items, and of a dict its keys, in order of insertion
 abbrev pub walked_items : Shape → List Value

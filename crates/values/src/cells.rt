@@ -3,12 +3,12 @@ ghost use Rattle.indexmap.specs.IndexMap.{insert_entry};
 ghost use Rattle.std.specs.Map.{lookup};
 ghost use Rattle.leaves.specs.Leaves.{same_key};
 ghost use Rattle.values.specs.Keyed.{has_key, AreDistinct};
-ghost use Rattle.values.specs.Visits.{keys_of};
+ghost use Rattle.values.specs.Visits.{keys_as_values, keys_of, values_of};
 ghost use Rattle.std.specs.Prelude.{◌≡◌, ◌++◌, ◌∷◌, [], ◌<◌, IfOk, OnOk, OnErr, length, slice_get};
 ghost use Rattle.std.specs.Prelude.{slice_set, option_copied, MatchOption, ◌≤◌, Some};
 
 use crate::held::{HeldEntries, HeldItems};
-use crate::{Key, Operand, Provider};
+use crate::{Key, MaybeLent, Operand, Provider};
 use indexmap::{IndexMap, IndexSet};
 use plain::{Shared, push_last};
 use std::alloc::{AllocError, Global};
@@ -192,7 +192,7 @@ impl<'a> Fields<'a> {
 /// The entries of a dict, in order of insertion, with hashed looks.
 #[derive(Drop)]
 pub struct Entries<'a> {
-    map: IndexMap<Key, Operand<'a>>,
+    map: IndexMap<MaybeLent<'a, Key>, Operand<'a>>,
 }
 
 impl<'a> Model for Entries<'a> {
@@ -227,8 +227,9 @@ impl<'a> Entries<'a> {
     /// # Errors
     ///
     /// `AllocError` where memory was refused.
-    pub fn put(&mut self, key: Key, value: Operand<'a>) -> Result<(), AllocError>
-        ensures ok { OnOk result (self.new ≡ insert_entry same_key self.old key value.entry) }
+    pub fn put(&mut self, key: MaybeLent<'a, Key>, value: Operand<'a>) -> Result<(), AllocError>
+        ensures ok { OnOk result (self.new
+            ≡ insert_entry same_key self.old key.entry value.entry) }
         ensures err { OnErr result (self.new ≡ self.old) }
     {
         self.map.insert(key, value)?;
@@ -254,7 +255,42 @@ impl<'a> Entries<'a> {
         ensures { MatchOption result (length self.now ≤ place)
             (λ e. slice_get self.now place ≡ Some (e.0.now, e.1.now)) }
     {
-        self.map.get_index(place)
+        let (key, value) = self.map.get_index(place)?;
+        Some((key.get(), value))
+    }
+
+    /// The key at a place as a value, for what holds it: no count where it is lent, and else at
+    /// most one.
+    ///
+    /// # Errors
+    ///
+    /// `AllocError` where a count is at its greatest.
+    #[tactic(auto, using(crate::proofs::KeyListLemmas::key_value_of_entry))]
+    #[inline(always)]
+    pub fn key_at(&self, place: usize) -> Result<Operand<'a>, AllocError>
+        requires { place < length self.now }
+        ensures { IfOk result (λ o. slice_get (keys_as_values self.now) place ≡ Some o) }
+    {
+        match self.map.get_index(place) {
+            Some((key, _)) => key.operand(),
+            None => unreachable!(),
+        }
+    }
+
+    /// The value at a place, for what holds it: no count where it is lent, and else at most one.
+    ///
+    /// # Errors
+    ///
+    /// `AllocError` where a count is at its greatest.
+    #[tactic(auto, using(crate::proofs::KeyListLemmas::value_of_entry))]
+    pub fn value_at(&self, place: usize) -> Result<Operand<'a>, AllocError>
+        requires { place < length self.now }
+        ensures { IfOk result (λ o. slice_get (values_of self.now) place ≡ Some o) }
+    {
+        match self.map.get_index(place) {
+            Some((_, value)) => value.share(),
+            None => unreachable!(),
+        }
     }
 
     /// How many there are.
@@ -286,7 +322,7 @@ impl<'a> Entries<'a> {
             let Some((key, _)) = entries.get_index(i) else {
                 return Ok(keys);
             };
-            let key = key.share()?;
+            let key = key.get().share()?;
             keys.insert(key)?;
         }
         Ok(keys)

@@ -170,7 +170,7 @@ impl Frozen {
     {
         match &self.held {
             Held::Key(key) => Item::Key(key),
-            Held::Leaf(leaf) => Item::Leaf(leaf),
+            Held::Leaf(leaf) => Item::Leaf(leaf.lend()),
             Held::Branch(branch) => Item::Branch(branch),
         }
     }
@@ -208,7 +208,7 @@ impl Frozen {
     {
         match &self.held {
             Held::Key(key) => Seen::Key(key),
-            Held::Leaf(leaf) => Seen::Leaf(leaf),
+            Held::Leaf(leaf) => Seen::Leaf(leaf.lend()),
             Held::Branch(branch) => branch.see(),
         }
     }

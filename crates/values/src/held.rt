@@ -9,7 +9,7 @@ ghost use Rattle.leaves.specs.Leaves.{same_key};
 ghost use Rattle.values.specs.Held.{kept_items};
 ghost use Rattle.std.specs.Prelude.{◌≡◌, ◌++◌, ◌∷◌, [], ◌<◌, IfOk, OnOk, OnErr, length, slice_set};
 
-use crate::{Entries, Items, Key, Operand};
+use crate::{Entries, Items, Key, MaybeLent, Operand};
 use std::alloc::{AllocError, Global};
 use std::marker::Model;
 use std::mem::replace;
@@ -232,8 +232,9 @@ impl<'a> HeldEntries<'a> {
     ///
     /// `AllocError` where memory was refused; or, where another name holds them and they are
     /// copied, a count is at its greatest.
-    pub fn put(&mut self, key: Key, value: Operand<'a>) -> Result<(), AllocError>
-        ensures ok { OnOk result (self.new ≡ insert_entry same_key self.old key value.entry) }
+    pub fn put(&mut self, key: MaybeLent<'a, Key>, value: Operand<'a>) -> Result<(), AllocError>
+        ensures ok { OnOk result (self.new
+            ≡ insert_entry same_key self.old key.entry value.entry) }
         ensures err { OnErr result (self.new ≡ self.old) }
     {
         Rc::make_mut(&mut self.entries)?.put(key, value)

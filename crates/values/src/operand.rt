@@ -5,11 +5,12 @@
 //! operand's own. To a contract both are the value.
 ghost use Rattle.std.specs.Prelude.{◌≡◌, List, IfOk, MatchOption};
 ghost use Rattle.values.specs.declared.cells.Cell.{Cell as Kept};
-ghost use Rattle.values.specs.Lying.{lying};
+ghost use Rattle.leaves.specs.Lent.{leaf_at};
+ghost use Rattle.values.specs.Lying.{key_in_value, lying};
 ghost use Rattle.values.specs.Seeing.{item_value, seen};
 ghost use Rattle.values.specs.Shape.{shape};
 
-use crate::{Branch, Item, Key, Leaf, Seen, Value};
+use crate::{Branch, Item, Key, Leaf, LeafRef, MaybeLent, Seen, Value};
 use std::alloc::AllocError;
 use std::marker::Model;
 
@@ -20,7 +21,7 @@ pub enum Lies<'a> {
     Cell(usize),
     Branch(Branch),
     LentKey(&'a Key),
-    LentLeaf(&'a Leaf),
+    LentLeaf(LeafRef<'a>),
     LentBranch(&'a Branch),
 }
 
@@ -98,6 +99,26 @@ impl<'a> Operand<'a> {
         Operand { lies }
     }
 
+    /// A key that lies in what lives longer.
+    #[inline(always)]
+    pub fn lent_key(key: &'a Key) -> Operand<'a>
+        ensures { result ≡ Value.Key key.now }
+    {
+        Operand {
+            lies: Lies::LentKey(key),
+        }
+    }
+
+    /// A leaf that lies in what lives longer.
+    #[inline(always)]
+    pub fn lent_leaf(leaf: LeafRef<'a>) -> Operand<'a>
+        ensures { result ≡ Value.Leaf (leaf_at leaf.entry) }
+    {
+        Operand {
+            lies: Lies::LentLeaf(leaf),
+        }
+    }
+
     /// The value, where it lies.
     #[inline(always)]
     pub fn item(&self) -> Item<'_>
@@ -105,7 +126,7 @@ impl<'a> Operand<'a> {
     {
         match &self.lies {
             Lies::Key(key) => Item::Key(key),
-            Lies::Leaf(leaf) => Item::Leaf(leaf),
+            Lies::Leaf(leaf) => Item::Leaf(leaf.lend()),
             Lies::Cell(number) => Item::Cell(*number),
             Lies::Branch(branch) => Item::Branch(branch),
             Lies::LentKey(key) => Item::Key(*key),
@@ -126,6 +147,22 @@ impl<'a> Operand<'a> {
             Lies::LentLeaf(leaf) => Some(Seen::Leaf(*leaf)),
             Lies::LentBranch(branch) => Some(branch.lend()),
             _ => None,
+        }
+    }
+
+    /// The key that it is, if it is one, for what holds it: no count where it is lent, and else at
+    /// most one.
+    ///
+    /// # Errors
+    ///
+    /// `AllocError` where a count is at its greatest.
+    pub fn key(&self) -> Result<Option<MaybeLent<'a, Key>>, AllocError>
+        ensures { IfOk result (λ k. k ≡ key_in_value self.now) }
+    {
+        match &self.lies {
+            Lies::Key(key) => Ok(Some(MaybeLent::own(key.share()?))),
+            Lies::LentKey(key) => Ok(Some(MaybeLent::lent(*key))),
+            _ => Ok(None),
         }
     }
 

@@ -9,19 +9,23 @@ ghost use Rattle.leaves.specs.Leaves.{same_key};
 ghost use Rattle.values.specs.Shape.{cell_shape, slot_of, value_of, zip};
 ghost use Rattle.values.specs.Seeing.{entry_value, item_value, option_value, group_items};
 ghost use Rattle.values.specs.Seeing.{table_entries, slot_values, seen};
-ghost use Rattle.values.specs.Visits.{keys_of};
+ghost use Rattle.values.specs.Visits.{keys_as_values, keys_of, values_of};
 
-use crate::{Branch, Cell, Entries, Frozen, Key, Leaf, Operand, Provider, Value};
+use crate::{Branch, Cell, Entries, Frozen, Key, LeafRef, Operand, Provider, Value};
 use indexmap::IndexSet;
 use std::alloc::AllocError;
 
-/// A value wherever it lies: in a heap or with its owner, in a frozen value, or as a key of a dict.
+/// A value wherever it lies: in a heap or with its owner, in a frozen value, as a key of a dict, or
+/// as an element of a depset.
 #[derive(Clone, Copy)]
 pub enum Item<'b> {
+    /// A key.
     Key(&'b Key),
-    Leaf(&'b Leaf),
+    /// A leaf.
+    Leaf(LeafRef<'b>),
     /// The number of a cell.
     Cell(usize),
+    /// A frozen value with parts.
     Branch(&'b Branch),
 }
 
@@ -62,7 +66,7 @@ pub enum Slots<'b, 'a> {
 #[derive(Clone, Copy)]
 pub enum Seen<'b, 'a> {
     Key(&'b Key),
-    Leaf(&'b Leaf),
+    Leaf(LeafRef<'b>),
     List(Group<'b, 'a>),
     Tuple(Group<'b, 'a>),
     Dict(Table<'b, 'a>),
@@ -287,6 +291,41 @@ impl<'b, 'a> Table<'b, 'a> {
         }
     }
 
+    /// The key at a place as a value, for what holds it: no count where it is lent, and else at
+    /// most one.
+    ///
+    /// # Errors
+    ///
+    /// `AllocError` where a count is at its greatest.
+    pub fn key_at(&self, place: usize) -> Result<Operand<'a>, AllocError>
+        requires { place < length (table_entries self.now) }
+        ensures { IfOk result (λ o. slice_get (keys_as_values (table_entries self.now)) place
+            ≡ Some o) }
+    {
+        match *self {
+            Table::Values(entries) => entries.key_at(place),
+            Table::Trees(keys, values) => own_key(keys, values, place),
+            Table::Lent(keys, values) => Ok(lent_key(keys, values, place)),
+        }
+    }
+
+    /// The value at a place, for what holds it: no count where it is lent, and else at most one.
+    ///
+    /// # Errors
+    ///
+    /// `AllocError` where a count is at its greatest.
+    pub fn value_at(&self, place: usize) -> Result<Operand<'a>, AllocError>
+        requires { place < length (table_entries self.now) }
+        ensures { IfOk result (λ o. slice_get (values_of (table_entries self.now)) place
+            ≡ Some o) }
+    {
+        match *self {
+            Table::Values(entries) => entries.value_at(place),
+            Table::Trees(keys, values) => own_value(keys, values, place),
+            Table::Lent(keys, values) => Ok(lent_value(keys, values, place)),
+        }
+    }
+
     /// The value of a key, by its hash.
     pub fn get(&self, key: &Key) -> Option<Item<'b>>
         ensures { option_value result ≡ lookup (same_key key.now) (table_entries self.now) }
@@ -342,6 +381,64 @@ fn pair_at<'a>(
         (λ e. slice_get (zip keys.now.keys values.now) place ≡ Some (entry_value e)) }
 {
     Some((keys.get_index(place)?, values.get(place)?.item()))
+}
+
+/// The frozen key at a place, as a value of one's own.
+#[tactic(auto, using(crate::proofs::KeyListLemmas::key_value_of_entry))]
+fn own_key<'a>(
+    keys: &IndexSet<Key>,
+    values: &[Frozen],
+    place: usize,
+) -> Result<Operand<'a>, AllocError>
+    requires { place < length (zip keys.now.keys values.now) }
+    ensures { IfOk result (λ o. slice_get (keys_as_values (zip keys.now.keys values.now)) place
+        ≡ Some o) }
+{
+    match pair_at(keys, values, place) {
+        Some((key, _)) => Ok(Operand::own(Value::Key(key.share()?))),
+        None => unreachable!(),
+    }
+}
+
+/// The frozen key at a place, lent.
+#[tactic(auto, using(crate::proofs::KeyListLemmas::key_value_of_entry))]
+fn lent_key<'a>(keys: &'a IndexSet<Key>, values: &'a [Frozen], place: usize) -> Operand<'a>
+    requires { place < length (zip keys.now.keys values.now) }
+    ensures { slice_get (keys_as_values (zip keys.now.keys values.now)) place ≡ Some result }
+{
+    match pair_at(keys, values, place) {
+        Some((key, _)) => Operand::lent_key(key),
+        None => unreachable!(),
+    }
+}
+
+/// The frozen value at a place, as one of one's own.
+#[tactic(auto, using(crate::proofs::KeyListLemmas::value_of_entry))]
+fn own_value<'a>(
+    keys: &IndexSet<Key>,
+    values: &[Frozen],
+    place: usize,
+) -> Result<Operand<'a>, AllocError>
+    requires { place < length (zip keys.now.keys values.now) }
+    ensures { IfOk result (λ o. slice_get (values_of (zip keys.now.keys values.now)) place
+        ≡ Some o) }
+{
+    match pair_at(keys, values, place) {
+        Some((_, item)) => Ok(Operand::own(item.to_value()?)),
+        None => unreachable!(),
+    }
+}
+
+/// The frozen value at a place, lent.
+#[tactic(auto, using(crate::proofs::KeyListLemmas::value_of_entry))]
+fn lent_value<'a>(keys: &'a IndexSet<Key>, values: &'a [Frozen], place: usize) -> Operand<'a>
+    requires { place < length (zip keys.now.keys values.now) }
+    ensures { slice_get (values_of (zip keys.now.keys values.now)) place ≡ Some result }
+{
+    match pair_at(keys, values, place) {
+        Some((_, item)) => Operand::lent(item),
+        None => unreachable!(),
+    }
 }
 
 /// The value of a key.

@@ -54,7 +54,7 @@ impl Value {
     {
         match self {
             Value::Key(key) => Item::Key(key),
-            Value::Leaf(leaf) => Item::Leaf(leaf),
+            Value::Leaf(leaf) => Item::Leaf(leaf.lend()),
             Value::Cell(number) => Item::Cell(*number),
             Value::Frozen(branch) => Item::Branch(branch),
         }

@@ -11,6 +11,7 @@ mod turns;
 
 use anyhow::Result;
 use heap::Heap;
+use keys::TextKey;
 use plain::{Shared, Text};
 use providers::provider;
 use rows::{begin, report};
@@ -22,7 +23,7 @@ use std::{env, io};
 use turns::turns;
 use values::{
     Broken, Cell, Depset, Element, Entries, Fields, Frozen, FunctionRef, Id, Items, Key, Leaf,
-    MadeId, Operand, Order, Provider, Seen, Slots, Ticks, Value,
+    MadeId, MaybeLent, Operand, Order, Provider, Seen, Slots, Ticks, Value,
 };
 use visits::{equal, freeze};
 
@@ -65,7 +66,8 @@ fn key_text(alloc: Global, serial: u64, element: u64) -> Result<Text, AllocError
 fn elements(alloc: Global, serial: u64) -> Result<Vec<Element>, AllocError> {
     let mut direct = Vec::new(alloc);
     for element in 0..ELEMENTS {
-        direct.push(Element::Text(key_text(alloc, serial, element)?))?;
+        let text = key_text(alloc, serial, element)?;
+        direct.push(Element::Text(TextKey::new(text)))?;
     }
     Ok(direct)
 }
@@ -156,7 +158,8 @@ fn key(alloc: Global, number: u64) -> Result<Key, AllocError> {
 fn dict<'a>(alloc: Global, count: u64) -> Result<Entries<'a>, AllocError> {
     let mut entries = Entries::with_capacity(alloc, 0)?;
     for number in 0..count {
-        entries.put(key(alloc, number)?, Operand::own(Value::Leaf(Leaf::None)))?;
+        let key = MaybeLent::own(key(alloc, number)?);
+        entries.put(key, Operand::own(Value::Leaf(Leaf::None)))?;
     }
     Ok(entries)
 }

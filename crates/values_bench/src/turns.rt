@@ -18,7 +18,7 @@ use state::{
 use std::alloc::{AllocError, Global};
 use std::io;
 use std::rt::Clock;
-use values::{Broken, Fields, Item, Items, Key, Kind, Leaf, Seen, Ticks, Value};
+use values::{Broken, Fields, Items, Key, Kind, Leaf, Seen, Ticks, Value};
 
 /// How often each is done.
 const TURNS: i64 = 1_000_000;
@@ -131,7 +131,7 @@ fn put(state: &mut State, dict: &Value, n: i64) -> Result<(), Broken> {
     set_item(
         state,
         dict,
-        Item::Key(&Key::Number(n)),
+        &Operand::own(number(n)),
         Operand::own(number(n)),
     )
 }
@@ -174,7 +174,7 @@ fn modulo(state: &State, a: &Value, b: i64) -> Result<Value, Broken> {
 fn product_and_sum(alloc: Global, state: &mut State, i: &Value) -> Result<Value, Broken> {
     let (three, one) = (number(3), number(1));
     let product = calculate(state, Arithmetic::Times, i.item(), three.item())?;
-    plus(alloc, state, product.item(), one.item())
+    plus(alloc, state, &Operand::own(product), &Operand::own(one))
 }
 
 fn below_or_equal(state: &mut State, i: &Value) -> Result<Value, Broken> {
@@ -189,7 +189,7 @@ fn below_or_equal(state: &mut State, i: &Value) -> Result<Value, Broken> {
 /// Sets an item of a list or of a dict.
 fn set(state: &mut State, base: &Value, i: Value, modulus: i64) -> Result<Value, Broken> {
     let index = modulo(state, &i, modulus)?;
-    set_item(state, base, index.item(), Operand::own(i))?;
+    set_item(state, base, &Operand::own(index), Operand::own(i))?;
     Ok(none())
 }
 
@@ -238,7 +238,7 @@ fn pair(alloc: Global, state: &mut State, i: Value) -> Result<Value, Broken> {
 #[inline(never)]
 fn successor(alloc: Global, state: &mut State, i: &Value) -> Result<Value, Broken> {
     let one = number(1);
-    plus(alloc, state, i.item(), one.item())
+    plus(alloc, state, &Operand::own(i.share()?), &Operand::own(one))
 }
 
 /// Does what a turn does to a value, and gives what it makes. It isn't inlined, so that nothing is

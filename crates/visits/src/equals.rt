@@ -4,6 +4,7 @@ ghost use Rattle.std.specs.Prelude.{MatchResult};
 ghost use Rattle.std.specs.Str.{bytes_eq};
 ghost use Rattle.leaves.specs.Leaves.{same_key};
 ghost use Rattle.ticks.specs.Ticking.{SaysKind};
+ghost use Rattle.leaves.specs.Lent.{leaf_at};
 ghost use Rattle.values.specs.Seeing.{seen, item_value, option_value, group_items, table_entries};
 ghost use Rattle.values.specs.Seeing.{slot_values};
 ghost use Rattle.visits.specs.Equal.{equal_at, compared, leaf_equal, same_object, pairs_equal};
@@ -11,7 +12,7 @@ ghost use Rattle.visits.specs.Equal.{items_equal, entries_equal, slot_equal, sam
 
 use heap::Heap;
 use values::{
-    FileRef, Group, Item, Key, Kind, Leaf, Object, Seen, Slots, Table, Ticks, VISITED_LEVELS,
+    FileRef, Group, Item, Key, Kind, LeafRef, Object, Seen, Slots, Table, Ticks, VISITED_LEVELS,
 };
 
 /// Whether two values are equal, wherever they lie. A pair that is visited costs a tick.
@@ -50,23 +51,24 @@ fn files(a: &FileRef, b: &FileRef) -> bool
 }
 
 /// Whether two leaves are equal.
-fn leaves(a: &Leaf, b: &Leaf) -> Result<bool, Kind>
-    ensures { MatchResult result (λ r. leaf_equal a.now b.now ≡ Ok r)
-        (λ k. (k ≡ Kind.Wrong) × (leaf_equal a.now b.now ≡ Err Kind.Wrong)) }
+fn leaves(a: LeafRef<'_>, b: LeafRef<'_>) -> Result<bool, Kind>
+    ensures { MatchResult result (λ r. leaf_equal (leaf_at a.entry) (leaf_at b.entry) ≡ Ok r)
+        (λ k. (k ≡ Kind.Wrong)
+        × (leaf_equal (leaf_at a.entry) (leaf_at b.entry) ≡ Err Kind.Wrong)) }
 {
     match (a, b) {
-        (Leaf::None, Leaf::None) => Ok(true),
-        (Leaf::Label(x), Leaf::Label(y)) => Ok(*x == *y),
-        (Leaf::File(x), Leaf::File(y)) => Ok(files(x.get(), y.get())),
-        (Leaf::Function(x), Leaf::Function(y)) => Ok(x.get().is_same(y.get())),
-        (Leaf::Provider(x), Leaf::Provider(y)) => Ok(x.get().is_same(y.get())),
-        (Leaf::Rule(x), Leaf::Rule(y)) => Ok(x.get().is_same(y.get())),
-        (Leaf::Depset(_), Leaf::Depset(_)) => Err(Kind::Wrong),
-        (Leaf::BuiltIn(_), Leaf::BuiltIn(_)) => Err(Kind::Wrong),
-        (Leaf::Attribute(_), Leaf::Attribute(_)) => Err(Kind::Wrong),
-        (Leaf::Target(_), Leaf::Target(_)) => Err(Kind::Wrong),
-        (Leaf::Object(x), Leaf::Object(y)) => {
-            if objects(*x, *y) {
+        (LeafRef::None, LeafRef::None) => Ok(true),
+        (LeafRef::Label(x), LeafRef::Label(y)) => Ok(*x == *y),
+        (LeafRef::File(x), LeafRef::File(y)) => Ok(files(x.get(), y.get())),
+        (LeafRef::Function(x), LeafRef::Function(y)) => Ok(x.get().is_same(y.get())),
+        (LeafRef::Provider(x), LeafRef::Provider(y)) => Ok(x.get().is_same(y.get())),
+        (LeafRef::Rule(x), LeafRef::Rule(y)) => Ok(x.get().is_same(y.get())),
+        (LeafRef::Depset(_), LeafRef::Depset(_)) => Err(Kind::Wrong),
+        (LeafRef::BuiltIn(_), LeafRef::BuiltIn(_)) => Err(Kind::Wrong),
+        (LeafRef::Attribute(_), LeafRef::Attribute(_)) => Err(Kind::Wrong),
+        (LeafRef::Target(_), LeafRef::Target(_)) => Err(Kind::Wrong),
+        (LeafRef::Object(x), LeafRef::Object(y)) => {
+            if objects(x, y) {
                 Err(Kind::Wrong)
             } else {
                 Ok(false)
@@ -110,7 +112,7 @@ fn shapes(
 {
     match (a, b) {
         (Seen::Key(x), Seen::Key(y)) => Ok(keys(x, y)),
-        (Seen::Leaf(x), Seen::Leaf(y)) => leaves(x, y),
+        (Seen::Leaf(x), Seen::Leaf(y)) => leaves(*x, *y),
         (Seen::List(xs), Seen::List(ys)) => groups(left, xs, ys, heap, ticks),
         (Seen::Tuple(xs), Seen::Tuple(ys)) => groups(left, xs, ys, heap, ticks),
         (Seen::Dict(xs), Seen::Dict(ys)) => tables(left, xs, ys, heap, ticks),

@@ -4,6 +4,7 @@
 //! ticks, and is then shared by a count: nothing of it is copied.
 ghost use Rattle.std.specs.Prelude.{◌≡◌, Ok, Some, MatchResult, length};
 ghost use Rattle.ticks.specs.Ticking.{Says, FaultOr, after_tick, with_count, entered};
+ghost use Rattle.leaves.specs.Lent.{leaf_at};
 ghost use Rattle.values.specs.Visits.{all_of};
 ghost use Rattle.values.specs.declared.value.Value.TheVariants as held;
 ghost use Rattle.values.specs.Seeing.{item_value};
@@ -18,7 +19,7 @@ use indexmap::IndexSet;
 use plain::{Shared, push_last};
 use std::alloc::Global;
 use values::{
-    Branch, Broken, Cell, Entries, Frozen, Item, Key, Kind, Leaf, Operand, Provider, Ticks,
+    Branch, Broken, Cell, Entries, Frozen, Item, Key, Kind, LeafRef, Operand, Provider, Ticks,
     VISITED_LEVELS,
 };
 
@@ -54,9 +55,9 @@ fn freeze_key(left: u32, key: &Key, ticks: &mut Ticks) -> Result<Frozen, Broken>
 }
 
 /// A leaf as a frozen value, if it can be one.
-fn leaf_tree(leaf: &Leaf) -> Result<Frozen, Broken>
-    ensures { MatchResult result (λ t. frozen_leaf leaf.now ≡ Ok t)
-        (λ e. FaultOr (frozen_leaf leaf.now) e) }
+fn leaf_tree(leaf: LeafRef<'_>) -> Result<Frozen, Broken>
+    ensures { MatchResult result (λ t. frozen_leaf (leaf_at leaf.entry) ≡ Ok t)
+        (λ e. FaultOr (frozen_leaf (leaf_at leaf.entry)) e) }
 {
     if !leaf.can_be_frozen() {
         return Err(Broken::Kind(Kind::Wrong));
@@ -67,9 +68,9 @@ fn leaf_tree(leaf: &Leaf) -> Result<Frozen, Broken>
 
 /// The visit of a leaf, and its frozen value.
 #[inline(always)]
-fn freeze_leaf(left: u32, leaf: &Leaf, ticks: &mut Ticks) -> Result<Frozen, Broken>
-    ensures { Says (after_tick (entered left ticks.old) (λ d. with_count (frozen_leaf leaf.now) d))
-        result ticks.new }
+fn freeze_leaf(left: u32, leaf: LeafRef<'_>, ticks: &mut Ticks) -> Result<Frozen, Broken>
+    ensures { Says (after_tick (entered left ticks.old)
+        (λ d. with_count (frozen_leaf (leaf_at leaf.entry)) d)) result ticks.new }
 {
     ticks.enter(left)?;
     leaf_tree(leaf)

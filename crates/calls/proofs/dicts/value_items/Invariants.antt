@@ -1,6 +1,7 @@
-use Rattle.std.proofs.Common.{◌≡◌, ◌++◌, map}
+use Rattle.std.proofs.Common.{◌≡◌, ◌++◌, drop}
+use Rattle.values.specs.Visits.{values_of}
 use Rattle.values.specs.Seeing.{table_entries}
 use Rattle.calls.proofs.dicts.value_items.Given as goal
 
-abbrev pub invariant-loop-value : goal.invariant-loop-value
-invariant-loop-value l = l.items ++ map (λ e. e.1) l.value-iterator ≡ map (λ e. e.1) (table_entries l.fn.entries)
+abbrev pub invariant-loop-place : goal.invariant-loop-place
+invariant-loop-place l = l.items ++ drop l.place (values_of (table_entries l.fn.entries)) ≡ values_of (table_entries l.fn.entries)

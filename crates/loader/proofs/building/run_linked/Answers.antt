@@ -16,8 +16,8 @@ returns-in-Ok c =
     ap (λ k. build_ended w run (run k c.args.path.now c.args.number)) (sym (known_all w c.args.modules.now c.requires.modules))
     ∙ ap (build_ended w run) ran
 
-pub returns-in-Err : goal.returns-in-Err
-returns-in-Err c =
+pub returns : goal.returns
+returns c =
     let e = c.args.evaluator.now in
     let w = loads e.sources e.limit in
     let run = targets_of e.sources e.limit (of_build (paths_of e.sources)) in

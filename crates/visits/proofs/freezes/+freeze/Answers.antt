@@ -1,6 +1,7 @@
 use Rattle.std.proofs.Common.{◌≡◌, ◌+◌, ◌-◌, drop, length, Ok, Some, option_copied, refl, sym, ap, ◌∙◌, subst}
 use Rattle.std.proofs.lemmas.Option.{slice_get_read}
 use Rattle.ticks.specs.Ticking.{Count, FaultOr, Says, after_tick, entered}
+use Rattle.leaves.specs.Lent.{leaf_at}
 use Rattle.values.specs.Visits.{all_of, keys_of}
 use Rattle.values.specs.Tree.{branch}
 use Rattle.values.specs.Shape.{shape, cell_shape}
@@ -15,7 +16,7 @@ use Rattle.visits.proofs.freezes.+freeze.Goals as goal
 pub freeze_within-returns-in-Leaf : goal.freeze_within-returns-in-Leaf
 freeze_within-returns-in-Leaf t c =
     subst (λ r. Says r c.freeze_leaf.result c.freeze_leaf.new.ticks)
-    (sym (ap (λ i. freeze_at c.args.left c.args.heap.now (item_value i) c.args.ticks.now) c.in-Leaf.is ∙ opened c.args.left c.args.heap.now (value.Leaf c.in-Leaf.leaf.now) c.args.ticks.now))
+    (sym (ap (λ i. freeze_at c.args.left c.args.heap.now (item_value i) c.args.ticks.now) c.in-Leaf.is ∙ opened c.args.left c.args.heap.now (value.Leaf (leaf_at c.in-Leaf.leaf)) c.args.ticks.now))
     c.freeze_leaf.ensures
 
 pub freeze_within-returns-in-Branch : goal.freeze_within-returns-in-Branch

@@ -15,7 +15,7 @@ loop-i-preserved c =
     let es = c.as_slice-entries.result in
     let distinct = subst (λ l. IsDistinct eq-value.it (keys_of l)) (sym c.as_slice-entries.ensures.entries) c.as_slice-entries.ensures.unique in
     c.in_ok-insert.ensures.keys
-    ∙ (λ j. insert_key eq-value.it (c.loop-i.invariant j) (c.in_ok-key.ensures j))
+    ∙ (λ j. insert_key eq-value.it (c.loop-i.invariant j) ((c.in_ok-key.ensures ∙ c.get.ensures) j))
     ∙ keys-next (keys_of es) c.loop-i.i c.in-Some.key.now distinct
     (key_at-entry es c.loop-i.i c.in-Some.key.now c.in-Some.field-0-1.now (sym c.in-Some.ensures.entry))
 
