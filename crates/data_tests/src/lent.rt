@@ -39,7 +39,7 @@ fn what_is_lent_stays_lent(rt: HostRuntime) -> Result<(), AllocError> {
 }
 
 /// Whether the first of some items is lent when it is read.
-fn is_first_lent(group: Group<'_, '_>) -> Result<bool, AllocError> {
+pub(crate) fn is_first_lent(group: Group<'_, '_>) -> Result<bool, AllocError> {
     if group.len() == 0 {
         return Ok(false);
     }

@@ -1,6 +1,6 @@
 //! Tests of the crates that hold texts, values and lists of them: `plain`, `arena`, `strings`,
-//! `first_places`, `depsets`, `values`, `operands`, `printing`, `claims` and `graph`; and of what
-//! crosses threads. They are a crate of their own, so that these are proved once.
+//! `first_places`, `depsets`, `values`, `operands`, `making`, `printing`, `claims` and `graph`; and
+//! of what crosses threads. They are a crate of their own, so that these are proved once.
 //!
 //! What operations on strings and numbers give, changes, equality, freezing, depsets and texts with
 //! their ticks and depths, how a report tells conflicts and shared actions, and what is reached from
@@ -19,6 +19,8 @@ mod deep_depsets;
 mod graph_limit;
 #[cfg(test)]
 mod lent;
+#[cfg(test)]
+mod lent_elements;
 #[cfg(test)]
 mod levels;
 #[cfg(test)]
