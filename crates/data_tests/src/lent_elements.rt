@@ -7,9 +7,9 @@ use keys::TextKey;
 use making::to_list;
 use operands::{Bindings, Operand};
 use operations::{Defaults, State};
-use plain::Text;
+use plain::{Shared, Text};
 use std::alloc::{AllocError, Global};
-use values::{Broken, Element, Fields, Seen, Ticks};
+use values::{Broken, Element, Fields, FileRef, Seen, Ticks};
 
 /// A state without cells.
 fn empty<'a>(alloc: Global) -> Result<State<'a>, AllocError> {
@@ -35,16 +35,29 @@ fn is_listed_lent(alloc: Global, depset: &Depset) -> Result<bool, Broken> {
     }
 }
 
-/// One string.
-fn one(alloc: Global, text: &str) -> Result<Vec<Element>, AllocError> {
-    let text = TextKey::new(Text::new(alloc, text)?);
-    let elements = Vec::from_array(alloc, [Element::Text(text)])?;
+/// A string, a label and a File, as elements.
+fn string(alloc: Global) -> Result<Element, AllocError> {
+    Ok(Element::Text(TextKey::new(Text::new(alloc, "x")?)))
+}
+
+fn label(alloc: Global) -> Result<Element, AllocError> {
+    Ok(Element::Label(Text::new(alloc, "//a:x")?))
+}
+
+fn file(alloc: Global) -> Result<Element, AllocError> {
+    let file = FileRef::new(Text::new(alloc, "a/x")?, Text::new(alloc, "//a:x")?);
+    Ok(Element::File(Shared::new(alloc, file)?))
+}
+
+/// One element.
+fn one(alloc: Global, element: Element) -> Result<Vec<Element>, AllocError> {
+    let elements = Vec::from_array(alloc, [element])?;
     Ok(elements)
 }
 
-/// Whether `to_list()` of a depset of one string lends it.
-fn is_string_lent(alloc: Global) -> Result<bool, Broken> {
-    match made(alloc, 1, one(alloc, "x")?, Vec::new(alloc)) {
+/// Whether `to_list()` of a depset of one element lends it.
+fn is_element_lent(alloc: Global, element: Element) -> Result<bool, Broken> {
+    match made(alloc, 1, one(alloc, element)?, Vec::new(alloc)) {
         Some(depset) => is_listed_lent(alloc, &depset),
         None => Ok(false),
     }
@@ -52,6 +65,9 @@ fn is_string_lent(alloc: Global) -> Result<bool, Broken> {
 
 #[test]
 fn to_list_lends_the_elements(rt: HostRuntime) -> Result<(), Broken> {
-    assert!(rt; is_string_lent(rt.alloc())?);
+    let alloc = rt.alloc();
+    assert!(rt; is_element_lent(alloc, string(alloc)?)?);
+    assert!(rt; is_element_lent(alloc, label(alloc)?)?);
+    assert!(rt; is_element_lent(alloc, file(alloc)?)?);
     Ok(())
 }
